@@ -1,0 +1,1 @@
+//! A stub: the finishing half needs no knot vectors.

@@ -1,0 +1,91 @@
+//! Sheets made up at random, each a function of its kind, a seed and a size.
+
+mod bodies;
+mod edges;
+mod shapes;
+mod texts;
+
+use crate::print;
+use crate::random::Random;
+use crate::sheet::Sheet;
+
+enum Maker {
+    /// A body of about so many pieces on each shape.
+    Body(fn(&mut Random, usize) -> Sheet),
+    /// A text that may be no sheet at all.
+    Text(fn(&mut Random) -> Vec<u8>),
+}
+
+/// A kind of sheet: its name, what it shows, and how it is made.
+pub struct Kind {
+    pub name: &'static str,
+    pub shows: &'static str,
+    maker: Maker,
+}
+
+const fn body(name: &'static str, shows: &'static str, make: fn(&mut Random, usize) -> Sheet) -> Kind {
+    Kind { name, shows, maker: Maker::Body(make) }
+}
+
+const fn text(name: &'static str, shows: &'static str, make: fn(&mut Random) -> Vec<u8>) -> Kind {
+    Kind { name, shows, maker: Maker::Text(make) }
+}
+
+pub const KINDS: &[Kind] = &[
+    body("box", "a closed box, rows wound at random", bodies::boxes),
+    body("prism", "a closed prism, rows wound at random", bodies::prism),
+    body("torus", "a closed torus cut into rows, wound at random", bodies::torus),
+    body("hopper", "a bin on a cone, rows wound at random", bodies::hopper),
+    body("shells", "several closed shapes, each a shell, some numbers shared or far apart", bodies::shells),
+    body("void", "a box with a smaller box inside it, of the same or another shell", bodies::void),
+    body("one-row", "several closed shapes on one row", bodies::one_row),
+    body("cracked", "a box whose neighbours cut a shared edge differently", edges::cracked),
+    body("t-junction", "points on, near and off an open edge, at the sag and around it", edges::junction),
+    body("crowded", "many points on the open edges of one triangle, some within 1e-9 of each other", edges::crowded),
+    body("twin-4km", "two bins with back walls a tenth of a millimetre apart, four kilometres from the origin", bodies::twin_four),
+    body("twin-7km", "the same at seven kilometres, where a step of f32 is half a millimetre", bodies::twin_seven),
+    body("contradictory", "rows that cannot all agree", edges::contradictory),
+    body("pinwheel", "edges used by three and more rows", edges::pinwheel),
+    body("soup", "triangles on a small grid, in no order", edges::soup),
+    body("flat", "sheets that enclose nothing, so that V is 0", edges::flat),
+    body("failed", "empty rows, upstream failures and rows without triangles", bodies::failed),
+    body("escape", "patches that reach as far as the box's diagonal and beyond", bodies::escape),
+    body("materials", "materials by face, replaced, missing, with and without a default", bodies::materials),
+    body("tiny", "coordinates around the size of a cell", bodies::tiny),
+    body("huge", "coordinates whose cells clamp, up to the end of f32", bodies::huge),
+    body("subnormal", "subnormal coordinates and normals", bodies::subnormal),
+    body("negative-zero", "0.0 on one side of a seam and -0.0 on the other", bodies::negative_zero),
+    body("sag", "a sag of zero, below zero, not a number, infinite, subnormal", edges::sag),
+    body("body-box", "a box that is empty, of one point, not a number, infinite", bodies::body_box),
+    body("same-cell", "loose points of one key with other bits", edges::same_cell),
+    body("tie", "points that tie on an edge", edges::tie),
+    text("refused", "sheets whose body fails a check: 12, 22, 23", texts::refused),
+    text("limits", "sheets at the bench program's limits and past them: 52, 32", texts::limits),
+    text("malformed", "texts that are no sheet: 51", texts::malformed),
+];
+
+/// The sheet of a kind and a seed, as text; a size of 0 is a small body within the bench program's limits.
+pub fn generate(kind: &Kind, seed: u64, size: usize) -> Vec<u8> {
+    match kind.maker {
+        Maker::Body(_) => print::sheet(&body_of(kind, seed, size).expect("a body")).into_bytes(),
+        Maker::Text(make) => make(&mut random(kind, seed)),
+    }
+}
+
+/// The body of a kind and a seed, if the kind makes bodies.
+pub fn body_of(kind: &Kind, seed: u64, size: usize) -> Option<Sheet> {
+    match kind.maker {
+        Maker::Body(make) => Some(make(&mut random(kind, seed), size)),
+        Maker::Text(_) => None,
+    }
+}
+
+pub fn kind(name: &str) -> Option<&'static Kind> {
+    KINDS.iter().find(|k| k.name == name)
+}
+
+/// Each kind has random numbers of its own.
+fn random(kind: &Kind, seed: u64) -> Random {
+    let name = kind.name.bytes().fold(0u64, |n, c| n.wrapping_mul(31).wrapping_add(c as u64));
+    Random::new(seed.wrapping_mul(0x1_0000_0001).wrapping_add(name))
+}

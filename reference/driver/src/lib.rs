@@ -1,0 +1,15 @@
+//! The bench sheet (document 01) read, checked, finished by the unchanged Rust, and printed; and sheets made up at random.
+
+pub mod check;
+pub mod command;
+pub mod condition;
+pub mod finish;
+pub mod generate;
+pub mod print;
+pub mod random;
+pub mod sheet;
+
+/// The source's own key and cell, cut out of it at build time.
+pub mod source {
+    include!(concat!(env!("OUT_DIR"), "/key.rs"));
+}

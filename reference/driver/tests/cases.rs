@@ -1,0 +1,120 @@
+//! The bench cases of document 01 that a sheet can show, its worked example, and the tools' own rules.
+
+use cad_tess::face::{patch_of, probe};
+use driver::command::answer;
+use driver::finish::outcome_of;
+use driver::generate::{KINDS, generate, kind};
+use driver::print;
+use driver::sheet::{BENCH, parse};
+use driver::source::{cell, key};
+use std::fs;
+use std::path::PathBuf;
+
+fn cases() -> PathBuf {
+    PathBuf::from(env!("CARGO_MANIFEST_DIR")).join("../cases")
+}
+
+fn sheet_text(name: &str) -> Vec<u8> {
+    fs::read(cases().join(format!("{name}.sheet"))).expect("a stored sheet")
+}
+
+fn answer_text(name: &str) -> String {
+    print::finished(&answer(&sheet_text(name), Some(&BENCH)).expect("an accepted body"))
+}
+
+#[test]
+fn every_stored_case_has_its_stored_answer() {
+    let mut count = 0;
+    for entry in fs::read_dir(cases()).expect("the stored cases") {
+        let path = entry.expect("a file").path();
+        if path.extension().is_some_and(|e| e == "sheet") {
+            let name = path.file_stem().expect("a name").to_string_lossy().to_string();
+            let stored = fs::read_to_string(path.with_extension("answer")).expect("a stored answer");
+            assert_eq!(answer_text(&name), stored, "{name}");
+            count += 1;
+        }
+    }
+    assert_eq!(count, 9);
+}
+
+#[test]
+fn stored_answers_say_what_the_paper_says() {
+    let says = |name: &str, lines: &[&str]| {
+        let text = answer_text(name);
+        for line in lines {
+            assert!(text.lines().any(|l| l == *line), "{name}: {line}");
+        }
+    };
+    says("K5", &["(mesh 0 0)", "(turned 0)", "(against 0)", "(split 0)", "(ok 0)", "(edges 0)", "(open 0)", "(over 0)", "(closed 1)"]);
+    says("K6", &["(turned 0)"]);
+    says("K6-reversed", &["(turned 1)"]);
+    says("K7", &["(turned 0)", "(against 2)"]);
+    says("K8", &["(split 1)", "(t 0 3 1)", "(t 0 1 2)"]);
+    says("K9-stays", &["(ok 1)"]);
+    says("K9-escapes", &["(ok 0)", "(failed 0 (escape 4024000020000000 4024000000000000))"]);
+    says("K10", &["(ok 1)"]);
+}
+
+#[test]
+fn the_volume_of_k6() {
+    let sheet = parse(&sheet_text("K6"), None).expect("a sheet");
+    let patch = patch_of(outcome_of(&sheet.rows[0])).expect("a patch");
+    assert_eq!(probe::patch_volume(&patch, false).to_bits(), 0x3FC5_5555_5555_5555);
+}
+
+#[test]
+fn cells_of_k1_and_k2() {
+    assert_eq!([cell(0.0078125), cell(-0.0078125), cell(-0.0)], [7813, -7813, 0]);
+    assert_eq!([cell(8_796_093_022_208.0), cell(17_592_186_044_416.0)], [8_796_093_022_208_000_000, i64::MAX]);
+    assert_eq!(key(&[0.0, 0.0, 0.0]), 0xD852_DCB8_7B6F_12A3);
+}
+
+#[test]
+fn what_is_generated_reads_back_and_is_the_same_every_time() {
+    for k in KINDS {
+        for seed in 0..20 {
+            let text = generate(k, seed, 0);
+            assert_eq!(text, generate(k, seed, 0), "{} {seed}", k.name);
+            if let Some(body) = driver::generate::body_of(k, seed, 0) {
+                assert_eq!(parse(&text, None), Ok(body), "{} {seed}", k.name);
+            }
+        }
+    }
+}
+
+#[test]
+fn refusals_have_their_numbers() {
+    let start = "(box 0000000000000000 0000000000000000 0000000000000000 0000000000000000 0000000000000000 0000000000000000)\n(sag 0000000000000000)\n(default -)\n";
+    let number = |rest: &str| answer(format!("{start}{rest}").as_bytes(), Some(&BENCH)).map_or_else(|r| r.number, |_| 0);
+    let cases = [
+        ("", 0),
+        ("(face 0 0)\n", 0),
+        ("(face 0 0)", 51),
+        ("(face 0 00)\n", 51),
+        ("(face 0 4294967296)\n", 51),
+        ("(face 0 64)\n", 52),
+        ("(material 64 1)\n", 52),
+        ("(material 1 4294967295)\n", 0),
+        ("(fail 0 1 0)\n", 51),
+        ("(fail 0 64 0)\n", 51),
+        ("(fail 0 1 256)\n", 12),
+        ("(fail 0 1 256)\n(face)\n", 51),
+        ("(face 0 1)\n(t 0 1 2)\n", 22),
+        ("(face 0 1)\n(v (p 7F800000 00000000 00000000) (n 00000000 00000000 00000000))\n", 23),
+        ("(face 0 1)\n(v (p 00000000 00000000 00000000) (n 00000000 00000000 7FC00000))\n", 23),
+        ("(fail 0 1 1)\n(material 1 1)\n", 51),
+        ("\n", 51),
+        ("(default -)\n", 51),
+    ];
+    for (text, want) in cases {
+        assert_eq!(number(text), want, "{text}");
+    }
+    assert_eq!(answer(b"", None).expect_err("no sheet").number, 51);
+}
+
+#[test]
+fn sizes_grow_a_body() {
+    let torus = kind("torus").expect("a kind");
+    let body = driver::generate::body_of(torus, 1, 40).expect("a body");
+    assert_eq!(body.indices(), 40 * 40 * 6);
+}
