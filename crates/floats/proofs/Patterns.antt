@@ -1,0 +1,75 @@
+-- The bit patterns of f64: the sign, the exponent's field and the digits, with the value that they stand for. Assumes nothing.
+use mathlib.Core.Path.{_≡_, refl, sym, ap, _∙_, subst}
+use Prim.Native.Nat.{ℕ, _-_, _*_, _/_, _%_, _^_, _≤_, _<_}
+use native.Mathlib.Omega.{arith}
+use mathlib.Core.Bool.{Bool, true, false, not, cond}
+use lib.Dec.{T, leb, leb→le, nleb→lt}
+use lib.Ieee.{Float, nan, inf, Format, binary32, binary64, fits, ne, div, ofBits, toBits, ofFields}
+use lib.Ieee.Bits.{ofBits-toBits, ofBits-fits}
+use lib.Ieee.Compare.{differs-from-itself}
+use lib.Ieee.Exact.{HasValue}
+use Rattle.rounding.specs.Fields.{digits, fields-value, fields-inf, bits-fields, nan-above}
+
+abbrev pub sign : ℕ → Bool
+sign b = leb (2 ^ 63) b
+
+abbrev pub field : ℕ → ℕ
+field b = b % 2 ^ 63 / 2 ^ 52
+
+abbrev pub tail : ℕ → ℕ
+tail b = b % 2 ^ 52
+
+-- the digits with the leading one
+abbrev pub all : ℕ → ℕ
+all b = digits binary64 (field b) (tail b)
+
+pub value : (b : ℕ) → field b < 2047 → HasValue (ofBits binary64 b) (sign b) (all b * 2 ^ (field b - 1)) (2 ^ 1074)
+value b h =
+    subst (λ (x : Float). HasValue x (sign b) (all b * 2 ^ (field b - 1)) (2 ^ 1074)) (sym (bits-fields binary64 b)) (fields-value binary64 (sign b) (field b) (tail b) no)
+  where
+    no : field b ≡ 2047 → ⊥
+    no e = omega arith
+
+pub infinite : (b : ℕ) → field b ≡ 2047 → tail b ≡ 0 → ofBits binary64 b ≡ inf (sign b)
+infinite b h t = bits-fields binary64 b ∙ ap (λ (e : ℕ). ofFields binary64 (sign b) e (tail b)) h ∙ fields-inf binary64 (sign b) 2046 (tail b) refl t
+
+-- the sign's weight w, by the highest bit
+pub sign-weight : (b w : ℕ) → b < 2 ^ 64 → cond (sign b) w 0 ≡ b / 2 ^ 63 * w
+sign-weight b w h = go (sign b) (leb→le (2 ^ 63) b) (nleb→lt (2 ^ 63) b)
+  where
+    one : (q : ℕ) → q ≡ 1 → w ≡ q * w
+    one q e = omega (arith, ap (λ (z : ℕ). z * w) e)
+
+    none : (q : ℕ) → q ≡ 0 → 0 ≡ q * w
+    none q e = omega (arith, ap (λ (z : ℕ). z * w) e)
+
+    go : (s : Bool) → (T s → 2 ^ 63 ≤ b) → (T (not s) → b < 2 ^ 63) → cond s w 0 ≡ b / 2 ^ 63 * w
+    go true l g = let k = l tt in one (b / 2 ^ 63) (omega arith)
+    go false l g = let k = g tt in none (b / 2 ^ 63) (omega arith)
+
+-- ---- NaN
+nan-made : (f : Format) → div f (ofBits f 0) (ofBits f 0) ≡ nan
+unfolding div ofBits
+nan-made binary32 = refl
+nan-made binary64 = refl
+
+pub nan-of-bits-32 : (b : ℕ) → 0x7f80_0000 < b % 0x8000_0000 → div binary32 (ofBits binary32 0) (ofBits binary32 0) ≡ ofBits binary32 b
+nan-of-bits-32 b h = nan-made binary32 ∙ sym (nan-above binary32 b h)
+
+pub nan-of-bits-64 : (b : ℕ) → 0x7ff0_0000_0000_0000 < b % 0x8000_0000_0000_0000 → div binary64 (ofBits binary64 0) (ofBits binary64 0) ≡ ofBits binary64 b
+nan-of-bits-64 b h = nan-made binary64 ∙ sym (nan-above binary64 b h)
+
+pub is-nan : (x : Float) → ne x x ≡ true → x ≡ nan
+is-nan x e = differs-from-itself x (subst T (sym e) tt)
+
+pub bits-of-nan-32 : (x : Float) → ne x x ≡ true → _≡_ {A = ℕ} 0x7fc0_0000 (toBits binary32 x)
+unfolding toBits
+bits-of-nan-32 x e = ap (toBits binary32) (sym (is-nan x e))
+
+pub bits-of-nan-64 : (x : Float) → ne x x ≡ true → _≡_ {A = ℕ} 0x7ff8_0000_0000_0000 (toBits binary64 x)
+unfolding toBits
+bits-of-nan-64 x e = ap (toBits binary64) (sym (is-nan x e))
+
+-- ---- a step on bit patterns is one on floats: g is the step, from the format f to the format h
+pub through : (f h : Format) (g : Float → Float) (x : Float) → T (fits f x) → ((y : Float) → T (fits f y) → T (fits h (g y))) → ofBits h (toBits h (g (ofBits f (toBits f x)))) ≡ g x
+through f h g x k w = ofBits-toBits h (g (ofBits f (toBits f x))) (w (ofBits f (toBits f x)) (ofBits-fits f (toBits f x))) ∙ ap g (ofBits-toBits f x k)

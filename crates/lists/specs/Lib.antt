@@ -1,0 +1,6 @@
+-- What the definitions ask of a list, and laws of it.
+pub mod Lists
+pub mod Any
+pub mod Sets
+pub mod Table
+pub mod Evaluation

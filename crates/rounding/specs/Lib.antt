@@ -1,0 +1,12 @@
+-- The theory of rounding to a binary format.
+pub mod Near
+pub mod Add
+pub mod Mul
+pub mod Held
+pub mod Approx
+pub mod Tri
+pub mod Sum
+pub mod Whole
+pub mod Pattern
+pub mod Shift
+pub mod Fields
