@@ -1,0 +1,104 @@
+-- Row k of a flat table, where its numbers stand, and where its vertices and indices start. Assumes nothing.
+use mathlib.Core.Path.{_≡_, refl, _∙_}
+use mathlib.Core.List.{List, [], _∷_}
+use mathlib.Core.Option.{some}
+use Prim.Native.Nat.{ℕ, zero, suc, _+_, _*_, _/_, _≤_, _<_}
+use native.Mathlib.Nat.{le-of-suc-le-suc, not-suc-le-zero}
+use native.Mathlib.Omega.{arith}
+use lib.ListN.{length, getD, take, drop}
+use Rattle.lists.specs.Lists.{itemAt}
+use Rattle.lists.specs.Any.{item-at}
+use Rattle.body.specs.Body.{Row, rowsOf, allVertices, allIndices}
+
+-- a row of zeros: what lies past the end
+abbrev pub noRow : Row
+noRow = record { shell = 0; face = 0; outcome = 0; vertices = 0; indices = 0 }
+
+-- row k of the flat table
+unfoldable pub rowAt : List ℕ → ℕ → Row
+rowAt table k = getD (rowsOf table) k noRow
+
+-- where row k's vertices start: the vertices of the rows before it
+unfoldable pub verticesBefore : List Row → ℕ → ℕ
+verticesBefore rows k = allVertices (take k rows)
+
+-- where row k's indices start: the indices of the rows before it
+unfoldable pub indicesBefore : List Row → ℕ → ℕ
+indicesBefore rows k = allIndices (take k rows)
+
+-- a word for each row with where it starts, and the words behind those as they were
+pub record Starts (before : List Row → ℕ → ℕ) (table old new : List ℕ) : Type 0 where
+  pub each : (k : ℕ) → k < length (rowsOf table) → getD new k 0 ≡ before (rowsOf table) k
+  pub beyond : drop (length (rowsOf table)) new ≡ drop (length (rowsOf table)) old
+
+-- a table of whole rows, and not too many
+pub record WholeRows (table : List ℕ) : Type 0 where
+  pub whole : length table ≡ 5 * length (rowsOf table)
+  pub few : length (rowsOf table) ≤ 4096
+
+-- a word for each row
+pub record WordsFit (table words : List ℕ) : Type 0 where
+  pub rows : WholeRows table
+  pub room : length (rowsOf table) ≤ length words
+
+-- r is the total; 4,096 counts of 32 bits stay below 2 ^ 45
+pub record Total (total r : ℕ) : Type 0 where
+  pub is : r ≡ total
+  pub small : r < 35184372088832
+
+-- number j of row k lies in the table
+pub record InTable (table : List ℕ) (k j : ℕ) : Type 0 where
+  pub row : k < length (rowsOf table)
+  pub column : j < 5
+
+-- a row is five numbers
+pub length-rows : (table : List ℕ) → length (rowsOf table) ≡ length table / 5
+unfolding rowsOf
+length-rows [] = refl
+length-rows (s ∷ []) = refl
+length-rows (s ∷ f ∷ []) = refl
+length-rows (s ∷ f ∷ o ∷ []) = refl
+length-rows (s ∷ f ∷ o ∷ v ∷ []) = refl
+length-rows (s ∷ f ∷ o ∷ v ∷ i ∷ rest) = let e = length-rows rest in omega arith
+
+-- the numbers of row k lie in the table
+pub row-room : (table : List ℕ) (k : ℕ) → k < length (rowsOf table) → 5 * k + 4 < length table
+row-room table k h = omega (arith, length-rows table)
+
+-- where they stand
+pub row-flat : (table : List ℕ) (k : ℕ) → k < length (rowsOf table)
+    → rowAt table k
+    ≡ record { shell = getD table (5 * k) 0; face = getD table (5 * k + 1) 0; outcome = getD table (5 * k + 2) 0; vertices = getD table (5 * k + 3) 0; indices = getD table (5 * k + 4) 0 }
+unfolding rowsOf rowAt
+row-flat [] k h = absurd (not-suc-le-zero h)
+row-flat (s ∷ []) k h = absurd (not-suc-le-zero h)
+row-flat (s ∷ f ∷ []) k h = absurd (not-suc-le-zero h)
+row-flat (s ∷ f ∷ o ∷ []) k h = absurd (not-suc-le-zero h)
+row-flat (s ∷ f ∷ o ∷ v ∷ []) k h = absurd (not-suc-le-zero h)
+row-flat (s ∷ f ∷ o ∷ v ∷ i ∷ rest) zero h = refl
+row-flat (s ∷ f ∷ o ∷ v ∷ i ∷ rest) (suc k) h =
+    row-flat rest k (le-of-suc-le-suc h)
+    ∙ (λ j. record { shell = at 0 (e0 j); face = at 0 (e1 j); outcome = at 0 (e2 j); vertices = at 0 (e3 j); indices = at 0 (e4 j) })
+  where
+    at : ℕ → ℕ → ℕ
+    at d n = getD (s ∷ f ∷ o ∷ v ∷ i ∷ rest) n d
+
+    e0 : suc (suc (suc (suc (suc (5 * k))))) ≡ 5 * suc k
+    e0 = omega arith
+
+    e1 : suc (suc (suc (suc (suc (5 * k + 1))))) ≡ 5 * suc k + 1
+    e1 = omega arith
+
+    e2 : suc (suc (suc (suc (suc (5 * k + 2))))) ≡ 5 * suc k + 2
+    e2 = omega arith
+
+    e3 : suc (suc (suc (suc (suc (5 * k + 3))))) ≡ 5 * suc k + 3
+    e3 = omega arith
+
+    e4 : suc (suc (suc (suc (suc (5 * k + 4))))) ≡ 5 * suc k + 4
+    e4 = omega arith
+
+-- row k is an item of the rows
+pub row-item : (table : List ℕ) (k : ℕ) → k < length (rowsOf table) → itemAt (rowsOf table) k ≡ some (rowAt table k)
+unfolding rowAt
+row-item table k h = item-at (rowsOf table) k noRow h

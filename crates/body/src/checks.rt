@@ -1,0 +1,31 @@
+// The checks that every call begins with, in their order.
+
+use crate::patch::patch_failing;
+use crate::table::table_failing;
+use crate::totals::work_needed;
+ghost use mathlib.Core.Path.{_≡_};
+ghost use Rattle.body.specs.Body.{bodyChecks, firstFailing};
+
+// The number of the first of the checks 11 to 23 and 31 that fails for a work area of so many words, or 0.
+pub fn first_failing(
+    rows: &[u32],
+    positions: &[f32],
+    normals: &[f32],
+    indices: &[u32],
+    words: usize,
+) -> u32
+    ensures { λ r. ⌜ r ≡ firstFailing (bodyChecks (now (rows .entry)) (now (positions .entry)) (now (normals .entry)) (now (indices .entry)) words) ⌝ }
+{
+    let t = table_failing(rows, positions, normals, indices);
+    if t != 0 {
+        return t;
+    }
+    let p = patch_failing(rows, positions, normals, indices);
+    if p != 0 {
+        return p;
+    }
+    if words < work_needed(rows) {
+        return 31;
+    }
+    0
+}

@@ -1,0 +1,46 @@
+// The vertices and indices of all rows, and the words of the work area that they need.
+
+use crate::rows::indices;
+use crate::rows::row_count;
+use crate::rows::vertices;
+ghost use mathlib.Core.Path.{_≡_};
+ghost use Rattle.body.specs.Body.{allIndices, allVertices, rowsOf, workNeeded};
+ghost use Rattle.body.specs.Rows.{Total, WholeRows};
+
+// V: the vertices of all rows.
+pub fn total_vertices(rows: &[u32]) -> usize
+    requires { ⌜ WholeRows (now rows) ⌝ }
+    ensures { λ r. ⌜ Total (allVertices (rowsOf (now (rows .entry)))) r ⌝ }
+{
+    let n = row_count(rows);
+    let mut sum = 0usize;
+    let mut k = 0usize;
+    while k < n {
+        sum += vertices(rows, k) as usize;
+        k += 1;
+    }
+    sum
+}
+
+// I: the indices of all rows.
+pub fn total_indices(rows: &[u32]) -> usize
+    requires { ⌜ WholeRows (now rows) ⌝ }
+    ensures { λ r. ⌜ Total (allIndices (rowsOf (now (rows .entry)))) r ⌝ }
+{
+    let n = row_count(rows);
+    let mut sum = 0usize;
+    let mut k = 0usize;
+    while k < n {
+        sum += indices(rows, k) as usize;
+        k += 1;
+    }
+    sum
+}
+
+// How many words of the work area a call needs.
+pub fn work_needed(rows: &[u32]) -> usize
+    requires { ⌜ WholeRows (now rows) ⌝ }
+    ensures { λ r. ⌜ r ≡ workNeeded (rowsOf (now (rows .entry))) ⌝ }
+{
+    16 * total_indices(rows) + 16 * row_count(rows) + 4 * total_vertices(rows)
+}

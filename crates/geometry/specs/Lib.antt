@@ -1,0 +1,6 @@
+-- The definitions of points, box, volume, reach and escape, the answers' numbers, boxes and points written down for claims, and the definitions computed.
+pub mod Geometry
+pub mod Answers
+pub mod Given
+pub mod Evaluation
+pub mod Claims

@@ -1,0 +1,64 @@
+// A patch asked about alone: its checks, and then its volume, its reach or its escape.
+
+use crate::Aabb;
+use crate::reach::escapes_body;
+use crate::reach::farthest;
+use crate::volume::patch_volume;
+ghost use mathlib.Core.Path.{_≡_};
+ghost use Rattle.geometry.specs.Answers.{judgedAs, measuredAs};
+ghost use Rattle.geometry.specs.Geometry.{escapesAlone, farthestAlone, volumeAlone};
+
+// A number, or the refusal's number.
+pub enum Measured {
+    Value(f64),
+    Refused(u32),
+}
+
+// A verdict, or the refusal's number.
+pub enum Judged {
+    Verdict(bool),
+    Refused(u32),
+}
+
+// The volume of a patch alone.
+pub fn patch_volume_alone(
+    positions: &[f32],
+    normals: &[f32],
+    indices: &[u32],
+    flip: bool,
+) -> Measured
+    ensures { λ r. ⌜ measuredAs r ≡ volumeAlone (now (positions .entry)) (now (normals .entry)) (now (indices .entry)) flip ⌝ }
+{
+    let n = body::lone_failing(positions, normals, indices);
+    if n != 0 {
+        return Measured::Refused(n);
+    }
+    Measured::Value(patch_volume(positions, indices, flip))
+}
+
+// The reach of a patch alone.
+pub fn farthest_alone(
+    positions: &[f32],
+    normals: &[f32],
+    indices: &[u32],
+    reference: Aabb,
+) -> Measured
+    ensures { λ r. ⌜ measuredAs r ≡ farthestAlone (now (positions .entry)) (now (normals .entry)) (now (indices .entry)) reference ⌝ }
+{
+    let n = body::lone_failing(positions, normals, indices);
+    if n != 0 {
+        return Measured::Refused(n);
+    }
+    Measured::Value(farthest(positions, reference))
+}
+
+// Whether a patch alone escapes.
+pub fn escapes_alone(positions: &[f32], normals: &[f32], indices: &[u32], reference: Aabb) -> Judged
+    ensures { λ r. ⌜ judgedAs r ≡ escapesAlone (now (positions .entry)) (now (normals .entry)) (now (indices .entry)) reference ⌝ }
+{
+    let n = body::lone_failing(positions, normals, indices);
+    if n != 0 {
+        return Judged::Refused(n);
+    }
+    Judged::Verdict(escapes_body(positions, reference))
+}
