@@ -1,0 +1,8 @@
+-- The definitions of uses, their words in the work area, laws of both, and the definitions computed.
+pub mod Edges
+pub mod Laws
+pub mod Named
+pub mod NameLaws
+pub mod Counted
+pub mod Evaluation
+pub mod Claims

@@ -1,0 +1,77 @@
+-- The name of a use tells its edge from every other: equal names are uses of one edge. Assumes nothing.
+use mathlib.Core.Path.{_≡_, refl, sym, ap, _∙_}
+use mathlib.Core.Bool.{Bool, true, false, _&&_, _||_}
+use Prim.Native.Nat.{ℕ, zero, suc, _+_, _-_, _*_, _≤_, _<_, min, max}
+use native.Mathlib.Omega.{arith}
+use native.Mathlib.Decide.{ℕ-discrete}
+use lib.Dec.{eqb}
+use borrow.Author.Tests.{eq-eqb, ne-eqb}
+use Rattle.edges.specs.Edges.{Use, sameEdge}
+use Rattle.edges.specs.Named.{edgeName, useName}
+
+-- a use between points that have names
+pub record LowUse (u : Use) : Type 0 where
+  pub start-low : u .start < 262144
+  pub end-low : u .end < 262144
+
+-- equal names have equal parts
+module _ (s t : ℕ) {a b c d : ℕ} (la : a < 262144) (lb : b < 262144) (lc : c < 262144) (ld : d < 262144) (e : edgeName s a b ≡ edgeName t c d) where
+  pub shell-same : s ≡ t
+  unfolding edgeName
+  shell-same = omega arith
+
+  pub higher-same : max a b ≡ max c d
+  unfolding edgeName
+  higher-same = omega arith
+
+  pub lower-same : min a b ≡ min c d
+  unfolding edgeName
+  lower-same = omega (arith, shell-same, higher-same)
+
+-- the same both ways round
+pub name-back : (s a b : ℕ) → edgeName s a b ≡ edgeName s b a
+unfolding edgeName
+name-back s a b = omega arith
+
+-- two uses are of one edge exactly if their names are equal
+pub names-tell : (u v : Use) → LowUse u → LowUse v → sameEdge v u ≡ eqb (useName u) (useName v)
+unfolding sameEdge
+names-tell u v lu lv = go (ℕ-discrete (v .shell) (u .shell)) (ℕ-discrete (v .start) (u .start)) (ℕ-discrete (v .end) (u .end)) (ℕ-discrete (v .start) (u .end)) (ℕ-discrete (v .end) (u .start))
+  where
+    differ : (useName u ≡ useName v → ⊥) → {b : Bool} → b ≡ false → b ≡ eqb (useName u) (useName v)
+    differ n {b} e = e ∙ sym (ne-eqb (useName u) (useName v) n)
+
+    alike : useName u ≡ useName v → {b : Bool} → b ≡ true → b ≡ eqb (useName u) (useName v)
+    alike n {b} e = e ∙ sym (eq-eqb (useName u) (useName v) n)
+
+    shell-of : useName u ≡ useName v → v .shell ≡ u .shell
+    shell-of n = sym (shell-same (u .shell) (v .shell) (lu .start-low) (lu .end-low) (lv .start-low) (lv .end-low) n)
+
+    lower-of : useName u ≡ useName v → min (u .start) (u .end) ≡ min (v .start) (v .end)
+    lower-of n = lower-same (u .shell) (v .shell) (lu .start-low) (lu .end-low) (lv .start-low) (lv .end-low) n
+
+    higher-of : useName u ≡ useName v → max (u .start) (u .end) ≡ max (v .start) (v .end)
+    higher-of n = higher-same (u .shell) (v .shell) (lu .start-low) (lu .end-low) (lv .start-low) (lv .end-low) n
+
+    go : Dec (v .shell ≡ u .shell) → Dec (v .start ≡ u .start) → Dec (v .end ≡ u .end) → Dec (v .start ≡ u .end) → Dec (v .end ≡ u .start)
+        → (eqb (v .shell) (u .shell) && (eqb (v .start) (u .start) && eqb (v .end) (u .end) || eqb (v .start) (u .end) && eqb (v .end) (u .start))) ≡ eqb (useName u) (useName v)
+    go (no s) p q r t = rw (ne-eqb (v .shell) (u .shell) s) (differ (λ n. s (shell-of n)) refl)
+    go (yes s) (yes p) (yes q) r t =
+        rw (eq-eqb (v .shell) (u .shell) s, eq-eqb (v .start) (u .start) p, eq-eqb (v .end) (u .end) q)
+        (alike (cc) refl)
+    go (yes s) (yes p) (no q) (yes r) (yes t) = absurd (q (t ∙ sym p ∙ r))
+    go (yes s) (yes p) (no q) (no r) t =
+        rw (eq-eqb (v .shell) (u .shell) s, eq-eqb (v .start) (u .start) p, ne-eqb (v .end) (u .end) q, ne-eqb (v .start) (u .end) r)
+        (differ (λ n. q (omega (arith, lower-of n, higher-of n))) refl)
+    go (yes s) (yes p) (no q) (yes r) (no t) =
+        rw (eq-eqb (v .shell) (u .shell) s, eq-eqb (v .start) (u .start) p, ne-eqb (v .end) (u .end) q, eq-eqb (v .start) (u .end) r, ne-eqb (v .end) (u .start) t)
+        (differ (λ n. q (omega (arith, lower-of n, higher-of n))) refl)
+    go (yes s) (no p) q (yes r) (yes t) =
+        rw (eq-eqb (v .shell) (u .shell) s, ne-eqb (v .start) (u .start) p, eq-eqb (v .start) (u .end) r, eq-eqb (v .end) (u .start) t)
+        (alike (name-back (u .shell) (u .start) (u .end) ∙ cc) refl)
+    go (yes s) (no p) q (no r) t =
+        rw (eq-eqb (v .shell) (u .shell) s, ne-eqb (v .start) (u .start) p, ne-eqb (v .start) (u .end) r)
+        (differ (λ n. p (omega (arith, lower-of n, higher-of n))) refl)
+    go (yes s) (no p) q (yes r) (no t) =
+        rw (eq-eqb (v .shell) (u .shell) s, ne-eqb (v .start) (u .start) p, eq-eqb (v .start) (u .end) r, ne-eqb (v .end) (u .start) t)
+        (differ (λ n. p (omega (arith, lower-of n, higher-of n))) refl)
