@@ -1,0 +1,3 @@
+pub mod ReverseLaws
+pub mod ReverseRows
+pub mod VolumeLaws

@@ -1,0 +1,6 @@
+-- The definitions of turning, the turned body in the flat slices, what measuring asks, and the definitions computed.
+pub mod Orient
+pub mod Reversed
+pub mod Measured
+pub mod Evaluation
+pub mod Claims

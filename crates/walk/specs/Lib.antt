@@ -1,0 +1,14 @@
+pub mod Walk
+pub mod Uses
+pub mod Area
+pub mod Chains
+pub mod Group
+pub mod Frames
+pub mod Steps
+pub mod Links
+pub mod Kept
+pub mod Visited
+pub mod Found
+pub mod Groups
+pub mod Evaluation
+pub mod Claims
