@@ -1,0 +1,3 @@
+pub mod Assemble
+pub mod Evaluation
+pub mod Claims

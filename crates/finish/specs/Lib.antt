@@ -1,0 +1,3 @@
+pub mod Finish
+pub mod Parts
+pub mod Evaluation

@@ -1,0 +1,3 @@
+pub mod Stitch
+pub mod Evaluation
+pub mod Claims
