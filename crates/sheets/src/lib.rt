@@ -1,0 +1,1 @@
+// Claims only: see specs/.
