@@ -1,7 +1,7 @@
 -- Laws of clearing the colours and of inverting a group, which the proofs of this crate cite. Assumes nothing.
 use mathlib.Core.Path.{_≡_, refl, sym, ap, subst, _∙_}
 use mathlib.Core.List.{List, [], _∷_, _++_}
-use Prim.Native.Nat.{ℕ, zero, suc, _+_, _*_, _<_, _≤_}
+use Prim.Native.Nat.{ℕ, _+_, _*_, _<_, _≤_}
 use native.Mathlib.Omega.{arith}
 use native.Mathlib.Nat.{le-antisymm}
 use native.Mathlib.Numerals.{add-one}
@@ -12,7 +12,7 @@ use Rattle.walk.specs.Walk.{opposite, inverted}
 use Rattle.walk.specs.Area.{Within}
 use Rattle.walk.specs.Group.{queueOf, coloursOf, Colours, Queue, Uncoloured, Invertible, GroupInverted}
 use Rattle.walk.specs.Frames.{front-at, within-none, within-set, within-more}
-use Rattle.walk.specs.Kept.{colour-at, queue-at, queue-long}
+use Rattle.walk.specs.Kept.{colour-at, queue-at, queue-long, zeros}
 
 -- ---- clearing, with the colours of x rows done
 
@@ -36,12 +36,6 @@ uncolouring-more {n} {m} {x} {W} {E} room p l =
       within = within-more (p .within) (within-set 0 E (omega arith) (omega arith));
       long = simp length-set (p .long);
     }
-
--- a list of zeros has nothing else
-zeros : (m x : ℕ) → _≡_ {A = ℕ} (getD (replicate m 0) x 0) 0
-zeros zero x = refl
-zeros (suc m) zero = refl
-zeros (suc m) (suc x) = zeros m x
 
 -- all rows
 pub uncolouring-all : {n m x : ℕ} {W E : List ℕ} → Uncolouring n m W x E → m ≤ x → Uncoloured n m W E

@@ -1,15 +1,16 @@
 -- What a stage of the walk leaves for the next: words of queue and colours, and chains, colours and queue kept. Assumes nothing.
-use mathlib.Core.Path.{_≡_, sym, subst}
+use mathlib.Core.Path.{_≡_, refl, sym, ap, subst, _∙_}
 use mathlib.Core.List.{List}
-use Prim.Native.Nat.{ℕ, _+_, _*_, _<_, _≤_}
+use Prim.Native.Nat.{ℕ, zero, suc, _+_, _*_, _<_, _≤_}
 use native.Mathlib.Omega.{arith}
-use lib.ListN.{length, getD, take, drop, length-take, length-drop}
+use lib.ListN.{length, getD, take, drop, replicate, length-take, length-drop}
 use lib.Seq.{length-take-le}
-use Rattle.walk.specs.Area.{areaEnd}
+use Rattle.walk.specs.Walk.{unvisited}
+use Rattle.walk.specs.Area.{coloursAt, areaEnd, usesOf}
 use Rattle.walk.specs.Chains.{Paired}
 use Rattle.walk.specs.Group.{queueOf, coloursOf, Colours, Queue, Uncoloured, GroupWalked, Invertible, GroupInverted}
 use Rattle.walk.specs.Frames.{stretch-at, front-at, front-less}
-use Rattle.walk.specs.Links.{paired-kept}
+use Rattle.walk.specs.Links.{pairs-uses, paired-kept}
 
 -- the colour of row x
 pub colour-at : (n m : ℕ) (W : List ℕ) (x : ℕ) → x < m → getD (coloursOf n m W) x 0 ≡ getD W (5 * n + 2 * m + x) 0
@@ -61,3 +62,25 @@ paired-inverted {n} {m} {t} {W} {E} p g l = paired-kept p (front-less (5 * n + m
 -- A group that was walked can be inverted.
 pub walked-invertible : {n m root a found against : ℕ} {W E : List ℕ} → Paired n m E → GroupWalked n m root a found against W E → Invertible n m found E
 walked-invertible p g = record { room = p .room; queue = g .queue; known = g .known }
+
+-- The uses are kept when the colours are cleared,
+pub uses-uncoloured : {n m : ℕ} {W E : List ℕ} → Uncoloured n m W E → usesOf n E ≡ usesOf n W
+uses-uncoloured {n} {m} {W} {E} u = pairs-uses n m W E (front-less (5 * n + m) (5 * n + 2 * m) W E (u .within .front) (omega arith))
+
+-- when a group is walked,
+pub uses-walked : {n m root a found against : ℕ} {W E : List ℕ} → GroupWalked n m root a found against W E → usesOf n E ≡ usesOf n W
+uses-walked {n} {m} {root} {a} {found} {against} {W} {E} g = pairs-uses n m W E (g .within .front)
+
+-- and when it is inverted.
+pub uses-inverted : {n m t : ℕ} {W E : List ℕ} → GroupInverted n m t W E → usesOf n E ≡ usesOf n W
+uses-inverted {n} {m} {t} {W} {E} g = pairs-uses n m W E (front-less (5 * n + m) (5 * n + 2 * m) W E (g .within .front) (omega arith))
+
+-- a list of zeros has nothing else
+pub zeros : (m x : ℕ) → _≡_ {A = ℕ} (getD (replicate m 0) x 0) 0
+zeros zero x = refl
+zeros (suc m) zero = refl
+zeros (suc m) (suc x) = zeros m x
+
+-- After the colours are cleared any row can be a root.
+pub uncoloured-fresh : {n m x : ℕ} {W E : List ℕ} → Uncoloured n m W E → x < m → getD E (coloursAt n m + x) 0 ≡ unvisited
+uncoloured-fresh {n} {m} {x} {W} {E} u l = sym (colour-at n m E x l) ∙ ap (λ (c : List ℕ). getD c x 0) (u .colours) ∙ zeros m x
