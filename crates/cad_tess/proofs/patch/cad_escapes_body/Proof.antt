@@ -1,0 +1,24 @@
+-- `cad_escapes_body` meets its contract. Assumes nothing.
+use mathlib.Core.Path.{ap, _∙_}
+use Rattle.geometry.specs.Geometry.{escapesAlone}
+use borrow.Author.Needs.{needs}
+use Rattle.cad_tess.proofs.patch.cad_escapes_body.Statement.{statement}
+use Rattle.cad_tess.proofs.patch.cad_escapes_body.Tie as tie
+
+box-of-requires : tie.Need-box-of-requires
+box-of-requires c κs = search needs
+
+escapes-alone-requires : tie.Need-escapes-alone-requires
+escapes-alone-requires c κs = search needs
+
+judged-answer-requires : tie.Need-judged-answer-requires
+judged-answer-requires c κs = search needs
+
+returns : tie.Need-returns
+returns c =
+    let s = c .before .before .before .before .before .before .args in
+    c .judged-answer .ensures ∙ c .before .escapes-alone .ensures ∙ ap (escapesAlone (s .positions .now) (s .normals .now) (s .indices .now)) (c .before .before .box-of .ensures)
+
+pub cad-escapes-body-spec : {M : Type 1} → statement M
+cad-escapes-body-spec =
+    tie.close (tie.spec box-of-requires escapes-alone-requires judged-answer-requires returns)

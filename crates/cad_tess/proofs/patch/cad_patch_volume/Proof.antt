@@ -1,0 +1,18 @@
+-- `cad_patch_volume` meets its contract. Assumes nothing.
+use mathlib.Core.Path.{_∙_}
+use borrow.Author.Needs.{needs}
+use Rattle.cad_tess.proofs.patch.cad_patch_volume.Statement.{statement}
+use Rattle.cad_tess.proofs.patch.cad_patch_volume.Tie as tie
+
+patch-volume-alone-requires : tie.Need-patch-volume-alone-requires
+patch-volume-alone-requires c κs = search needs
+
+measured-answer-requires : tie.Need-measured-answer-requires
+measured-answer-requires c κs = search needs
+
+returns : tie.Need-returns
+returns c = c .measured-answer .ensures ∙ c .before .patch-volume-alone .ensures
+
+pub cad-patch-volume-spec : {M : Type 1} → statement M
+cad-patch-volume-spec =
+    tie.close (tie.spec patch-volume-alone-requires measured-answer-requires returns)

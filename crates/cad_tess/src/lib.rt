@@ -1,0 +1,16 @@
+// The library's calls for C: each is a proved function under its C name, its answer a struct with the refusal first.
+
+mod keys;
+mod patch;
+mod steps;
+
+pub use keys::cad_cell;
+pub use keys::cad_key;
+pub use patch::cad_escapes_body;
+pub use patch::cad_farthest;
+pub use patch::cad_patch_volume;
+pub use steps::cad_larger;
+pub use steps::cad_narrow;
+pub use steps::cad_round;
+pub use steps::cad_sqrt;
+pub use steps::cad_widen;
