@@ -1,0 +1,91 @@
+//! The proved library's calls, declared as its C exports are, and wrapped.
+
+use cad_ir::math::Aabb;
+
+#[repr(C)]
+#[derive(Debug, Clone, Copy, PartialEq)]
+pub struct Measured {
+    pub refusal: u32,
+    pub value: f64,
+}
+
+#[repr(C)]
+#[derive(Debug, Clone, Copy, PartialEq)]
+pub struct Judged {
+    pub refusal: u32,
+    pub verdict: u32,
+}
+
+mod raw {
+    use super::{Judged, Measured};
+
+    #[rustfmt::skip]
+    unsafe extern "C" {
+        pub fn cad_widen(b: u32) -> u64;
+        pub fn cad_narrow(b: u64) -> u32;
+        pub fn cad_sqrt(b: u64) -> u64;
+        pub fn cad_round(b: u64) -> u64;
+        pub fn cad_larger(a: u64, b: u64) -> u64;
+        pub fn cad_cell(v: f32) -> i64;
+        pub fn cad_key(x: f32, y: f32, z: f32) -> u64;
+        pub fn cad_patch_volume(p: *const f32, pn: usize, n: *const f32, nn: usize, i: *const u32, ni: usize, flip: bool) -> Measured;
+        pub fn cad_farthest(p: *const f32, pn: usize, n: *const f32, nn: usize, i: *const u32, ni: usize, x0: f64, y0: f64, z0: f64, x1: f64, y1: f64, z1: f64) -> Measured;
+        pub fn cad_escapes_body(p: *const f32, pn: usize, n: *const f32, nn: usize, i: *const u32, ni: usize, x0: f64, y0: f64, z0: f64, x1: f64, y1: f64, z1: f64) -> Judged;
+    }
+}
+
+// Sound: numbers pass as themselves, and a slice as its pointer and length.
+pub fn widen(b: u32) -> u64 {
+    unsafe { raw::cad_widen(b) }
+}
+
+pub fn narrow(b: u64) -> u32 {
+    unsafe { raw::cad_narrow(b) }
+}
+
+pub fn sqrt(b: u64) -> u64 {
+    unsafe { raw::cad_sqrt(b) }
+}
+
+pub fn round(b: u64) -> u64 {
+    unsafe { raw::cad_round(b) }
+}
+
+pub fn larger(a: u64, b: u64) -> u64 {
+    unsafe { raw::cad_larger(a, b) }
+}
+
+pub fn cell(v: f32) -> i64 {
+    unsafe { raw::cad_cell(v) }
+}
+
+pub fn key(p: [f32; 3]) -> u64 {
+    unsafe { raw::cad_key(p[0], p[1], p[2]) }
+}
+
+/// A patch as the calls take it: flat coordinates and indices.
+#[derive(Debug, Clone, Default)]
+pub struct Lone {
+    pub positions: Vec<f32>,
+    pub normals: Vec<f32>,
+    pub indices: Vec<u32>,
+}
+
+impl Lone {
+    pub fn volume(&self, flip: bool) -> Measured {
+        let (p, n, i) = (&self.positions, &self.normals, &self.indices);
+        unsafe { raw::cad_patch_volume(p.as_ptr(), p.len(), n.as_ptr(), n.len(), i.as_ptr(), i.len(), flip) }
+    }
+
+    pub fn farthest(&self, b: &Aabb) -> Measured {
+        let (p, n, i) = (&self.positions, &self.normals, &self.indices);
+        let (a, c) = (b.min, b.max);
+        unsafe { raw::cad_farthest(p.as_ptr(), p.len(), n.as_ptr(), n.len(), i.as_ptr(), i.len(), a.x, a.y, a.z, c.x, c.y, c.z) }
+    }
+
+    pub fn escapes(&self, b: &Aabb) -> Judged {
+        let (p, n, i) = (&self.positions, &self.normals, &self.indices);
+        let (a, c) = (b.min, b.max);
+        unsafe { raw::cad_escapes_body(p.as_ptr(), p.len(), n.as_ptr(), n.len(), i.as_ptr(), i.len(), a.x, a.y, a.z, c.x, c.y, c.z) }
+    }
+}
