@@ -2,3 +2,4 @@ pub mod WordLaws
 pub mod RowLaws
 pub mod BodyLaws
 pub mod CountLaws
+pub mod UserLaws

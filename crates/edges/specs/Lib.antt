@@ -4,5 +4,7 @@ pub mod Laws
 pub mod Named
 pub mod NameLaws
 pub mod Counted
+pub mod FirstUsers
+pub mod UseLaws
 pub mod Evaluation
 pub mod Claims

@@ -3,6 +3,7 @@
 mod bodies;
 mod counts;
 mod rows;
+mod users;
 mod words;
 
 pub use bodies::list_rows;
@@ -10,3 +11,4 @@ pub use bodies::list_runs;
 pub use bodies::name_uses;
 pub use counts::count_uses;
 pub use rows::name_row;
+pub use users::first_users;
