@@ -1,3 +1,5 @@
 pub mod ReverseLaws
 pub mod ReverseRows
 pub mod VolumeLaws
+pub mod InvertLaws
+pub mod GroupLaws

@@ -44,6 +44,12 @@ module _ {table : List ℕ} {ps : List Float} {is W : List ℕ} {n m x : ℕ} (r
   unfolding patchAt rowAt
   patch-is = patch-at (rowsOf table) ps [] is x row-in
 
+  -- its indices are as many as the row says
+  pub patch-length : length (patchAt (shapes table ps is) x .indices) ≡ rowAt table x .indices
+  patch-length =
+      ap (λ (p : Patch). length (p .indices)) patch-is
+      ∙ length-take-le (rowAt table x .indices) (drop (indicesBefore (rowsOf table) x) is) (omega (arith, length-drop (indicesBefore (rowsOf table) x) is, i-room, i-is))
+
   module _ {vs count : ℕ} (evs : vs ≡ rowAt table x .vertices) (ecount : count ≡ rowAt table x .indices) where
     abbrev v : ℕ
     v = 3 * getD W (vertexBasesAt n m + x) 0

@@ -2,5 +2,6 @@
 pub mod Orient
 pub mod Reversed
 pub mod Measured
+pub mod Settled
 pub mod Evaluation
 pub mod Claims

@@ -1,4 +1,5 @@
 // Turning: pairs, the walk of each group, its volume, and coloured rows reversed.
 
+mod groups;
 mod reverse;
 mod volume;

@@ -5,7 +5,7 @@ ghost use lib.ListN.{getD};
 ghost use Rattle.lists.specs.Lists.{sumOf};
 ghost use Rattle.geometry.specs.Geometry.{patchVolume, zero64};
 ghost use Rattle.walk.specs.Group.{queueOf, coloursOf};
-ghost use Rattle.orient.specs.Orient.{patchAt, volumeFrom};
+ghost use Rattle.orient.specs.Orient.{patchAt, volumeFrom, inverts};
 ghost use Rattle.orient.specs.Measured.{shapes, RowMeasurable, GroupMeasurable, weightOf, RowWeighable, GroupWeighable};
 
 // The volume of row x's patch, reversed where flip says so.
@@ -78,4 +78,30 @@ fn weigh(rows: &[u32], w: &[u64], n: usize, m: usize, t: usize, c: u64) -> u64
         k += 1;
     }
     sum
+}
+
+// Whether the colours of the first t rows of the queue are inverted: V is below 0, or it is 0 and coloured rows hold more indices.
+pub fn inverts_group(
+    rows: &[u32],
+    positions: &[f32],
+    indices: &[u32],
+    w: &[u64],
+    n: usize,
+    m: usize,
+    t: usize,
+) -> bool
+    requires { ⌜ GroupMeasurable (now rows) (now positions) (now indices) (now w) n m t ⌝ }
+    ensures { λ r. ⌜ r ≡ inverts (shapes (now (rows .entry)) (now (positions .entry)) (now (indices .entry))) (coloursOf n m (now (w .entry))) (queueOf n m t (now (w .entry)))
+        (volumeFrom (shapes (now (rows .entry)) (now (positions .entry)) (now (indices .entry))) (coloursOf n m (now (w .entry))) zero64 (queueOf n m t (now (w .entry)))) ⌝ }
+{
+    let v = group_volume(rows, positions, indices, w, n, m, t);
+    if v < 0.0 {
+        return true;
+    }
+    if v > 0.0 {
+        return false;
+    }
+    let plain = weigh(rows, w, n, m, t, 1);
+    let coloured = weigh(rows, w, n, m, t, 2);
+    plain < coloured
 }
