@@ -1,14 +1,60 @@
--- A verdict as its struct. Assumes nothing.
-use mathlib.Core.Path.{_≡_, sym, ap, _∙_}
-use mathlib.Core.Bool.{Bool}
+-- The answers about a patch alone as their structs. Assumes nothing.
+use mathlib.Core.Path.{_≡_, refl, sym, ap, _∙_}
+use mathlib.Core.Bool.{Bool, false, cond}
+use mathlib.Core.List.{List}
+use Prim.Native.Nat.{ℕ, zero, suc}
+use native.Mathlib.Omega.{arith}
+use lib.Dec.{eqb}
+use lib.Ieee.{Float}
+use borrow.Author.Tests.{ne-eqb}
+use Rattle.body.specs.Body.{firstFailing, loneChecks}
+use Rattle.geometry.specs.declared.Aabb.{Aabb}
+use Rattle.geometry.specs.declared.alone.Measured.{Measured}
 use Rattle.geometry.specs.declared.alone.Judged.{Judged}
 use Rattle.geometry.specs.declared.alone.Judged.the-variants.{Verdict}
-use Rattle.geometry.specs.Geometry.{Alone}
-use Rattle.geometry.specs.Answers.{judgedAs}
+use Rattle.geometry.specs.Geometry.{zero64, alone, patchVolume, farthest, escapesBody, volumeAlone, farthestAlone, escapesAlone}
+use Rattle.geometry.specs.Answers.{measuredOf, judgedOf, measuredAs, judgedAs}
+use Rattle.cad_tess.specs.declared.patch.CadMeasured.{CadMeasured}
+use Rattle.cad_tess.specs.declared.patch.CadJudged.{CadJudged}
+use Rattle.cad_tess.specs.Answers.{cadMeasured, cadJudged}
 
 -- a verdict that is known
-pub verdict-is : {j : Judged} {b d : Bool} → j ≡ Verdict b → b ≡ d → record { refusal = 0; answer = d } ≡ judgedAs j
-verdict-is {j} {b} {d} e f = sym (ap judgedAs e ∙ ap given f)
+pub verdict-is : {j : Judged} {b d : Bool} → j ≡ Verdict b → b ≡ d → cadJudged (record { refusal = 0; answer = d }) ≡ cadJudged (judgedAs j)
+verdict-is {j} {b} {d} e f = sym (ap (λ x. cadJudged (judgedAs x)) e ∙ ap given f)
   where
-    given : Bool → Alone Bool
-    given x = record { refusal = 0; answer = x }
+    given : Bool → CadJudged
+    given x = cadJudged (record { refusal = 0; answer = x })
+
+-- a number or a refusal has the numbers it was made of
+measured-numbers : (n : ℕ) (x : Float) → measuredAs (measuredOf (record { refusal = n; answer = cond (eqb n 0) x zero64 })) ≡ record { refusal = n; answer = cond (eqb n 0) x zero64 }
+measured-numbers zero x = refl
+measured-numbers (suc n) x = rw (ne-eqb (suc n) 0 (λ h. omega (arith, h)))
+
+-- a verdict or a refusal has the numbers it was made of
+judged-numbers : (n : ℕ) (b : Bool) → judgedAs (judgedOf (record { refusal = n; answer = cond (eqb n 0) b false })) ≡ record { refusal = n; answer = cond (eqb n 0) b false }
+judged-numbers zero b = refl
+judged-numbers (suc n) b = rw (ne-eqb (suc n) 0 (λ h. omega (arith, h)))
+
+module _ (ps ns : List Float) (is : List ℕ) {r : CadMeasured} {m : Measured} (e : r ≡ cadMeasured (measuredAs m)) where
+  -- the struct of a volume
+  pub volume-struct : (flip : Bool) → m ≡ measuredOf (volumeAlone ps ns is flip) → r ≡ cadMeasured (volumeAlone ps ns is flip)
+  unfolding volumeAlone alone
+  volume-struct flip f = e ∙ ap (λ x. cadMeasured (measuredAs x)) f ∙ ap cadMeasured (measured-numbers (firstFailing (loneChecks ps ns is)) (patchVolume ps is flip))
+
+  -- the struct of a reach
+  pub farthest-struct : {b box : Aabb} → m ≡ measuredOf (farthestAlone ps ns is b) → b ≡ box → r ≡ cadMeasured (farthestAlone ps ns is box)
+  unfolding farthestAlone alone
+  farthest-struct {b} {box} f g =
+      e
+      ∙ ap (λ x. cadMeasured (measuredAs x)) f
+      ∙ ap cadMeasured (measured-numbers (firstFailing (loneChecks ps ns is)) (farthest ps b))
+      ∙ ap (λ x. cadMeasured (farthestAlone ps ns is x)) g
+
+-- the struct of an escape
+pub escapes-struct : (ps ns : List Float) (is : List ℕ) {r : CadJudged} {j : Judged} {b box : Aabb} → r ≡ cadJudged (judgedAs j) → j ≡ judgedOf (escapesAlone ps ns is b) → b ≡ box → r ≡ cadJudged (escapesAlone ps ns is box)
+unfolding escapesAlone alone
+escapes-struct ps ns is {r} {j} {b} {box} e f g =
+    e
+    ∙ ap (λ x. cadJudged (judgedAs x)) f
+    ∙ ap cadJudged (judged-numbers (firstFailing (loneChecks ps ns is)) (escapesBody ps b))
+    ∙ ap (λ x. cadJudged (escapesAlone ps ns is x)) g

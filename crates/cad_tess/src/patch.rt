@@ -7,7 +7,7 @@ use geometry::Vec3;
 ghost use mathlib.Core.Path.{_≡_};
 ghost use Rattle.geometry.specs.Geometry.{volumeAlone, farthestAlone, escapesAlone};
 ghost use Rattle.geometry.specs.Answers.{measuredAs, judgedAs};
-ghost use Rattle.cad_tess.specs.Answers.{boxOf, measured, judged};
+ghost use Rattle.cad_tess.specs.Answers.{boxOf, cadMeasured, cadJudged};
 
 // A number: 0 for the refusal, or the refusal's number and 0.
 #[repr(C)]
@@ -43,7 +43,7 @@ fn box_of(x0: f64, y0: f64, z0: f64, x1: f64, y1: f64, z1: f64) -> Aabb
 
 // A measured answer as the struct.
 fn measured_answer(m: Measured) -> CadMeasured
-    ensures { λ r. ⌜ measured r ≡ measuredAs m ⌝ }
+    ensures { λ r. ⌜ r ≡ cadMeasured (measuredAs m) ⌝ }
 {
     match m {
         Measured::Value(x) => CadMeasured {
@@ -59,7 +59,7 @@ fn measured_answer(m: Measured) -> CadMeasured
 
 // A judged answer as the struct.
 fn judged_answer(j: Judged) -> CadJudged
-    ensures { λ r. ⌜ judged r ≡ judgedAs j ⌝ }
+    ensures { λ r. ⌜ r ≡ cadJudged (judgedAs j) ⌝ }
 {
     match j {
         Judged::Verdict(b) => {
@@ -89,7 +89,7 @@ pub extern "C" fn cad_patch_volume(
     indices: &[u32],
     flip: bool,
 ) -> CadMeasured
-    ensures { λ r. ⌜ measured r ≡ volumeAlone (now (positions .entry)) (now (normals .entry)) (now (indices .entry)) flip ⌝ }
+    ensures { λ r. ⌜ r ≡ cadMeasured (volumeAlone (now (positions .entry)) (now (normals .entry)) (now (indices .entry)) flip) ⌝ }
 {
     measured_answer(geometry::patch_volume_alone(positions, normals, indices, flip))
 }
@@ -107,7 +107,7 @@ pub extern "C" fn cad_farthest(
     y1: f64,
     z1: f64,
 ) -> CadMeasured
-    ensures { λ r. ⌜ measured r ≡ farthestAlone (now (positions .entry)) (now (normals .entry)) (now (indices .entry)) (boxOf x0 y0 z0 x1 y1 z1) ⌝ }
+    ensures { λ r. ⌜ r ≡ cadMeasured (farthestAlone (now (positions .entry)) (now (normals .entry)) (now (indices .entry)) (boxOf x0 y0 z0 x1 y1 z1)) ⌝ }
 {
     let reference = box_of(x0, y0, z0, x1, y1, z1);
     measured_answer(geometry::farthest_alone(positions, normals, indices, reference))
@@ -126,7 +126,7 @@ pub extern "C" fn cad_escapes_body(
     y1: f64,
     z1: f64,
 ) -> CadJudged
-    ensures { λ r. ⌜ judged r ≡ escapesAlone (now (positions .entry)) (now (normals .entry)) (now (indices .entry)) (boxOf x0 y0 z0 x1 y1 z1) ⌝ }
+    ensures { λ r. ⌜ r ≡ cadJudged (escapesAlone (now (positions .entry)) (now (normals .entry)) (now (indices .entry)) (boxOf x0 y0 z0 x1 y1 z1)) ⌝ }
 {
     let reference = box_of(x0, y0, z0, x1, y1, z1);
     judged_answer(geometry::escapes_alone(positions, normals, indices, reference))

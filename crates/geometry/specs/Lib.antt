@@ -1,4 +1,4 @@
--- The definitions of points, box, volume, reach and escape, the answers' numbers, boxes and points written down for claims, and the definitions computed.
+-- The definitions of points, box, volume, reach and escape, the answers about a patch alone, boxes and points written down for claims, and the definitions computed.
 pub mod Geometry
 pub mod Answers
 pub mod Given

@@ -5,7 +5,7 @@ use crate::reach::escapes_body;
 use crate::reach::farthest;
 use crate::volume::patch_volume;
 ghost use mathlib.Core.Path.{_≡_};
-ghost use Rattle.geometry.specs.Answers.{judgedAs, measuredAs};
+ghost use Rattle.geometry.specs.Answers.{judgedOf, measuredOf};
 ghost use Rattle.geometry.specs.Geometry.{escapesAlone, farthestAlone, volumeAlone};
 
 // A number, or the refusal's number.
@@ -27,7 +27,7 @@ pub fn patch_volume_alone(
     indices: &[u32],
     flip: bool,
 ) -> Measured
-    ensures { λ r. ⌜ measuredAs r ≡ volumeAlone (now (positions .entry)) (now (normals .entry)) (now (indices .entry)) flip ⌝ }
+    ensures { λ r. ⌜ r ≡ measuredOf (volumeAlone (now (positions .entry)) (now (normals .entry)) (now (indices .entry)) flip) ⌝ }
 {
     let n = body::lone_failing(positions, normals, indices);
     if n != 0 {
@@ -43,7 +43,7 @@ pub fn farthest_alone(
     indices: &[u32],
     reference: Aabb,
 ) -> Measured
-    ensures { λ r. ⌜ measuredAs r ≡ farthestAlone (now (positions .entry)) (now (normals .entry)) (now (indices .entry)) reference ⌝ }
+    ensures { λ r. ⌜ r ≡ measuredOf (farthestAlone (now (positions .entry)) (now (normals .entry)) (now (indices .entry)) reference) ⌝ }
 {
     let n = body::lone_failing(positions, normals, indices);
     if n != 0 {
@@ -54,7 +54,7 @@ pub fn farthest_alone(
 
 // Whether a patch alone escapes.
 pub fn escapes_alone(positions: &[f32], normals: &[f32], indices: &[u32], reference: Aabb) -> Judged
-    ensures { λ r. ⌜ judgedAs r ≡ escapesAlone (now (positions .entry)) (now (normals .entry)) (now (indices .entry)) reference ⌝ }
+    ensures { λ r. ⌜ r ≡ judgedOf (escapesAlone (now (positions .entry)) (now (normals .entry)) (now (indices .entry)) reference) ⌝ }
 {
     let n = body::lone_failing(positions, normals, indices);
     if n != 0 {

@@ -1,6 +1,5 @@
 -- `cad_escapes_body` meets its contract. Assumes nothing.
-use mathlib.Core.Path.{ap, _∙_}
-use Rattle.geometry.specs.Geometry.{escapesAlone}
+use Rattle.cad_tess.proofs.Laws.{escapes-struct}
 use borrow.Author.Needs.{needs}
 use Rattle.cad_tess.proofs.patch.cad_escapes_body.Statement.{statement}
 use Rattle.cad_tess.proofs.patch.cad_escapes_body.Tie as tie
@@ -15,9 +14,7 @@ judged-answer-requires : tie.Need-judged-answer-requires
 judged-answer-requires c κs = search needs
 
 returns : tie.Need-returns
-returns c =
-    let s = c .before .before .before .before .before .before .args in
-    c .judged-answer .ensures ∙ c .before .escapes-alone .ensures ∙ ap (escapesAlone (s .positions .now) (s .normals .now) (s .indices .now)) (c .before .before .box-of .ensures)
+returns c = search escapes-struct
 
 pub cad-escapes-body-spec : {M : Type 1} → statement M
 cad-escapes-body-spec =

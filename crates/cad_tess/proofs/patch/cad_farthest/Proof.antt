@@ -1,6 +1,5 @@
 -- `cad_farthest` meets its contract. Assumes nothing.
-use mathlib.Core.Path.{ap, _∙_}
-use Rattle.geometry.specs.Geometry.{farthestAlone}
+use Rattle.cad_tess.proofs.Laws.{farthest-struct}
 use borrow.Author.Needs.{needs}
 use Rattle.cad_tess.proofs.patch.cad_farthest.Statement.{statement}
 use Rattle.cad_tess.proofs.patch.cad_farthest.Tie as tie
@@ -15,9 +14,7 @@ measured-answer-requires : tie.Need-measured-answer-requires
 measured-answer-requires c κs = search needs
 
 returns : tie.Need-returns
-returns c =
-    let s = c .before .before .before .before .before .before .args in
-    c .measured-answer .ensures ∙ c .before .farthest-alone .ensures ∙ ap (farthestAlone (s .positions .now) (s .normals .now) (s .indices .now)) (c .before .before .box-of .ensures)
+returns c = search farthest-struct
 
 pub cad-farthest-spec : {M : Type 1} → statement M
 cad-farthest-spec =

@@ -1,6 +1,7 @@
 -- `judged_answer` meets its contract, case by case. Assumes nothing.
 use mathlib.Core.Path.{sym, ap}
 use Rattle.geometry.specs.Answers.{judgedAs}
+use Rattle.cad_tess.specs.Answers.{cadJudged}
 use Rattle.cad_tess.proofs.Laws.{verdict-is}
 use borrow.Author.Needs.{needs}
 use Rattle.cad_tess.proofs.patch.judged_answer.Statement.{statement}
@@ -19,7 +20,7 @@ returns-2 : tie.Need-returns-2
 returns-2 c = verdict-is (c .before .before .j .given .1) (c .if1 .left)
 
 returns-3 : tie.Need-returns-3
-returns-3 c = sym (ap judgedAs (c .before .j2 .given .1))
+returns-3 c = sym (ap (λ j. cadJudged (judgedAs j)) (c .before .j2 .given .1))
 
 pub judged-answer-spec : {M : Type 1} → statement M
 judged-answer-spec = tie.close (tie.spec enum-known-j returns enum-known-j-2 returns-2 returns-3)
