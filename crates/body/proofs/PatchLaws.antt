@@ -70,7 +70,7 @@ module _ {table is : List ℕ} {k base : ℕ} (s : Indexing table is k base) (h 
   unfolding rowAt
   indexing-more e t q = record {
     low = omega arith;
-    start = (λ j. s .start j + q j) ∙ sym (indices-next (rowsOf table) k h);
+    start = (λ j. s .start j + q j) ∙ sym (indices-next table k h);
     searched = searched-more noPatch (s .searched) (omega (arith, length-patches (rowsOf table) [] [] is)) (sym test-is ∙ sym e ∙ t);
   }
 

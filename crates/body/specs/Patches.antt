@@ -61,14 +61,14 @@ unfolding indicesBefore allIndices sumOf
 indices-first rows = refl
 
 -- where the next row's indices start
-pub indices-next : (rows : List Row) (k : ℕ) → k < length rows → indicesBefore rows (k + 1) ≡ indicesBefore rows k + getD rows k noRow .indices
-unfolding indicesBefore allIndices
-indices-next rows k h = sum-more (λ r. r .indices) rows k noRow h
+pub indices-next : (table : List ℕ) (k : ℕ) → k < length (rowsOf table) → indicesBefore (rowsOf table) (k + 1) ≡ indicesBefore (rowsOf table) k + rowAt table k .indices
+unfolding indicesBefore allIndices rowAt
+indices-next table k h = sum-more (λ r. r .indices) (rowsOf table) k noRow h
 
 -- where the next row's vertices start
-pub vertices-next : (rows : List Row) (k : ℕ) → k < length rows → verticesBefore rows (k + 1) ≡ verticesBefore rows k + getD rows k noRow .vertices
-unfolding verticesBefore allVertices
-vertices-next rows k h = sum-more (λ r. r .vertices) rows k noRow h
+pub vertices-next : (table : List ℕ) (k : ℕ) → k < length (rowsOf table) → verticesBefore (rowsOf table) (k + 1) ≡ verticesBefore (rowsOf table) k + rowAt table k .vertices
+unfolding verticesBefore allVertices rowAt
+vertices-next table k h = sum-more (λ r. r .vertices) (rowsOf table) k noRow h
 
 -- a row's indices end within all
 pub indices-room : (rows : List Row) (k : ℕ) → k < length rows → indicesBefore rows k + getD rows k noRow .indices ≤ allIndices rows

@@ -1,16 +1,16 @@
 -- Laws of the loops over all rows, whatever word they write for a use. Assumes nothing.
 use mathlib.Core.Path.{_≡_, refl, sym, ap, _∙_, subst}
 use mathlib.Core.List.{List, [], _∷_, _++_, map, append-assoc, append-nil, map-append}
-use Prim.Native.Nat.{ℕ, zero, suc, _+_, _-_, _*_, _%_, _≤_, _<_}
-use native.Mathlib.Nat.{le-antisymm, not-suc-le-zero, le-of-suc-le-suc}
+use Prim.Native.Nat.{ℕ, suc, _+_, _-_, _%_, _≤_, _<_}
 use native.Mathlib.Omega.{arith}
 use lib.ListN.{length, getD, take, drop, replicate, length-append, length-take, length-drop, length-replicate, drop-of-length-le}
 use lib.Seq.{sets, length-sets, drop-cons, drop-drop, getD-drop, getD-take, length-take-le}
 use Rattle.lists.specs.Lists.{sumOf}
-use Rattle.lists.specs.Any.{sum-more, sum-front, sum-all}
+use Rattle.lists.specs.Any.{sum-front, sum-all}
 use Rattle.lists.specs.Sets.{getD-sets-below, sets-append}
 use Rattle.body.specs.Body.{Row, Triangle, rowsOf, trianglesOf, allVertices, allIndices}
-use Rattle.body.specs.Rows.{WholeRows, noRow, rowAt, verticesBefore, indicesBefore}
+use Rattle.body.specs.Rows.{noRow, rowAt, verticesBefore, indicesBefore}
+use Rattle.body.specs.Patches.{vertices-next, indices-next}
 use Rattle.edges.specs.Edges.{Use, triangleUses}
 use Rattle.edges.specs.Named.{useName, useRun, rowUses, rowNumbers, RowReady, NameReady, BodyReady, NamesReady, RowsRoom}
 use Rattle.edges.proofs.RowLaws.{length-words}
@@ -18,14 +18,6 @@ use Rattle.edges.proofs.RowLaws.{length-words}
 -- ---- where the rows before row k end
 
 module _ (table : List ℕ) (k : ℕ) (h : k < length (rowsOf table)) where
-  pub vertices-more : verticesBefore (rowsOf table) (k + 1) ≡ verticesBefore (rowsOf table) k + rowAt table k .vertices
-  unfolding verticesBefore allVertices rowAt
-  vertices-more = sum-more (λ r. r .vertices) (rowsOf table) k noRow h
-
-  pub indices-more : indicesBefore (rowsOf table) (k + 1) ≡ indicesBefore (rowsOf table) k + rowAt table k .indices
-  unfolding indicesBefore allIndices rowAt
-  indices-more = sum-more (λ r. r .indices) (rowsOf table) k noRow h
-
   -- the rows from row k on
   pub rows-here : drop k (rowsOf table) ≡ rowAt table k ∷ drop (k + 1) (rowsOf table)
   unfolding rowAt
@@ -108,10 +100,10 @@ body-none word table is W shells points at =
 module _ {word : Use → ℕ} {table is W w shells : List ℕ} {points at k v i : ℕ} (r : BodyReady table is W points at) (n : WritingBody word table is W shells points at k v i w) (more : k < length (rowsOf table)) where
   -- the row's vertices and indices lie within the body's
   pub v-end : v + rowAt table k .vertices ≤ points + allVertices (rowsOf table)
-  v-end = omega (arith, n .at-v, vertices-more table k more, vertices-front (rowsOf table) (k + 1))
+  v-end = omega (arith, n .at-v, vertices-next table k more, vertices-front (rowsOf table) (k + 1))
 
   pub i-end : i + rowAt table k .indices ≤ allIndices (rowsOf table)
-  i-end = omega (arith, n .at-i, indices-more table k more, indices-front (rowsOf table) (k + 1))
+  i-end = omega (arith, n .at-i, indices-next table k more, indices-front (rowsOf table) (k + 1))
 
   -- what lies in front of the words has not been written
   pub unwritten : (m : ℕ) → m < at → getD w m 0 ≡ getD W m 0
@@ -193,8 +185,8 @@ module _ {word : Use → ℕ} {table is W w shells : List ℕ} {points at k v i 
         record {
           done = n .done ++ usesHere;
           low = omega arith;
-          at-v = omega (arith, n .at-v, vertices-more table k more);
-          at-i = omega (arith, n .at-i, indices-more table k more);
+          at-v = omega (arith, n .at-v, vertices-next table k more);
+          at-i = omega (arith, n .at-i, indices-next table k more);
           count = omega (arith, n .count, length-append (n .done) usesHere, here-count);
           list =
               ex
@@ -277,7 +269,7 @@ numbering-none table W at =
 
 module _ {table W w : List ℕ} {at k i : ℕ} (r : RowsRoom table W at) (n : Numbering table W at k i w) (more : k < length (rowsOf table)) where
   pub number-end : i + rowAt table k .indices ≤ length w
-  number-end = omega (arith, n .at-i, n .long, r .room, indices-more table k more, indices-front (rowsOf table) (k + 1))
+  number-end = omega (arith, n .at-i, n .long, r .room, indices-next table k more, indices-front (rowsOf table) (k + 1))
 
   pub numbering-more : {e : ℕ} {x : List ℕ} → e ≡ i + rowAt table k .indices → x ≡ sets w i (replicate (e - i) k) → Numbering table W at (k + 1) e x
   unfolding rowNumbers
@@ -288,7 +280,7 @@ module _ {table W w : List ℕ} {at k i : ℕ} (r : RowsRoom table W at) (n : Nu
       record {
         done = n .done ++ own;
         low = omega arith;
-        at-i = omega (arith, n .at-i, indices-more table k more);
+        at-i = omega (arith, n .at-i, indices-next table k more);
         count = omega (arith, n .count, length-append (n .done) own, length-replicate (rowAt table k .indices) k);
         list =
             ex

@@ -1,19 +1,19 @@
 -- Laws of settling a group: what walking and inverting leave of a body's measures, and the group's colours. Assumes nothing.
-use mathlib.Core.Path.{_≡_, refl, sym, ap, _∙_, subst}
+use mathlib.Core.Path.{_≡_, sym, ap, _∙_}
 use mathlib.Core.Bool.{Bool, true, false, cond}
-use mathlib.Core.List.{List, []}
-use Prim.Native.Nat.{ℕ, _+_, _-_, _*_, _≤_, _<_}
+use mathlib.Core.List.{List}
+use Prim.Native.Nat.{ℕ, _+_, _-_, _*_, _≤_}
 use native.Mathlib.Omega.{arith}
-use lib.ListN.{length, getD, take, drop}
+use lib.ListN.{length, getD, drop}
 use lib.Seq.{getD-drop}
 use lib.Ieee.{Float}
 use Rattle.geometry.specs.Geometry.{zero64}
-use Rattle.walk.specs.Walk.{Walk, inverted}
-use Rattle.walk.specs.Area.{queueAt, coloursAt, areaEnd, Within}
+use Rattle.walk.specs.Walk.{inverted}
+use Rattle.walk.specs.Area.{coloursAt, areaEnd}
 use Rattle.walk.specs.Frames.{within-none, within-more, within-wide}
-use Rattle.walk.specs.Group.{queueOf, coloursOf, Colours, Queue, Rooted, GroupWalked, GroupInverted, walkFrom}
-use Rattle.orient.specs.Orient.{Group, Walks, volumeFrom, inverts, addGroup}
-use Rattle.orient.specs.Measured.{shapes, vertexBasesAt, indexBasesAt, Measurable, GroupMeasurable}
+use Rattle.walk.specs.Group.{queueOf, coloursOf, GroupWalked, GroupInverted, walkFrom}
+use Rattle.orient.specs.Orient.{volumeFrom, inverts, addGroup}
+use Rattle.orient.specs.Measured.{shapes, vertexBasesAt, indexBasesAt, Measurable}
 use Rattle.orient.specs.Settled.{Judgeable, Judged, Settleable, Settled}
 
 -- words behind the walk's regions are as they were

@@ -1,21 +1,20 @@
 -- Laws of whether a group's colours are inverted. Assumes nothing.
 use mathlib.Core.Path.{_≡_, refl, sym, ap, _∙_, subst}
-use mathlib.Core.Bool.{Bool, true, false, not, _&&_, _||_, cond}
+use mathlib.Core.Bool.{true, false, cond}
 use mathlib.Core.List.{List, [], _∷_}
-use Prim.Native.Nat.{ℕ, zero, suc, _+_, _-_, _*_, _≤_, _<_}
+use Prim.Native.Nat.{ℕ, suc, _+_, _*_, _<_}
 use native.Mathlib.Omega.{arith}
-use lib.ListN.{length, getD, take, drop, length-take, length-drop}
-use lib.Seq.{getD-take, getD-drop, length-take-le}
+use lib.ListN.{length, getD, drop, length-take}
+use lib.Seq.{getD-take, getD-drop}
 use lib.Dec.{eqb, ltb}
 use lib.Ieee.{Float, lt}
 use Rattle.lists.specs.Lists.{sumOf}
-use Rattle.body.specs.Body.{Patch, rowsOf}
-use Rattle.body.specs.Rows.{rowAt}
+use Rattle.body.specs.Body.{Patch}
 use Rattle.geometry.specs.Geometry.{zero64}
 use Rattle.walk.specs.Walk.{unvisited, plain, coloured}
 use Rattle.walk.specs.Group.{queueOf, coloursOf}
 use Rattle.orient.specs.Orient.{patchAt, indicesOn, inverts}
-use Rattle.orient.specs.Measured.{shapes, Measurable, RowMeasurable, GroupMeasurable, weightOf}
+use Rattle.orient.specs.Measured.{shapes, GroupMeasurable, weightOf}
 use Rattle.orient.proofs.VolumeLaws.{patch-length}
 
 -- two sums whose terms agree, item by item

@@ -1,20 +1,21 @@
 -- Laws of the loop that reverses coloured rows one after another. Assumes nothing.
 use mathlib.Core.Path.{_≡_, refl, sym, ap, _∙_, subst}
 use mathlib.Core.Bool.{Bool, true, false, cond}
-use mathlib.Core.List.{List, [], _∷_, _++_, map, append-assoc, append-nil}
-use Prim.Native.Nat.{ℕ, zero, suc, _+_, _-_, _*_, _%_, _≤_, _<_}
+use mathlib.Core.List.{List, [], _∷_, _++_, map, append-assoc}
+use Prim.Native.Nat.{ℕ, suc, _+_, _-_, _*_, _%_, _≤_, _<_}
 use native.Mathlib.Omega.{arith}
-use lib.ListN.{length, getD, set, take, drop, length-append, length-take, length-drop, drop-of-length-le}
+use lib.ListN.{length, getD, take, drop, length-append, length-drop, drop-of-length-le}
 use lib.Seq.{sets, sets-eq, length-sets, drop-cons, drop-drop, getD-take, getD-drop, take-at, drop-at, drop-append-add, length-take-le}
 use lib.Dec.{eqb}
-use lib.Ieee.{Float, nan, neg}
+use lib.Ieee.{Float, neg}
 use Rattle.lists.specs.Lists.{countIf, sumOf}
-use Rattle.lists.specs.Any.{sum-more, sum-front}
+use Rattle.lists.specs.Any.{sum-front}
 use Rattle.body.specs.Body.{Row, rowsOf, allVertices, allIndices}
-use Rattle.body.specs.Rows.{WholeRows, noRow, rowAt, verticesBefore, indicesBefore}
+use Rattle.body.specs.Rows.{noRow, rowAt, verticesBefore, indicesBefore}
+use Rattle.body.specs.Patches.{vertices-next, indices-next}
 use Rattle.walk.specs.Walk.{coloured}
 use Rattle.orient.specs.Orient.{swapped}
-use Rattle.orient.specs.Reversed.{changed, changedRows, coordinates, indexCount, Triangles, Stretch, RowStretches, RowReversed, Reversible, Reversed}
+use Rattle.orient.specs.Reversed.{changed, changedRows, coordinates, indexCount, RowStretches, RowReversed, Reversible, Reversed}
 use Rattle.orient.proofs.ReverseLaws.{length-swapped, length-map}
 
 -- ---- one slice, whatever its items
@@ -121,14 +122,6 @@ reversing-none table W colours N I =
     }
 
 module _ {table W : List ℕ} {colours : ℕ} {N : List Float} {I : List ℕ} {k v i turned : ℕ} {ns : List Float} {is : List ℕ} (r : Reversible table N I W colours) (h : Reversing table W colours N I k v i turned ns is) (more : k < length (rowsOf table)) where
-  vertices-more : verticesBefore (rowsOf table) (k + 1) ≡ verticesBefore (rowsOf table) k + rowAt table k .vertices
-  unfolding verticesBefore allVertices rowAt
-  vertices-more = sum-more (λ r. r .vertices) (rowsOf table) k noRow more
-
-  indices-more : indicesBefore (rowsOf table) (k + 1) ≡ indicesBefore (rowsOf table) k + rowAt table k .indices
-  unfolding indicesBefore allIndices rowAt
-  indices-more = sum-more (λ r. r .indices) (rowsOf table) k noRow more
-
   vertices-front : verticesBefore (rowsOf table) (k + 1) ≤ allVertices (rowsOf table)
   unfolding verticesBefore allVertices
   vertices-front = sum-front (λ r. r .vertices) (rowsOf table) (k + 1)
@@ -138,10 +131,10 @@ module _ {table W : List ℕ} {colours : ℕ} {N : List Float} {I : List ℕ} {k
   indices-front = sum-front (λ r. r .indices) (rowsOf table) (k + 1)
 
   pub normals-end : v + 3 * rowAt table k .vertices ≤ length N
-  normals-end = omega (arith, h .at-v, vertices-more, vertices-front, r .all-normals)
+  normals-end = omega (arith, h .at-v, vertices-next table k more, vertices-front, r .all-normals)
 
   pub indices-end : i + rowAt table k .indices ≤ length I
-  indices-end = omega (arith, h .at-i, indices-more, indices-front, r .all-indices)
+  indices-end = omega (arith, h .at-i, indices-next table k more, indices-front, r .all-indices)
 
   row-here : rowAt table k ∷ drop (k + 1) (rowsOf table) ≡ drop k (rowsOf table)
   unfolding rowAt
@@ -176,8 +169,8 @@ module _ {table W : List ℕ} {colours : ℕ} {N : List Float} {I : List ℕ} {k
       let one = go (eqb coloured c) in
       record {
         low = omega arith;
-        at-v = omega (arith, h .at-v, vertices-more);
-        at-i = omega (arith, h .at-i, indices-more);
+        at-v = omega (arith, h .at-v, vertices-next table k more);
+        at-i = omega (arith, h .at-i, indices-next table k more);
         normals =
             subst (λ n. Changing (map neg) coordinates (coloursIn table W colours) (rowsOf table) N (k + 1) n ns') (sym ev)
             (changing-more (λ ys. length-map neg ys) (h .normals) (colour-here ec) row-here refl normals-end (q .normals ∙ ap (λ n. sets ns v (changed (map neg) c (take n (drop v ns)))) a));

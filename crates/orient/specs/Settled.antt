@@ -5,10 +5,10 @@ use mathlib.Core.List.{List, []}
 use Prim.Native.Nat.{ℕ, _+_, _*_, _≤_}
 use lib.Ieee.{Float}
 use Rattle.geometry.specs.Geometry.{zero64}
-use Rattle.walk.specs.Walk.{Walk, inverted}
+use Rattle.walk.specs.Walk.{inverted}
 use Rattle.walk.specs.Area.{queueAt, coloursAt, areaEnd, Within}
-use Rattle.walk.specs.Group.{queueOf, coloursOf, Colours, Queue, Rooted, walkFrom}
-use Rattle.orient.specs.Orient.{Group, Walks, volumeFrom, inverts, addGroup}
+use Rattle.walk.specs.Group.{queueOf, coloursOf, Colours, Rooted, walkFrom}
+use Rattle.orient.specs.Orient.{volumeFrom, inverts, addGroup}
 use Rattle.orient.specs.Measured.{shapes, Measurable, GroupMeasurable}
 
 -- what judging the group in the queue asks
