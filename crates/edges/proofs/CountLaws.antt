@@ -2,12 +2,12 @@
 use mathlib.Core.Path.{_≡_, refl, sym, ap, _∙_, subst}
 use mathlib.Core.Bool.{Bool, true, false, cond}
 use mathlib.Core.List.{List, [], _∷_, _++_}
-use Prim.Native.Nat.{ℕ, zero, suc, _+_, _-_, _*_, _≤_, _<_, min}
+use Prim.Native.Nat.{ℕ, suc, _+_, _-_, _≤_, _<_, min}
 use native.Mathlib.Omega.{arith}
 use native.Mathlib.Numerals.{add-one}
 use native.Mathlib.Decide.{ℕ-discrete}
 use lib.ListN.{length, getD, set, take, drop, replicate, length-set, length-take, length-drop, length-replicate, getD-replicate}
-use lib.Seq.{sets, length-sets, take-suc, take-all, getD-take, getD-drop, getD-set-same, getD-set-other, take-set-le, drop-set-lt, ext-getD}
+use lib.Seq.{sets, length-sets, take-suc, getD-take, getD-drop, getD-set-same, getD-set-other, take-set-le, drop-set-lt, ext-getD}
 use lib.Dec.{eqb}
 use borrow.Author.Tests.{eq-eqb, ne-eqb}
 use Rattle.lists.specs.Lists.{countIf}

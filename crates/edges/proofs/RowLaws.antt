@@ -1,16 +1,14 @@
 -- Laws of the loops over one row's triangles, whatever word they write for a use. Assumes nothing.
 use mathlib.Core.Path.{_≡_, refl, sym, ap, _∙_, subst}
 use mathlib.Core.List.{List, [], _∷_, _++_, map, append-assoc, append-nil, map-append}
-use Prim.Native.Nat.{ℕ, zero, suc, _+_, _-_, _*_, _%_, _≤_, _<_, min, max}
-use native.Mathlib.Nat.{le-antisymm}
+use Prim.Native.Nat.{ℕ, suc, _+_, _-_, _%_, _≤_, _<_}
 use native.Mathlib.Omega.{arith}
-use native.Mathlib.Numerals.{add-one}
 use lib.ListN.{length, getD, set, take, drop, length-append}
 use lib.Seq.{sets, length-sets, drop-cons, getD-drop}
 use Rattle.lists.specs.Sets.{getD-sets-below, sets-append}
-use Rattle.body.specs.Body.{Triangle, trianglesOf}
+use Rattle.body.specs.Body.{trianglesOf}
 use Rattle.edges.specs.Edges.{Use, triangleUses}
-use Rattle.edges.specs.Named.{PointReady, Low, TriangleReady, RowReady}
+use Rattle.edges.specs.Named.{PointReady, Low, RowReady}
 
 -- the uses of the triangles whose indices stand from k up to `to`
 abbrev pub usesBetween : List ℕ → List ℕ → ℕ → ℕ → ℕ → List Use

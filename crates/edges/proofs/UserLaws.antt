@@ -1,18 +1,18 @@
 -- Laws of finding first users: how many uses there are, and a part of the work area that was joined. Assumes nothing.
-use mathlib.Core.Path.{_≡_, refl, sym, ap, _∙_, subst}
+use mathlib.Core.Path.{_≡_, refl, sym, ap, _∙_}
 use mathlib.Core.List.{List, [], _∷_, _++_, map, append-assoc}
-use Prim.Native.Nat.{ℕ, zero, suc, _+_, _-_, _*_, _%_, _≤_, _<_, min}
+use Prim.Native.Nat.{ℕ, suc, _+_, _-_, _*_, _%_, _≤_, _<_}
 use native.Mathlib.Omega.{arith}
-use lib.ListN.{length, getD, take, drop, length-append, length-take, length-drop}
-use lib.Seq.{sets, sets-eq, length-sets, length-take-le, take-take, drop-drop, drop-at, take-at, take-append-le, drop-append-le, getD-take}
+use lib.ListN.{length, getD, take, drop, length-append, length-drop}
+use lib.Seq.{sets, sets-eq, length-sets, length-take-le, take-take, drop-drop, drop-at, take-at, take-append-le, drop-append-le}
 use borrow.Rule.Slice.PartMut.{midOf, postOf, putMid, take-put, drop-put, mid-len}
 use Rattle.lists.specs.Lists.{sumOf}
 use Rattle.lists.specs.Sets.{take-sets, drop-sets}
 use Rattle.body.specs.Body.{Row, rowsOf, trianglesOf, allIndices}
 use Rattle.body.specs.Rows.{noRow, rowAt}
 use Rattle.join.specs.Join.{joined, Joined}
-use Rattle.edges.specs.Edges.{Use, triangleUses}
-use Rattle.edges.specs.Named.{useName, rowUses, NamesReady, BodyReady}
+use Rattle.edges.specs.Edges.{triangleUses}
+use Rattle.edges.specs.Named.{useName, rowUses}
 use Rattle.edges.specs.FirstUsers.{UsersReady, FirstUsers, usesIn}
 use Rattle.edges.proofs.RowLaws.{length-words}
 use Rattle.edges.proofs.BodyLaws.{uses-count}

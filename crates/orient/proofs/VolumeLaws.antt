@@ -1,23 +1,23 @@
 -- Laws of the volume of a row and of a group. Assumes nothing.
 use mathlib.Core.Path.{_≡_, refl, sym, ap, _∙_, subst}
-use mathlib.Core.Bool.{Bool, true, false, cond}
-use mathlib.Core.List.{List, [], _∷_, _++_}
-use Prim.Native.Nat.{ℕ, zero, suc, _+_, _-_, _*_, _≤_, _<_}
+use mathlib.Core.Bool.{Bool}
+use mathlib.Core.List.{List, [], _∷_}
+use Prim.Native.Nat.{ℕ, suc, _+_, _-_, _*_, _≤_, _<_}
 use native.Mathlib.Omega.{arith}
 use lib.ListN.{length, getD, take, drop, length-take, length-drop, drop-of-length-le}
 use lib.Seq.{getD-take, getD-drop, length-take-le, drop-cons}
 use lib.Dec.{eqb}
-use lib.Ieee.{Float, nan}
+use lib.Ieee.{Float}
 use borrow.Author.Tests.{eq-eqb, ne-eqb}
 use Rattle.lists.specs.Lists.{sumOf}
-use Rattle.body.specs.Body.{Row, Patch, rowsOf, patchesOf, allVertices, allIndices}
-use Rattle.body.specs.Rows.{WholeRows, noRow, rowAt, verticesBefore, indicesBefore}
-use Rattle.body.specs.Patches.{noPatch, patchFrom, patch-at, indices-room, vertices-room}
+use Rattle.body.specs.Body.{Patch, rowsOf}
+use Rattle.body.specs.Rows.{rowAt, verticesBefore, indicesBefore}
+use Rattle.body.specs.Patches.{patchFrom, patch-at, indices-room, vertices-room}
 use Rattle.geometry.specs.Geometry.{Within, add, patchVolume, zero64}
-use Rattle.walk.specs.Walk.{unvisited, coloured}
-use Rattle.walk.specs.Group.{queueOf, coloursOf, Queue}
+use Rattle.walk.specs.Walk.{unvisited}
+use Rattle.walk.specs.Group.{queueOf, Queue}
 use Rattle.orient.specs.Orient.{patchAt, volumeFrom}
-use Rattle.orient.specs.Measured.{vertexBasesAt, indexBasesAt, shapes, Measurable, RowMeasurable, GroupMeasurable, weightOf}
+use Rattle.orient.specs.Measured.{vertexBasesAt, indexBasesAt, shapes, RowMeasurable, weightOf}
 
 -- ---- one row
 

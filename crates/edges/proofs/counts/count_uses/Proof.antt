@@ -1,7 +1,6 @@
 -- `count_uses` meets its contract: after use i the uses before it are counted. Assumes nothing.
 use mathlib.Core.Path.{refl}
 use Prim.Native.Nat.{_-_}
-use native.Mathlib.Omega.{arith}
 use Rattle.edges.proofs.CountLaws.{CountingUses, cleared-ready, counting-none, step-ready, counting-more, counting-all}
 use borrow.Author.Needs.{needs}
 use Rattle.edges.proofs.counts.count_uses.Statement.{statement}

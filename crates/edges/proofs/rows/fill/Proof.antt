@@ -1,6 +1,5 @@
 -- `fill` meets its contract. Assumes nothing.
 use Prim.Native.Nat.{_-_}
-use native.Mathlib.Omega.{arith}
 use Rattle.edges.proofs.WordLaws.{Filling, filling-none, filling-more, filling-all}
 use borrow.Author.Needs.{needs}
 use Rattle.edges.proofs.rows.fill.Statement.{statement}

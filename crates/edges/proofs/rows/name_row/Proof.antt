@@ -1,6 +1,5 @@
 -- `name_row` meets its contract: after each triangle the words of those before it are written. Assumes nothing.
 use Prim.Native.Nat.{_-_}
-use native.Mathlib.Omega.{arith}
 use Rattle.edges.specs.Named.{useName}
 use Rattle.edges.proofs.RowLaws.{Writing, writing-none, writing-more, writing-all, point-ready-0, point-ready-1, point-ready-2, three-room, points-low}
 use borrow.Author.Needs.{needs}

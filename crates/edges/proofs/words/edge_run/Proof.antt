@@ -1,6 +1,5 @@
 -- `edge_run` meets its contract. Assumes nothing.
 use Rattle.edges.proofs.WordLaws.{run-equal, run-up, run-down}
-use borrow.Author.Needs.{needs}
 use Rattle.edges.proofs.words.edge_run.Statement.{statement}
 use Rattle.edges.proofs.words.edge_run.Tie as tie
 

@@ -1,6 +1,5 @@
 -- `negate` meets its contract. Assumes nothing.
 use Prim.Native.Nat.{_-_}
-use native.Mathlib.Omega.{arith}
 use Rattle.orient.proofs.ReverseLaws.{Negating, negating-none, negating-more, negating-all}
 use borrow.Author.Needs.{needs}
 use Rattle.orient.proofs.reverse.negate.Statement.{statement}
