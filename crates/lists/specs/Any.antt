@@ -1,4 +1,4 @@
--- Laws of `any` and `sumOf`: over an append, at an item, and as a loop that goes through a list item by item meets them. Assumes nothing.
+-- Laws of `any`, `sumOf` and of what holds of each item: over an append, at an item, and as a loop that goes through a list item by item meets them. Assumes nothing.
 use mathlib.Core.Path.{_≡_, refl, sym, ap, _∙_}
 use mathlib.Core.Bool.{Bool, true, false, _||_}
 use mathlib.Core.List.{List, [], _∷_, _++_}
@@ -7,7 +7,7 @@ use Prim.Native.Nat.{ℕ, zero, suc, _+_, _≤_, _<_}
 use native.Mathlib.Nat.{le-of-suc-le-suc, not-suc-le-zero}
 use native.Mathlib.Numerals.{add-one}
 use native.Mathlib.Omega.{arith}
-use lib.ListN.{length, getD, take, drop, drop-of-length-le}
+use lib.ListN.{length, getD, take, drop, replicate, drop-of-length-le}
 use lib.Seq.{drop-cons, take-all}
 use Rattle.lists.specs.Lists.{any, sumOf, itemAt}
 
@@ -110,3 +110,16 @@ module _ {A : Type 0} where
   -- the sum over all items
   pub sum-all : (f : A → ℕ) (xs : List A) (k : ℕ) → length xs ≤ k → sumOf f (take k xs) ≡ sumOf f xs
   sum-all f xs k h = ap (sumOf f) (take-all k xs h)
+
+  -- what holds of each item of two lists holds of each of both
+  pub each-append : (Q : A → Type 0) (d : A) (xs ys : List A) → ((i : ℕ) → i < length xs → Q (getD xs i d)) → ((i : ℕ) → i < length ys → Q (getD ys i d))
+      → (i : ℕ) → i < length (xs ++ ys) → Q (getD (xs ++ ys) i d)
+  each-append Q d [] ys f g i h = g i h
+  each-append Q d (x ∷ xs) ys f g zero h = f 0 (omega arith)
+  each-append Q d (x ∷ xs) ys f g (suc i) h = each-append Q d xs ys (λ k l. f (suc k) (omega arith)) g i (le-of-suc-le-suc h)
+
+  -- and what holds of one item holds of each of its copies
+  pub each-copy : (Q : A → Type 0) (d x : A) (n : ℕ) → Q x → (i : ℕ) → i < length (replicate n x) → Q (getD (replicate n x) i d)
+  each-copy Q d x zero q i h = absurd (not-suc-le-zero h)
+  each-copy Q d x (suc n) q zero h = q
+  each-copy Q d x (suc n) q (suc i) h = each-copy Q d x n q i (le-of-suc-le-suc h)

@@ -2,5 +2,6 @@
 pub mod Lists
 pub mod Any
 pub mod Sets
+pub mod Stretches
 pub mod Table
 pub mod Evaluation

@@ -11,7 +11,8 @@ use lib.Seq.{getD-set-same, getD-set-other, take-set-lt, drop-set-add, take-suc-
 use Rattle.walk.specs.Walk.{opposite, inverted}
 use Rattle.walk.specs.Area.{Within}
 use Rattle.walk.specs.Group.{queueOf, coloursOf, Colours, Queue, Uncoloured, Invertible, GroupInverted}
-use Rattle.walk.specs.Frames.{front-at, within-none, within-set, within-more}
+use Rattle.lists.specs.Stretches.{front-at}
+use Rattle.walk.specs.Frames.{within-none, within-set, within-more}
 use Rattle.walk.specs.Kept.{colour-at, queue-at, queue-long, zeros}
 
 -- ---- clearing, with the colours of x rows done
@@ -89,7 +90,7 @@ module _ {n m t k : ℕ} {W E : List ℕ} (q : Invertible n m t W) (f : Invertin
   row-some = f .queue .visited k l
 
   item : getD (queueOf n m t W) k 0 ≡ getD E (5 * n + m + k) 0
-  item = queue-at n m t W k l ∙ sym (front-at (5 * n + 2 * m) (5 * n + m + k) W E (f .within .front) (omega (arith, q .queue .low)))
+  item = queue-at n m t W k l ∙ sym (front-at (5 * n + 2 * m) (5 * n + m + k) W E 0 (f .within .front) (omega (arith, q .queue .low)))
 
   -- get the other colour
   module _ (r : ℕ) (e : r ≡ opposite (getD E (5 * n + 2 * m + getD E (5 * n + m + k) 0) 0)) where

@@ -9,16 +9,16 @@ use Rattle.walk.specs.Walk.{unvisited}
 use Rattle.walk.specs.Area.{coloursAt, areaEnd, usesOf}
 use Rattle.walk.specs.Chains.{Paired}
 use Rattle.walk.specs.Group.{queueOf, coloursOf, Colours, Queue, Uncoloured, GroupWalked, Invertible, GroupInverted}
-use Rattle.walk.specs.Frames.{stretch-at, front-at, front-less}
+use Rattle.lists.specs.Stretches.{stretch-at, front-at, front-less}
 use Rattle.walk.specs.Links.{pairs-uses, paired-kept}
 
 -- the colour of row x
 pub colour-at : (n m : ℕ) (W : List ℕ) (x : ℕ) → x < m → getD (coloursOf n m W) x 0 ≡ getD W (5 * n + 2 * m + x) 0
-colour-at n m W x l = stretch-at (5 * n + 2 * m) m W x l
+colour-at n m W x l = stretch-at (5 * n + 2 * m) m W x 0 l
 
 -- row k of the queue
 pub queue-at : (n m t : ℕ) (W : List ℕ) (k : ℕ) → k < t → getD (queueOf n m t W) k 0 ≡ getD W (5 * n + m + k) 0
-queue-at n m t W k l = stretch-at (5 * n + m) t W k l
+queue-at n m t W k l = stretch-at (5 * n + m) t W k 0 l
 
 -- there are m colours
 pub colours-long : (n m : ℕ) (W : List ℕ) → areaEnd n m ≤ length W → length (coloursOf n m W) ≡ m
@@ -31,7 +31,7 @@ queue-long n m t W l h = length-take-le t (drop (5 * n + m) W) (simp length-drop
 -- Colours are kept by a stage that writes behind them.
 pub colours-kept : {n m : ℕ} {W E : List ℕ} → Colours n m W → take (areaEnd n m) E ≡ take (areaEnd n m) W → Colours n m E
 colours-kept {n} {m} {W} {E} c e =
-    record { known = λ x l. subst (λ (k : ℕ). k ≤ 2) (sym (front-at (5 * n + 3 * m) (5 * n + 2 * m + x) W E e (omega arith))) (c .known x l) }
+    record { known = λ x l. subst (λ (k : ℕ). k ≤ 2) (sym (front-at (5 * n + 3 * m) (5 * n + 2 * m + x) W E 0 e (omega arith))) (c .known x l) }
 
 -- So is the queue.
 pub queue-kept : {n m t : ℕ} {W E : List ℕ} → Queue n m t W → take (areaEnd n m) E ≡ take (areaEnd n m) W → Queue n m t E
@@ -41,11 +41,11 @@ queue-kept {n} {m} {t} {W} {E} q e =
       rows = λ k l. subst (λ (x : ℕ). x < m) (sym (word k l)) (q .rows k l);
       visited = λ k l.
           subst (λ (x : ℕ). 0 < getD E (5 * n + 2 * m + x) 0) (sym (word k l))
-          (subst (λ (c : ℕ). 0 < c) (sym (front-at (5 * n + 3 * m) (5 * n + 2 * m + getD W (5 * n + m + k) 0) W E e (omega (arith, q .rows k l)))) (q .visited k l));
+          (subst (λ (c : ℕ). 0 < c) (sym (front-at (5 * n + 3 * m) (5 * n + 2 * m + getD W (5 * n + m + k) 0) W E 0 e (omega (arith, q .rows k l)))) (q .visited k l));
     }
   where
     word : (k : ℕ) → k < t → getD E (5 * n + m + k) 0 ≡ getD W (5 * n + m + k) 0
-    word k l = front-at (5 * n + 3 * m) (5 * n + m + k) W E e (omega (arith, q .low))
+    word k l = front-at (5 * n + 3 * m) (5 * n + m + k) W E 0 e (omega (arith, q .low))
 
 -- Chains are kept when the colours are cleared,
 pub paired-uncoloured : {n m : ℕ} {W E : List ℕ} → Paired n m W → Uncoloured n m W E → length E ≡ length W → Paired n m E

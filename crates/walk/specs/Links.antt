@@ -11,7 +11,7 @@ use Rattle.walk.specs.Walk.{Neighbour}
 use Rattle.walk.specs.Uses.{Uses, own, far, touches, across, acrossFrom, touch-records, touch-not-own, across-own, across-far}
 use Rattle.walk.specs.Area.{usesOf, Sound}
 use Rattle.walk.specs.Chains.{linkFrom, acrossOn, Chains, Chainable, Chained, Paired, LinkAt}
-use Rattle.walk.specs.Frames.{stretch-front, front-at, front-less}
+use Rattle.lists.specs.Stretches.{stretch-front, front-at, front-less}
 
 -- the uses stand in the first 3 * n words
 pub uses-front : (n j : ℕ) (W : List ℕ) → 3 * n ≤ j → usesOf n (take j W) ≡ usesOf n W
@@ -74,9 +74,9 @@ paired-kept {n} {m} {W} {E} p e l =
     moved : Chains n m 0 (usesOf n W) E
     moved =
         record {
-          heads = λ x l. front-at (5 * n + m) (5 * n + x) W E e (omega arith) ∙ p .chains .heads x l;
-          owns = λ k a b t. front-at (5 * n + m) (3 * n + k) W E e (omega arith) ∙ p .chains .owns k a b t;
-          fars = λ k a b t. front-at (5 * n + m) (4 * n + k) W E e (omega arith) ∙ p .chains .fars k a b t;
+          heads = λ x l. front-at (5 * n + m) (5 * n + x) W E 0 e (omega arith) ∙ p .chains .heads x l;
+          owns = λ k a b t. front-at (5 * n + m) (3 * n + k) W E 0 e (omega arith) ∙ p .chains .owns k a b t;
+          fars = λ k a b t. front-at (5 * n + m) (4 * n + k) W E 0 e (omega arith) ∙ p .chains .fars k a b t;
         }
 
 -- what chaining leaves

@@ -1,0 +1,84 @@
+-- Stretches of a list: what is read of one, what stays as it was, and a part that was lent and came back. Assumes nothing.
+use mathlib.Core.Path.{_≡_, refl, sym, ap, _∙_}
+use mathlib.Core.List.{List, [], _∷_, _++_, append-assoc}
+use Prim.Native.Nat.{ℕ, zero, suc, _+_, _-_, _<_, _≤_}
+use native.Mathlib.Omega.{arith}
+use lib.ListN.{length, getD, take, drop, length-drop, List·getD-append}
+use lib.Seq.{sets, sets-eq, getD-take, getD-drop, take-take, drop-drop, take-at, drop-at, take-append-le, drop-append-le, length-take-le}
+use borrow.Rule.Slice.PartMut.{midOf, postOf, putMid, take-put, drop-put, mid-len}
+
+module _ {A : Type 0} where
+  -- a stretch of a list's front is that stretch of the list
+  pub stretch-front : (k n j : ℕ) (l : List A) → k + n ≤ j → take n (drop k (take j l)) ≡ take n (drop k l)
+  stretch-front zero n j l h = take-take n j l (omega arith)
+  stretch-front (suc k) n zero l h = absurd (omega arith)
+  stretch-front (suc k) n (suc j) [] h = refl
+  stretch-front (suc k) n (suc j) (x ∷ l) h = stretch-front k n j l (omega arith)
+
+  -- a stretch of the front is as it was
+  pub stretch-kept : (k n b : ℕ) (W E : List A) → take b E ≡ take b W → k + n ≤ b → take n (drop k E) ≡ take n (drop k W)
+  stretch-kept k n b W E e l = sym (stretch-front k n b E l) ∙ ap (λ (x : List A). take n (drop k x)) e ∙ stretch-front k n b W l
+
+  -- a shorter front is as it was
+  pub front-less : (j q : ℕ) (W E : List A) → take q E ≡ take q W → j ≤ q → take j E ≡ take j W
+  front-less j q W E e l = sym (take-take j q E l) ∙ ap (take j) e ∙ take-take j q W l
+
+  -- what ends later is as it was
+  pub rest-less : (b d : ℕ) (W E : List A) → drop b E ≡ drop b W → b ≤ d → drop d E ≡ drop d W
+  rest-less b d W E e l =
+      let gap : b + (d - b) ≡ d = omega arith in
+      ap (λ (k : ℕ). drop k E) (sym gap)
+      ∙ sym (drop-drop (d - b) b E)
+      ∙ ap (drop (d - b)) e
+      ∙ drop-drop (d - b) b W
+      ∙ ap (λ (k : ℕ). drop k W) gap
+
+  -- a word of the front is as it was
+  pub front-at : (q k : ℕ) (W E : List A) (x : A) → take q E ≡ take q W → k < q → getD E k x ≡ getD W k x
+  front-at q k W E x e l = sym (getD-take q E k x l) ∙ ap (λ (v : List A). getD v k x) e ∙ getD-take q W k x l
+
+  -- a word of a stretch
+  pub stretch-at : (k n : ℕ) (W : List A) (j : ℕ) (x : A) → j < n → getD (take n (drop k W)) j x ≡ getD W (k + j) x
+  stretch-at k n W j x l = getD-take n (drop k W) j x l ∙ getD-drop k W j x
+
+  -- where a run of stores stands is what was stored
+  pub stretch-sets : (W : List A) (at : ℕ) (vs : List A) (n : ℕ) → length vs ≡ n → at + n ≤ length W → take n (drop at (sets W at vs)) ≡ vs
+  stretch-sets W at vs n e l =
+      ap (λ (v : List A). take n (drop at v)) (sets-eq vs W at (omega arith) ∙ append-assoc (take at W) vs (drop (at + length vs) W))
+      ∙ ap (take n) (drop-at (take at W) (vs ++ drop (at + length vs) W) at (length-take-le at W (omega arith)))
+      ∙ take-at vs (drop (at + length vs) W) n e
+
+  -- a stretch of the part from b up to e is a stretch of the list
+  pub stretch-part : (b e k n : ℕ) (W : List A) → k + n ≤ e - b → take n (drop k (midOf b (e - b) W)) ≡ take n (drop (b + k) W)
+  stretch-part b e k n W h = stretch-front k n (e - b) (drop b W) h ∙ ap (take n) (drop-drop k b W)
+
+  -- a part of a list, from b up to e, came back as ys
+  module _ (b e : ℕ) (W ys : List A) (lo : b ≤ e) (hi : e ≤ length W) (l : length ys ≡ length (midOf b (e - b) W)) where
+    -- it is as long as it was
+    pub part-long : length ys ≡ e - b
+    part-long = l ∙ mid-len b e W hi
+
+    part-tail : drop b (putMid b (e - b) W ys) ≡ ys ++ postOf b (e - b) W
+    part-tail = drop-at (take b W) (ys ++ postOf b (e - b) W) b (length-take-le b W (omega arith))
+
+    -- a stretch of it stands in the list
+    pub part-stretch : (k n : ℕ) → k + n ≤ e - b → take n (drop (b + k) (putMid b (e - b) W ys)) ≡ take n (drop k ys)
+    part-stretch k n h =
+        ap (take n)
+        (sym (drop-drop k b (putMid b (e - b) W ys)) ∙ ap (drop k) part-tail ∙ drop-append-le k ys (postOf b (e - b) W) (omega (arith, part-long)))
+        ∙ take-append-le n (drop k ys) (postOf b (e - b) W) (omega (arith, part-long, length-drop k ys))
+
+    -- a word of it stands in the list
+    pub part-at : (j : ℕ) (x : A) → j < e - b → getD (putMid b (e - b) W ys) (b + j) x ≡ getD ys j x
+    part-at j x h =
+        sym (getD-drop b (putMid b (e - b) W ys) j x)
+        ∙ ap (λ (v : List A). getD v j x) part-tail
+        ∙ List·getD-append ys (postOf b (e - b) W) x j (omega (arith, part-long))
+
+    -- what lies in front of it is as it was
+    pub part-front : take b (putMid b (e - b) W ys) ≡ take b W
+    part-front = take-put b (e - b) W ys (omega arith)
+
+    -- so is what lies behind it
+    pub part-rest : drop e (putMid b (e - b) W ys) ≡ drop e W
+    part-rest = drop-put b e W ys lo hi part-long
