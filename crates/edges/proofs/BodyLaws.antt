@@ -12,6 +12,7 @@ use Rattle.body.specs.Body.{Row, Triangle, rowsOf, trianglesOf, allVertices, al
 use Rattle.body.specs.Rows.{noRow, rowAt, verticesBefore, indicesBefore}
 use Rattle.body.specs.Patches.{vertices-next, indices-next}
 use Rattle.edges.specs.Edges.{Use, triangleUses}
+use Rattle.edges.specs.RowUses.{uses-agree, names-any-row, runs-any, uses-count}
 use Rattle.edges.specs.Named.{useName, useRun, rowUses, rowNumbers, RowReady, NameReady, BodyReady, NamesReady, RowsRoom}
 use Rattle.edges.proofs.RowLaws.{length-words}
 
@@ -38,42 +39,6 @@ indices-end rows k h = sum-all (λ r. r .indices) rows k h
 pub before-none : (rows : List Row) → (verticesBefore rows 0 ≡ 0) × (indicesBefore rows 0 ≡ 0)
 unfolding verticesBefore indicesBefore allVertices allIndices sumOf
 before-none rows = (refl, refl)
-
--- ---- what a row's uses depend on
-
--- only the points of vertices that the indices are of
-pub uses-agree : (shell row n : ℕ) (P Q : List ℕ) → ((x : ℕ) → x < n → getD P x 0 ≡ getD Q x 0) → (xs : List ℕ) → ((j : ℕ) → j < length xs → getD xs j 0 < n)
-    → triangleUses shell row P (trianglesOf xs) ≡ triangleUses shell row Q (trianglesOf xs)
-unfolding triangleUses trianglesOf
-uses-agree shell row n P Q e [] b = refl
-uses-agree shell row n P Q e (x ∷ []) b = refl
-uses-agree shell row n P Q e (x ∷ y ∷ []) b = refl
-uses-agree shell row n P Q e (x ∷ y ∷ z ∷ xs) b =
-    let ex = e x (b 0 (omega arith)) in
-    let ey = e y (b 1 (omega arith)) in
-    let ez = e z (b 2 (omega arith)) in
-    let rest = uses-agree shell row n P Q e xs (λ j h. b (suc (suc (suc j))) (omega arith)) in
-    rw (ex, ey, ez, rest)
-
--- a use's name has nothing of its row
-pub names-any-row : (shell row other : ℕ) (P : List ℕ) (ts : List Triangle) → map useName (triangleUses shell row P ts) ≡ map useName (triangleUses shell other P ts)
-unfolding triangleUses
-names-any-row shell row other P [] = refl
-names-any-row shell row other P (t ∷ ts) = rw (names-any-row shell row other P ts)
-
--- the way a use runs has nothing of its shell and row
-pub runs-any : (shell row s r : ℕ) (P : List ℕ) (ts : List Triangle) → map useRun (triangleUses shell row P ts) ≡ map useRun (triangleUses s r P ts)
-unfolding triangleUses
-runs-any shell row s r P [] = refl
-runs-any shell row s r P (t ∷ ts) = rw (runs-any shell row s r P ts)
-
--- three uses a triangle
-pub uses-count : (shell row : ℕ) (P xs : List ℕ) → length xs % 3 ≡ 0 → length (triangleUses shell row P (trianglesOf xs)) ≡ length xs
-unfolding triangleUses trianglesOf
-uses-count shell row P [] e = refl
-uses-count shell row P (x ∷ []) e = absurd (omega arith)
-uses-count shell row P (x ∷ y ∷ []) e = absurd (omega arith)
-uses-count shell row P (x ∷ y ∷ z ∷ xs) e = let h = uses-count shell row P xs (omega arith) in omega arith
 
 -- ---- the loop
 

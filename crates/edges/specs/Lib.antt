@@ -3,6 +3,7 @@ pub mod Edges
 pub mod Laws
 pub mod Named
 pub mod NameLaws
+pub mod RowUses
 pub mod Counted
 pub mod FirstUsers
 pub mod UseLaws

@@ -12,7 +12,9 @@ use lib.Seq.{getD-drop}
 use lib.Dec.{eqb}
 use lib.Ieee.{Float}
 use Rattle.lists.specs.Lists.{countIf}
+use Rattle.lists.specs.Any.{each-append}
 use Rattle.body.specs.Body.{Row, Patch, Triangle, trianglesOf, patchesOf}
+use Rattle.body.specs.Rows.{noRow}
 use Rattle.join.specs.Join.{indexOf, joined, firstIndex}
 use Rattle.join.specs.Representatives.{same-name-rep, same-rep-name, joined-length, joined-at}
 use Rattle.edges.specs.Edges.{Use, triangleUses, usesFrom, sameEdge, firstUser, usesOf}
@@ -67,7 +69,8 @@ getD-any [] k d e h = absurd (not-suc-le-zero h)
 getD-any (x ∷ xs) zero d e h = refl
 getD-any (x ∷ xs) (suc k) d e h = getD-any xs k d e (le-of-suc-le-suc h)
 
-getD-map : (name : Use → ℕ) (us : List Use) (k : ℕ) → k < length us → getD (map name us) k 0 ≡ name (getD us k noUse)
+-- a number of use k
+pub getD-map : (name : Use → ℕ) (us : List Use) (k : ℕ) → k < length us → getD (map name us) k 0 ≡ name (getD us k noUse)
 getD-map name [] k h = absurd (not-suc-le-zero h)
 getD-map name (u ∷ us) zero h = refl
 getD-map name (u ∷ us) (suc k) h = getD-map name us k (le-of-suc-le-suc h)
@@ -119,6 +122,56 @@ count-firsts ns i h =
     same : (j : ℕ) → j < length ns → Dec (getD ns i 0 ≡ getD ns j 0) → eqb (firstIndex ns i) (firstIndex ns j) ≡ eqb (getD ns i 0) (getD ns j 0)
     same j l (yes e) = eq-eqb (firstIndex ns i) (firstIndex ns j) (same-name-rep ns i j e) ∙ sym (eq-eqb (getD ns i 0) (getD ns j 0) e)
     same j l (no n) = ne-eqb (firstIndex ns i) (firstIndex ns j) (λ e. n (same-rep-name ns i j h l e)) ∙ sym (ne-eqb (getD ns i 0) (getD ns j 0) n)
+
+-- ---- points that have names
+
+-- uses behind uses
+low-append : (xs ys : List Use) → ((i : ℕ) → LowUse (getD xs i noUse)) → ((i : ℕ) → LowUse (getD ys i noUse)) → (i : ℕ) → LowUse (getD (xs ++ ys) i noUse)
+low-append [] ys f g i = g i
+low-append (x ∷ xs) ys f g zero = f 0
+low-append (x ∷ xs) ys f g (suc i) = low-append xs ys (λ k. f (suc k)) g i
+
+-- one row's uses run between points of the list
+low-triangles : (shell row : ℕ) (P : List ℕ) (ts : List Triangle) → ((x : ℕ) → getD P x 0 < 262144) → (i : ℕ) → LowUse (getD (triangleUses shell row P ts) i noUse)
+unfolding triangleUses
+low-triangles shell row P [] h i = record { start-low = omega arith; end-low = omega arith }
+low-triangles shell row P (t ∷ ts) h zero = record { start-low = h (t .a); end-low = h (t .b) }
+low-triangles shell row P (t ∷ ts) h (suc zero) = record { start-low = h (t .b); end-low = h (t .c) }
+low-triangles shell row P (t ∷ ts) h (suc (suc zero)) = record { start-low = h (t .c); end-low = h (t .a) }
+low-triangles shell row P (t ∷ ts) h (suc (suc (suc i))) = low-triangles shell row P ts h i
+
+-- so do all uses
+pub low-uses : (f : Row → ℕ) (row : ℕ) (P : List ℕ) (patches : List Patch) → ((x : ℕ) → getD P x 0 < 262144) → (i : ℕ) → LowUse (getD (usesFrom f row P patches) i noUse)
+unfolding usesFrom
+low-uses f row P [] h i = record { start-low = omega arith; end-low = omega arith }
+low-uses f row P (p ∷ ps) h i =
+    low-append (triangleUses (f (p .row)) row P (trianglesOf (p .indices))) (usesFrom f (suc row) (drop (p .row .vertices) P) ps)
+    (low-triangles (f (p .row)) row P (trianglesOf (p .indices)) h)
+    (low-uses f (suc row) (drop (p .row .vertices) P) ps (λ x. subst (λ (n : ℕ). n < 262144) (sym (getD-drop (p .row .vertices) P x 0)) (h (p .row .vertices + x)))) i
+
+-- ---- the shells of uses
+
+-- one row's uses are of its shell
+shells-triangles : (Q : ℕ → Type 0) (shell row : ℕ) (P : List ℕ) (ts : List Triangle) → Q shell
+    → (i : ℕ) → i < length (triangleUses shell row P ts) → Q (getD (triangleUses shell row P ts) i noUse .shell)
+unfolding triangleUses
+shells-triangles Q shell row P [] q i h = absurd (not-suc-le-zero h)
+shells-triangles Q shell row P (t ∷ ts) q zero h = q
+shells-triangles Q shell row P (t ∷ ts) q (suc zero) h = q
+shells-triangles Q shell row P (t ∷ ts) q (suc (suc zero)) h = q
+shells-triangles Q shell row P (t ∷ ts) q (suc (suc (suc i))) h = shells-triangles Q shell row P ts q i (omega arith)
+
+-- what holds of each row's shell holds of each use's
+pub shells-uses : (Q : ℕ → Type 0) (f : Row → ℕ) (row : ℕ) (P : List ℕ) (rows : List Row) (ps ns : List Float) (is : List ℕ)
+    → ((k : ℕ) → k < length rows → Q (f (getD rows k noRow))) → (i : ℕ) → i < length (usesFrom f row P (patchesOf rows ps ns is))
+    → Q (getD (usesFrom f row P (patchesOf rows ps ns is)) i noUse .shell)
+unfolding usesFrom patchesOf
+shells-uses Q f row P [] ps ns is h i l = absurd (not-suc-le-zero l)
+shells-uses Q f row P (r ∷ rs) ps ns is h i l =
+    each-append (λ u. Q (u .shell)) noUse (triangleUses (f r) row P (trianglesOf (take (r .indices) is)))
+    (usesFrom f (suc row) (drop (r .vertices) P) (patchesOf rs (drop (3 * r .vertices) ps) (drop (3 * r .vertices) ns) (drop (r .indices) is)))
+    (shells-triangles Q (f r) row P (trianglesOf (take (r .indices) is)) (h 0 (omega arith)))
+    (shells-uses Q f (suc row) (drop (r .vertices) P) rs (drop (3 * r .vertices) ps) (drop (3 * r .vertices) ns) (drop (r .indices) is) (λ k m. h (suc k) (omega arith))) i l
 
 -- ---- names by shells' numbers
 

@@ -16,7 +16,6 @@ pub fn first_users(
     ensures { λ _. ⌜ FirstUsers (now (rows .entry)) (now (indices .entry)) (now (w .entry)) points shells at (now (w .exit)) ⌝ }
 {
     let n = indices.len();
-    let end = at + 4 * n;
     name_uses(rows, indices, w, points, shells, at);
-    join::words::join_words(&mut w[at..end], n);
+    join::words::join_words_at(w, at, n);
 }

@@ -3,3 +3,4 @@ pub mod Loops
 pub mod Naming
 pub mod Rules
 pub mod Chains
+pub mod Parts

@@ -41,3 +41,15 @@ pub record Joined (ns : List ℕ) (n : ℕ) (W E : List ℕ) : Type 0 where
   pub rep : (i : ℕ) → i < n → getD E (n + i) 0 ≡ firstIndex ns i
   pub words : take n E ≡ take n W
   pub rest : drop (4 * n) E ≡ drop (4 * n) W
+
+-- what joining n items whose names stand from `at` on requires: the same, behind `at`
+pub record RoomAt (at n : ℕ) (W : List ℕ) : Type 0 where
+  pub room : at + 4 * n ≤ length W
+  pub few : n < 2 ^ 32
+
+-- What it leaves: the names as they were, then the representatives, and all outside the table's 4 * n as it was.
+pub record JoinedAt (at n : ℕ) (W E : List ℕ) : Type 0 where
+  pub names : take n (drop at E) ≡ take n (drop at W)
+  pub reps : take n (drop (at + n) E) ≡ joined (take n (drop at W))
+  pub front : take at E ≡ take at W
+  pub rest : drop (at + 4 * n) E ≡ drop (at + 4 * n) W

@@ -1,6 +1,6 @@
 // Joining by names of 64 bits.
 ghost use lib.ListN.{take};
-ghost use Rattle.join.specs.Join.{Joined, Room};
+ghost use Rattle.join.specs.Join.{Joined, JoinedAt, Room, RoomAt};
 use crate::table::Source;
 use crate::table::join_table;
 
@@ -11,4 +11,13 @@ pub fn join_words(w: &mut [u64], n: usize)
 {
     let unasked = [0.0f32; 1];
     join_table(Source::Words, &unasked, w, n);
+}
+
+// The same for n items whose names stand from `at` on: their table is the 4 n words from there.
+pub fn join_words_at(w: &mut [u64], at: usize, n: usize)
+    requires { ⌜ RoomAt at n (now w) ⌝ }
+    ensures { λ _. ⌜ JoinedAt at n (now (w .entry)) (now (w .exit)) ⌝ }
+{
+    let end = at + 4 * n;
+    join_words(&mut w[at..end], n);
 }

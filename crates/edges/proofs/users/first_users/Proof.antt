@@ -4,29 +4,11 @@ use borrow.Author.Needs.{needs}
 use Rattle.edges.proofs.users.first_users.Statement.{statement}
 use Rattle.edges.proofs.users.first_users.Tie as tie
 
-mul-end : tie.Need-mul-end
-mul-end c = search needs
-
-add-end : tie.Need-add-end
-add-end c = search needs
-
 name-uses-requires : tie.Need-name-uses-requires
 name-uses-requires c κs = search needs
 
-mul-join-words : tie.Need-mul-join-words
-mul-join-words c = search needs
-
-sub-join-words : tie.Need-sub-join-words
-sub-join-words c = search needs
-
-part-join-words-start : tie.Need-part-join-words-start
-part-join-words-start c = search needs
-
-part-join-words-end : tie.Need-part-join-words-end
-part-join-words-end c = search needs
-
-join-words-requires : tie.Need-join-words-requires
-join-words-requires c κs = search needs
+join-words-at-requires : tie.Need-join-words-at-requires
+join-words-at-requires c κs = search needs
 
 same-length : tie.Need-same-length
 same-length c = search needs
@@ -35,16 +17,4 @@ returns : tie.Need-returns
 returns c = search users-found
 
 pub first-users-spec : {M : Type 1} → statement M
-first-users-spec =
-    tie.close
-    (tie.spec
-    mul-end
-    add-end
-    name-uses-requires
-    mul-join-words
-    sub-join-words
-    part-join-words-start
-    part-join-words-end
-    join-words-requires
-    same-length
-    returns)
+first-users-spec = tie.close (tie.spec name-uses-requires join-words-at-requires same-length returns)
