@@ -2,11 +2,10 @@
 use Prim.Native.Nat.{ℕ}
 use Rattle.points.specs.Evaluation as Points
 use Rattle.geometry.specs.Evaluation as Geometry
-use Rattle.edges.specs.Evaluation as Edges
-use Rattle.walk.specs.Evaluation as Walk
-use Rattle.orient.specs.Orient.{pairOf, pairsOf, patchAt, volumeFrom, indicesOn, inverts, addGroup, walksFrom, walksOf, swapped, turnedPatch, turnedBody, turnBody, refuseTurn, turnOf}
+use Rattle.pairs.specs.Evaluation as Pairs
+use Rattle.orient.specs.Orient.{patchAt, volumeFrom, indicesOn, inverts, addGroup, walksFrom, walksOf, swapped, turnedPatch, turnedBody, turnBody, refuseTurn, turnOf}
 
 -- every definition that computes
 unfoldable pub evaluation : ℕ
-unfolding Points.evaluation Geometry.evaluation Edges.evaluation Walk.evaluation pairOf pairsOf patchAt volumeFrom indicesOn inverts addGroup walksFrom walksOf swapped turnedPatch turnedBody turnBody refuseTurn turnOf
+unfolding Points.evaluation Geometry.evaluation Pairs.evaluation patchAt volumeFrom indicesOn inverts addGroup walksFrom walksOf swapped turnedPatch turnedBody turnBody refuseTurn turnOf
 evaluation = 0

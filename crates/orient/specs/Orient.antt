@@ -1,4 +1,4 @@
--- Turning: the pairs of a body, the group's volume, the walks of all groups, the turned body, and the call. Assumes nothing.
+-- Turning: the group's volume, the walks of all groups, the turned body, and the call. Assumes nothing.
 --
 -- One walk over all rows is 01's shell by shell: two uses are of one edge only if their shells are equal, so no pair leaves a shell.
 use mathlib.Core.Bool.{Bool, true, false, not, _&&_, _||_, cond}
@@ -13,18 +13,9 @@ use Rattle.points.specs.Rule.{Rule, names}
 use Rattle.join.specs.Join.{joined}
 use Rattle.body.specs.Body.{Row, Patch, Triangle, trianglesOf, rowsOf, patchesOf, bodyChecks, firstFailing, cleared}
 use Rattle.geometry.specs.Geometry.{add, zero64, patchVolume}
-use Rattle.edges.specs.Edges.{Use, usesFrom, skipped, firstUser}
+use Rattle.edges.specs.Edges.{usesFrom}
+use Rattle.pairs.specs.Pairs.{pairsOf}
 use Rattle.walk.specs.Walk.{Pair, unvisited, plain, coloured, Walk, walk, inverted}
-
--- A later user on another row than the first user's records a pair: agreeing if the two run oppositely.
-unfoldable pub pairOf : List Use → Use → Option Pair
-pairOf all u =
-    let f = firstUser all u in
-    cond (skipped u || eqb (f .row) (u .row)) none (some (record { first = f .row; later = u .row; agreeing = eqb (f .start) (u .end) }))
-
--- the pairs in recorded order
-unfoldable pub pairsOf : List Use → List Pair
-pairsOf all = filterMap (pairOf all) all
 
 -- a group: the rows of one walk, with the colours that they got, before any inverting, and V
 pub record Group : Type 0 where

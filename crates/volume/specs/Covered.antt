@@ -12,7 +12,8 @@ use lib.Seq.{getD-set-other}
 use borrow.Author.Tests.{eqb-true, eqb-false}
 use Rattle.body.specs.Body.{Patch}
 use Rattle.geometry.specs.Geometry.{zero64}
-use Rattle.orient.specs.Orient.{Walks, Group, patchAt, volumeFrom, inverts, addGroup, walksFrom, walksOf, pairsOf}
+use Rattle.pairs.specs.Pairs.{pairsOf}
+use Rattle.orient.specs.Orient.{Walks, Group, patchAt, volumeFrom, inverts, addGroup, walksFrom, walksOf}
 use Rattle.walk.specs.Walk.{Pair, Neighbour, Walk, unvisited, plain, opposite, neighbours, meet, visit, walk, inverted}
 use Rattle.volume.specs.Sign as All
 use Rattle.volume.specs.Sign.{All}

@@ -11,7 +11,8 @@ use lib.ListN.{getD, length, set, replicate, length-replicate}
 use Rattle.body.specs.Body.{Patch}
 use Rattle.edges.specs.Edges.{usesFrom}
 use Rattle.geometry.specs.Geometry.{zero64}
-use Rattle.orient.specs.Orient.{Walks, Group, patchAt, pairsOf, volumeFrom, inverts, addGroup, walksFrom, walksOf}
+use Rattle.pairs.specs.Pairs.{pairsOf}
+use Rattle.orient.specs.Orient.{Walks, Group, patchAt, volumeFrom, inverts, addGroup, walksFrom, walksOf}
 use Rattle.walk.specs.Walk.{Pair, Walk, unvisited, plain, opposite, walk, inverted}
 use Rattle.volume.specs.Sign as All
 use Rattle.volume.specs.Sign.{All, Settled}

@@ -12,7 +12,7 @@ use lib.ListN.{getD, length, drop}
 use Rattle.lists.specs.Lists.{filterMap}
 use Rattle.body.specs.Body.{Row, Patch, Triangle, trianglesOf}
 use Rattle.edges.specs.Edges.{Use, triangleUses, usesFrom, skipped, sameEdge, firstUser}
-use Rattle.orient.specs.Orient.{pairOf, pairsOf}
+use Rattle.pairs.specs.Pairs.{pairOf, pairsOf}
 use Rattle.walk.specs.Walk.{Pair, Neighbour, neighbours}
 use Rattle.volume.specs.Sign as All
 use Rattle.volume.specs.Sign.{All}
