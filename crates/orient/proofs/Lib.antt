@@ -3,3 +3,5 @@ pub mod ReverseRows
 pub mod VolumeLaws
 pub mod InvertLaws
 pub mod GroupLaws
+pub mod RootLaws
+pub mod TurnLaws

@@ -3,5 +3,8 @@ pub mod Orient
 pub mod Reversed
 pub mod Measured
 pub mod Settled
+pub mod Walked
+pub mod Normals
+pub mod Turned
 pub mod Evaluation
 pub mod Claims

@@ -2,4 +2,9 @@
 
 mod groups;
 mod reverse;
+mod turning;
 mod volume;
+
+pub use turning::Counts;
+pub use turning::Turned;
+pub use turning::turn;

@@ -1,0 +1,68 @@
+-- What turn's code asks and leaves: the colours in the work area, the body turned, and its answer as an enum. Assumes nothing.
+use mathlib.Core.Path.{_≡_}
+use mathlib.Core.Bool.{Bool, true, false}
+use mathlib.Core.List.{List}
+use Prim.Native.Nat.{ℕ, _+_, _*_, _≤_}
+use lib.ListN.{length, take, drop}
+use lib.Dec.{eqb}
+use lib.Ieee.{Float}
+use Rattle.points.specs.Rule.{names}
+use Rattle.points.specs.Points.{key}
+use Rattle.join.specs.Join.{joined}
+use Rattle.body.specs.Body.{rowsOf, patchesOf, workNeeded}
+use Rattle.pairs.specs.Laid.{Layable, usesAt}
+use Rattle.walk.specs.Area.{coloursAt}
+use Rattle.orient.specs.declared.turning.Counts.{Counts}
+use Rattle.orient.specs.declared.turning.Turned.{Turned}
+use Rattle.orient.specs.declared.turning.Turned.the-variants.{Done, Refused}
+use Rattle.orient.specs.Orient.{AfterTurn, walksOf, turnBody}
+use Rattle.orient.specs.Measured.{shapes}
+
+-- ---- the colours
+
+-- what colouring the rows asks: a body whose uses can be laid out, and the words that 31 counts
+pub record Colourable (table : List ℕ) (ps : List Float) (is W : List ℕ) (v m : ℕ) : Type 0 where
+  pub body : Layable table ps is W v m
+  pub enough : 16 * length is + 16 * m + 4 * v ≤ length W
+
+-- where the colours stand in the work area of a body of v vertices, m rows and n indices
+abbrev pub rowColoursAt : ℕ → ℕ → ℕ → ℕ
+rowColoursAt v m n = 4 * v + 6 * m + 6 * n
+
+-- what it leaves: the definition's colours and contradictions, and all behind the words that 31 counts as it was
+pub record Coloured (table : List ℕ) (ps : List Float) (is : List ℕ) (v m : ℕ) (W E : List ℕ) (against : ℕ) : Type 0 where
+  pub colours : take m (drop (rowColoursAt v m (length is)) E) ≡ walksOf (shapes table ps is) (joined (names key ps)) .colours
+  pub total : against ≡ walksOf (shapes table ps is) (joined (names key ps)) .against
+  pub rest : drop (16 * length is + 16 * m + 4 * v) E ≡ drop (16 * length is + 16 * m + 4 * v) W
+
+-- ---- an accepted body
+
+-- an accepted body turned, by the definition
+abbrev pub turnDone : List ℕ → List Float → List Float → List ℕ → List ℕ → AfterTurn
+turnDone table ps ns is work =
+    turnBody (rowsOf table) (patchesOf (rowsOf table) ps ns is) (walksOf (patchesOf (rowsOf table) ps ns is) (joined (names key ps))) work
+
+-- the counts, and what the lent slices hold
+abbrev pub leftDone : Counts → List Float → List ℕ → List ℕ → AfterTurn
+leftDone c ns is work = record { refusal = 0; turned = c .turned; against = c .against; normals = ns; indices = is; work = work }
+
+-- ---- the call
+
+-- turn's answer, and what the lent slices hold
+pub record Left : Type 0 where
+  pub answer : Turned
+  pub normals : List Float
+  pub indices : List ℕ
+  pub work : List ℕ
+
+-- the answer with the slices
+abbrev pub left : Turned → List Float → List ℕ → List ℕ → Left
+left a ns is work = record { answer = a; normals = ns; indices = is; work = work }
+
+-- 01's number and values for each answer: the counts where no check fails, else the number of the first that does
+abbrev pub answerOf : AfterTurn → Turned
+answerOf t = elim (eqb (t .refusal) 0) [ true ↦ Done (record { turned = t .turned; against = t .against }) | false ↦ Refused (t .refusal) ]
+
+-- what the definition says of the call, with the answer as turn gives it
+abbrev pub answered : AfterTurn → Left
+answered t = left (answerOf t) (t .normals) (t .indices) (t .work)
