@@ -3,6 +3,7 @@
 mod keys;
 mod patch;
 mod steps;
+mod turning;
 
 pub use keys::cad_cell;
 pub use keys::cad_key;
@@ -14,3 +15,4 @@ pub use steps::cad_narrow;
 pub use steps::cad_round;
 pub use steps::cad_sqrt;
 pub use steps::cad_widen;
+pub use turning::cad_turn;
