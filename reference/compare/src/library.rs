@@ -1,6 +1,7 @@
 //! The proved library's calls, declared as its C exports are, and wrapped.
 
 use cad_ir::math::Aabb;
+use driver::flat::Flat;
 
 #[repr(C)]
 #[derive(Debug, Clone, Copy, PartialEq)]
@@ -16,8 +17,16 @@ pub struct Judged {
     pub verdict: u32,
 }
 
+#[repr(C)]
+#[derive(Debug, Clone, Copy, PartialEq)]
+pub struct Turned {
+    pub refusal: u32,
+    pub turned: u32,
+    pub against: u64,
+}
+
 mod raw {
-    use super::{Judged, Measured};
+    use super::{Judged, Measured, Turned};
 
     #[rustfmt::skip]
     unsafe extern "C" {
@@ -31,6 +40,7 @@ mod raw {
         pub fn cad_patch_volume(p: *const f32, pn: usize, n: *const f32, nn: usize, i: *const u32, ni: usize, flip: bool) -> Measured;
         pub fn cad_farthest(p: *const f32, pn: usize, n: *const f32, nn: usize, i: *const u32, ni: usize, x0: f64, y0: f64, z0: f64, x1: f64, y1: f64, z1: f64) -> Measured;
         pub fn cad_escapes_body(p: *const f32, pn: usize, n: *const f32, nn: usize, i: *const u32, ni: usize, x0: f64, y0: f64, z0: f64, x1: f64, y1: f64, z1: f64) -> Judged;
+        pub fn cad_turn(rows: *const u32, rows_len: usize, p: *const f32, pn: usize, n: *mut f32, nn: usize, i: *mut u32, ni: usize, work: *mut u64, work_len: usize) -> Turned;
     }
 }
 
@@ -87,5 +97,24 @@ impl Lone {
         let (p, n, i) = (&self.positions, &self.normals, &self.indices);
         let (a, c) = (b.min, b.max);
         unsafe { raw::cad_escapes_body(p.as_ptr(), p.len(), n.as_ptr(), n.len(), i.as_ptr(), i.len(), a.x, a.y, a.z, c.x, c.y, c.z) }
+    }
+}
+
+/// A body turned where it stands.
+pub fn turn(body: &mut Flat, work: &mut [u64]) -> Turned {
+    let (rows, p, n, i) = (&body.rows, &body.positions, &mut body.normals, &mut body.indices);
+    unsafe {
+        raw::cad_turn(
+            rows.as_ptr(),
+            rows.len(),
+            p.as_ptr(),
+            p.len(),
+            n.as_mut_ptr(),
+            n.len(),
+            i.as_mut_ptr(),
+            i.len(),
+            work.as_mut_ptr(),
+            work.len(),
+        )
     }
 }

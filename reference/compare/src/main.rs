@@ -1,174 +1,177 @@
-//! Holds the proved library against the unchanged Rust on generated bodies: keys, cells, volumes, reach, escapes, and the float
-//! steps against the processor's own.
+//! Holds the proved library against the unchanged Rust on generated bodies: turning with its refusals, each patch alone, and the
+//! float steps against the processor's own.
 
-mod library;
+mod faults;
+mod patches;
+mod smallest;
+mod steps;
+mod turning;
 
-use cad_tess::face::{Patch, patch_of, probe};
-use driver::check::check;
-use driver::finish::{box_of, outcome_of};
-use driver::generate::{KINDS, body_of};
+use driver::check::{MOST_INDICES, MOST_ROWS, check};
+use driver::command::fail;
+use driver::generate::{KINDS, Kind, LARGE, body_of, kind};
 use driver::print;
 use driver::random::Random;
-use driver::sheet::{Row, Sheet};
-use driver::source;
-use library::Lone;
+use driver::sheet::{BENCH, Sheet, parse};
+use smallest::smallest;
+use std::io::IsTerminal;
+use std::time::{Duration, Instant};
 
-const USAGE: &str = "usage: compare FIRST LAST [SIZE]   the bodies of every kind with the seeds FIRST to LAST";
+const USAGE: &str = "usage: compare FIRST LAST [SIZE]
+       compare --large FIRST LAST [TRIANGLES]
+The bodies of every kind with the seeds FIRST to LAST, small ones and some of a size that goes with the seed, or only those of SIZE
+pieces on each shape, 4096 at most. In the end, one body of every large kind with 100000 triangles and one at every limit.
+With --large only bodies of the large kinds, with TRIANGLES triangles, 262144 at most; 100000 if left out.";
 
-fn lone(row: &Row) -> Lone {
-    let flat = |points: &[[u32; 3]]| points.iter().flatten().map(|b| f32::from_bits(*b)).collect();
-    Lone { positions: flat(&row.positions), normals: flat(&row.normals), indices: row.indices.clone() }
+/// Pieces on each shape, one of these for each seed besides the small body.
+const SIZES: [usize; 9] = [1, 2, 3, 5, 8, 13, 21, 34, 60];
+
+/// Triangles of the bodies that enclose nothing, for which every rounding of V counts: all of these for each seed.
+const NOTHING: [usize; 4] = [18, 24, 32, 500];
+const MANY_TRIANGLES: usize = 100_000;
+const MOST_TRIANGLES: usize = MOST_INDICES / 3;
+const STEPS_A_SEED: u64 = 1000;
+
+/// How a body was made.
+struct Made<'a> {
+    kind: &'a Kind,
+    seed: u64,
+    size: usize,
 }
 
-/// Equal bits, every NaN being one.
-fn same(a: f64, b: f64) -> bool {
-    a.to_bits() == b.to_bits() || (a.is_nan() && b.is_nan())
+/// What has been compared so far.
+struct Tally {
+    bodies: u64,
+    rows: u64,
+    refusals: u64,
+    steps: u64,
+    triangles: usize,
+    shown: Instant,
 }
 
-/// What a row's answers should be and are, where they differ.
-fn differing(row: &Row, patch: &Patch, sheet: &Sheet) -> Option<String> {
-    let reference = box_of(sheet);
-    let own = lone(row);
-    for p in &patch.positions {
-        if library::key(*p) != source::key(p) || p.iter().any(|v| library::cell(*v) != source::cell(*v)) {
-            return Some(format!("key or cell of {p:?}"));
+impl Tally {
+    fn new() -> Tally {
+        Tally { bodies: 0, rows: 0, refusals: 0, steps: 0, triangles: 0, shown: Instant::now() }
+    }
+
+    fn add(&mut self, sheet: &Sheet, refusals: u64) {
+        self.bodies += 1;
+        self.rows += sheet.rows.len() as u64;
+        self.refusals += refusals;
+        self.triangles = self.triangles.max(sheet.indices() / 3);
+    }
+
+    /// One line on a terminal, written over and over.
+    fn show(&mut self, made: &Made) {
+        if self.shown.elapsed() > Duration::from_millis(200) && std::io::stderr().is_terminal() {
+            self.shown = Instant::now();
+            eprint!("\r\x1b[Kcompare: {} bodies, {} refusals, now {} of seed {}", self.bodies, self.refusals, made.kind.name, made.seed);
         }
     }
-    for flip in [false, true] {
-        let (ours, theirs) = (own.volume(flip), probe::patch_volume(patch, flip));
-        if ours.refusal != 0 || !same(ours.value, theirs) {
-            return Some(format!("volume {theirs:?}, not {ours:?}"));
-        }
-    }
-    let (ours, theirs) = (own.farthest(&reference), probe::farthest(patch, &reference));
-    if ours.refusal != 0 || !same(ours.value, theirs) {
-        return Some(format!("reach {theirs:?}, not {ours:?}"));
-    }
-    let (ours, theirs) = (own.escapes(&reference), probe::escapes_body(patch, &reference));
-    (ours.refusal != 0 || (ours.verdict != 0) != theirs).then(|| format!("escape {theirs}, not {ours:?}"))
-}
 
-/// A patch spoiled in a way that document 01 refuses, with the number.
-fn spoiled(own: &Lone, r: &mut Random) -> Option<(Lone, u32)> {
-    let mut bad = own.clone();
-    if bad.positions.is_empty() || bad.indices.is_empty() {
-        return None;
-    }
-    let number = match r.below(6) {
-        0 => {
-            bad.positions.pop();
-            14
+    fn end_line() {
+        if std::io::stderr().is_terminal() {
+            eprint!("\r\x1b[K");
         }
-        1 => {
-            bad.normals.push(0.0);
-            14
-        }
-        2 => {
-            bad.indices.push(u32::MAX);
-            21
-        }
-        3 => {
-            bad.indices[0] = (bad.positions.len() / 3) as u32;
-            22
-        }
-        4 => {
-            bad.positions[0] = f32::INFINITY;
-            23
-        }
-        _ => {
-            bad.normals[0] = f32::NAN;
-            23
-        }
-    };
-    Some((bad, number))
-}
-
-fn refusals_differ(row: &Row, sheet: &Sheet, r: &mut Random) -> Option<String> {
-    let (bad, number) = spoiled(&lone(row), r)?;
-    let reference = box_of(sheet);
-    let (v, f, e) = (bad.volume(false), bad.farthest(&reference), bad.escapes(&reference));
-    let whole = [v.refusal, f.refusal, e.refusal] == [number; 3] && v.value.to_bits() == 0 && f.value.to_bits() == 0 && e.verdict == 0;
-    (!whole).then(|| format!("refusal {number}, not {v:?} {f:?} {e:?}"))
-}
-
-const NAN64: u64 = 0x7FF8_0000_0000_0000;
-
-fn one_nan(x: f64) -> u64 {
-    if x.is_nan() { NAN64 } else { x.to_bits() }
-}
-
-fn larger(x: f64, y: f64) -> u64 {
-    match (x.is_nan(), y.is_nan()) {
-        (true, _) => one_nan(y),
-        (_, true) => x.to_bits(),
-        _ if x == 0.0 && y == 0.0 => x.to_bits() & y.to_bits(),
-        _ => x.max(y).to_bits(),
     }
 }
 
-/// A bit pattern: any, or one near a whole number, a tie, a power of two or an end of a format.
-fn pattern(r: &mut Random) -> u64 {
-    let special =
-        [0.0, 1.0, 0.5, 1.5, 2.5, 4503599627370497.5, f64::INFINITY, f64::MIN_POSITIVE, 1.401298464324817e-45, 3.4028235677973366e38];
-    match r.below(4) {
-        0 => r.next(),
-        1 => (r.pick(&special).to_bits() ^ (r.next() & 0x8000_0000_0000_0000)).wrapping_add(r.below(5)).wrapping_sub(2),
-        2 => ((r.unit() - 0.5) * 1e6).to_bits(),
-        _ => ((r.next() as f32).to_bits() as u64) << r.below(33),
+/// How many refusals of a body were compared, or where it differs. The random numbers are those of the seed, so that it can be asked again.
+fn compared(sheet: &Sheet, seed: u64) -> Result<u64, String> {
+    let r = &mut Random::new(seed);
+    match turning::differs(sheet, r).or_else(|| patches::differ(sheet, r)) {
+        Some(what) => Err(what),
+        None => turning::refusals(sheet, r),
     }
 }
 
-fn steps_differ(r: &mut Random) -> Option<String> {
-    let (a, b) = (pattern(r), pattern(r));
-    let (x, y, n) = (f64::from_bits(a), f64::from_bits(b), a as u32);
-    let narrowed = if x.is_nan() { 0x7FC0_0000 } else { (x as f32).to_bits() };
-    let checks = [
-        ("widen", library::widen(n), one_nan(f32::from_bits(n) as f64)),
-        ("narrow", library::narrow(a) as u64, narrowed as u64),
-        ("sqrt", library::sqrt(a), one_nan(x.sqrt())),
-        ("round", library::round(a), one_nan(x.round())),
-        ("larger", library::larger(a, b), larger(x, y)),
-    ];
-    checks
-        .iter()
-        .find(|(_, ours, theirs)| ours != theirs)
-        .map(|(name, ours, theirs)| format!("{name} of {a:016X} {b:016X}: {theirs:016X}, not {ours:016X}"))
+/// Say where a body differs, with the smallest such body as a sheet if it is one, and end.
+fn report(made: &Made, sheet: &Sheet, what: &str) -> ! {
+    Tally::end_line();
+    let Made { kind, seed, size } = made;
+    let least = smallest(sheet, |s| compared(s, *seed).is_err());
+    let text = print::sheet(&least);
+    if parse(text.as_bytes(), Some(&BENCH)).is_err() {
+        fail(&format!("compare: kind {}, seed {seed}, size {size}: {what}", kind.name));
+    }
+    let why = compared(&least, *seed).expect_err("it still differs");
+    print!("{text}");
+    fail(&format!("compare: the sheet above, made of kind {}, seed {seed}, size {size}: {why}", kind.name))
 }
 
-fn body_differs(sheet: &Sheet, r: &mut Random) -> Option<String> {
-    sheet.rows.iter().enumerate().find_map(|(i, row)| {
-        let patch = patch_of(outcome_of(row)).ok()?;
-        let at = |what: String| format!("row {i}: {what}");
-        differing(row, &patch, sheet).map(at).or_else(|| refusals_differ(row, sheet, r).map(at))
-    })
+fn compare_body(made: &Made, tally: &mut Tally) {
+    let Some(sheet) = body_of(made.kind, made.seed, made.size).filter(|s| check(s).is_ok()) else { return };
+    tally.show(made);
+    match compared(&sheet, made.seed) {
+        Ok(refusals) => tally.add(&sheet, refusals),
+        Err(what) => report(made, &sheet, &what),
+    }
+}
+
+fn named(name: &str) -> &'static Kind {
+    kind(name).expect("a kind of the generator")
+}
+
+fn compare_kinds(kinds: &[Kind], seed: u64, size: usize, tally: &mut Tally) {
+    for kind in kinds {
+        compare_body(&Made { kind, seed, size }, tally);
+    }
+}
+
+fn compare_steps(seed: u64, tally: &mut Tally) {
+    let r = &mut Random::new(!seed);
+    for _ in 0..STEPS_A_SEED {
+        if let Some(what) = steps::differ(r) {
+            Tally::end_line();
+            fail(&format!("compare: {what}"));
+        }
+        tally.steps += 5;
+    }
+}
+
+/// The bodies of a run without --large.
+fn compare_all(first: u64, last: u64, size: Option<usize>, tally: &mut Tally) {
+    for seed in first..=last {
+        let sizes = size.map_or(vec![0, SIZES[(seed % SIZES.len() as u64) as usize]], |s| vec![s]);
+        for size in sizes {
+            compare_kinds(KINDS, seed, size, tally);
+        }
+        for size in NOTHING {
+            compare_body(&Made { kind: named("large-nothing"), seed, size }, tally);
+        }
+        compare_steps(seed, tally);
+    }
+    compare_kinds(LARGE, first, MANY_TRIANGLES, tally);
+    compare_body(&Made { kind: named("large-full"), seed: first, size: MOST_TRIANGLES }, tally);
+}
+
+/// The first and the last seed and a size that is not above a limit.
+fn numbers(words: &[String], most: usize) -> (u64, u64, Option<usize>) {
+    let numbers: Option<Vec<u64>> = words.iter().map(|w| w.parse().ok()).collect();
+    match numbers.as_deref() {
+        Some([first, last]) if first <= last => (*first, *last, None),
+        Some([first, last, size]) if first <= last && *size <= most as u64 => (*first, *last, Some(*size as usize)),
+        _ => fail(USAGE),
+    }
 }
 
 fn main() {
-    let numbers: Option<Vec<u64>> = std::env::args().skip(1).map(|a| a.parse().ok()).collect();
-    let (first, last, size) = match numbers.as_deref() {
-        Some([first, last]) => (*first, *last, 0),
-        Some([first, last, size]) => (*first, *last, *size as usize),
-        _ => driver::command::fail(USAGE),
-    };
-    let mut r = Random::new(first ^ last.rotate_left(32));
-    let (mut bodies, mut rows) = (0u64, 0u64);
-    for seed in first..=last {
-        for sheet in KINDS.iter().filter_map(|k| body_of(k, seed, size)).filter(|s| check(s).is_ok()) {
-            if let Some(what) = body_differs(&sheet, &mut r) {
-                print!("{}", print::sheet(&sheet));
-                driver::command::fail(&format!("compare: seed {seed}: {what}"));
-            }
-            bodies += 1;
-            rows += sheet.rows.len() as u64;
+    let words: Vec<String> = std::env::args().skip(1).collect();
+    let tally = &mut Tally::new();
+    match words.split_first() {
+        Some((word, _)) if word == "--help" => return println!("{USAGE}"),
+        Some((word, rest)) if word == "--large" => {
+            let (first, last, size) = numbers(rest, MOST_TRIANGLES);
+            (first..=last).for_each(|seed| compare_kinds(LARGE, seed, size.unwrap_or(MANY_TRIANGLES), tally));
         }
-        for _ in 0..1000 {
-            if let Some(what) = steps_differ(&mut r) {
-                driver::command::fail(&format!("compare: {what}"));
-            }
-        }
-        if (seed - first) % 200 == 199 {
-            eprintln!("compare: {bodies} bodies");
+        _ => {
+            let (first, last, size) = numbers(&words, MOST_ROWS);
+            compare_all(first, last, size, tally);
         }
     }
-    println!("compare: {bodies} bodies, {rows} rows, {} float steps: no difference", (last - first + 1) * 5000);
+    Tally::end_line();
+    let Tally { bodies, rows, refusals, steps, triangles, .. } = tally;
+    println!(
+        "compare: {bodies} bodies of up to {triangles} triangles, {rows} rows, {refusals} refusals, {steps} float steps: no difference"
+    );
 }

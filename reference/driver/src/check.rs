@@ -1,5 +1,7 @@
-//! The checks of document 01 that a sheet's body can fail, in table order, each over the whole body before the next.
+//! The checks of document 01, in table order, each over the whole body before the next: those that a sheet's body can fail, and
+//! those of a call that is lent slices.
 
+use crate::flat::{Flat, ROW};
 use crate::sheet::{Refusal, Row, Sheet};
 
 pub const MOST_ROWS: usize = 4096;
@@ -36,4 +38,43 @@ pub fn check(sheet: &Sheet) -> Result<(), Refusal> {
         return Err(Refusal::new(23, format!("row {i}: a position or normal isn't finite")));
     }
     Ok(())
+}
+
+/// Whether every index of a body lies below its row's vertex count.
+fn indices_lie_below(table: &[&[u32]], indices: &[u32]) -> bool {
+    let mut rest = indices;
+    table.iter().all(|row| {
+        let (own, others) = rest.split_at(row[4] as usize);
+        rest = others;
+        own.iter().all(|index| *index < row[3])
+    })
+}
+
+/// The first of the checks 11 to 31 that a lent body and a work area of so many words fail, or 0.
+pub fn refusal(body: &Flat, words: usize) -> u32 {
+    let table: Vec<&[u32]> = body.rows.chunks(ROW).collect();
+    if !body.rows.len().is_multiple_of(ROW) || table.len() > MOST_ROWS {
+        return 11;
+    }
+    if table.iter().any(|row| row[2] > 255 || (row[2] != 0 && (row[3] != 0 || row[4] != 0))) {
+        return 12;
+    }
+    let total = |column: usize| table.iter().map(|row| row[column] as usize).sum::<usize>();
+    let (vertices, indices) = (total(3), total(4));
+    if vertices > MOST_VERTICES || indices > MOST_INDICES {
+        return 13;
+    }
+    if body.positions.len() != 3 * vertices || body.normals.len() != 3 * vertices || body.indices.len() != indices {
+        return 14;
+    }
+    if table.iter().any(|row| row[4] % 3 != 0) {
+        return 21;
+    }
+    if !indices_lie_below(&table, &body.indices) {
+        return 22;
+    }
+    if !body.positions.iter().chain(&body.normals).all(|v| finite(v.to_bits())) {
+        return 23;
+    }
+    if words < 16 * indices + 16 * table.len() + 4 * vertices { 31 } else { 0 }
 }

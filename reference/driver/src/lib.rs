@@ -4,6 +4,7 @@ pub mod check;
 pub mod command;
 pub mod condition;
 pub mod finish;
+pub mod flat;
 pub mod generate;
 pub mod print;
 pub mod random;

@@ -1,9 +1,11 @@
 //! The bench cases of document 01 that a sheet can show, its worked example, and the tools' own rules.
 
 use cad_tess::face::{patch_of, probe};
+use driver::check::{check, refusal};
 use driver::command::answer;
 use driver::finish::outcome_of;
-use driver::generate::{KINDS, generate, kind};
+use driver::flat::Flat;
+use driver::generate::{KINDS, LARGE, body_of, generate, kind};
 use driver::print;
 use driver::sheet::{BENCH, parse};
 use driver::source::{cell, key};
@@ -117,4 +119,44 @@ fn sizes_grow_a_body() {
     let torus = kind("torus").expect("a kind");
     let body = driver::generate::body_of(torus, 1, 40).expect("a body");
     assert_eq!(body.indices(), 40 * 40 * 6);
+}
+
+#[test]
+fn large_kinds_keep_to_their_triangles_and_the_limits() {
+    for k in LARGE {
+        for (seed, triangles) in [(1, 1000), (2, 30_000)] {
+            let body = body_of(k, seed, triangles).expect("a body");
+            assert!(check(&body).is_ok() && body.indices() > 0 && body.indices() <= 3 * triangles, "{} {seed}", k.name);
+        }
+    }
+    let full = body_of(kind("large-full").expect("a kind"), 1, 262_144).expect("a body");
+    assert_eq!((full.rows.len(), full.vertices(), full.indices()), (4096, 262_144, 786_432));
+}
+
+/// A change to a lent body, and the number that it gives.
+type Change = (fn(&mut Flat), u32);
+
+#[test]
+fn slices_are_refused_with_their_numbers() {
+    let body = Flat::of(&parse(&sheet_text("K7"), None).expect("a sheet"));
+    let words = body.words();
+    let changes: [Change; 10] = [
+        (|_| (), 0),
+        (|b| b.rows.truncate(9), 11),
+        (|b| b.rows.resize(5 * 4097, 0), 11),
+        (|b| b.rows[2] = 256, 12),
+        (|b| b.rows[2] = 1, 12),
+        (|b| b.rows[3] = u32::MAX, 13),
+        (|b| b.normals.push(0.0), 14),
+        (|b| (b.rows[4], b.rows[9]) = (4, 5), 21),
+        (|b| b.indices[2] = 3, 22),
+        (|b| b.positions[0] = f32::NEG_INFINITY, 23),
+    ];
+    for (change, number) in changes {
+        let mut other = body.clone();
+        change(&mut other);
+        assert_eq!(refusal(&other, words), number);
+    }
+    assert_eq!(words, 16 * 9 + 16 * 2 + 4 * 9);
+    assert_eq!(refusal(&body, words - 1), 31);
 }

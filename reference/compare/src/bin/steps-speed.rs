@@ -1,9 +1,6 @@
 //! Times the float steps beside the processor's own, in one run: the median of some rounds, in nanoseconds a step.
 
-#[path = "../library.rs"]
-#[allow(dead_code)]
-mod library;
-
+use compare::library;
 use driver::random::Random;
 use std::hint::black_box;
 use std::time::Instant;

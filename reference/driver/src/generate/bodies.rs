@@ -42,8 +42,12 @@ pub fn prism(r: &mut Random, size: usize) -> Sheet {
     one(r, lathe(n, &[(10.0, 0.0), (10.0, 25.0)]).merged(every))
 }
 
+/// The longest side of a square torus whose indices keep within the limit.
+const MOST_SIDE: usize = 362;
+
 pub fn torus(r: &mut Random, size: usize) -> Sheet {
-    let (m, n) = if size == 0 { (r.size(3, 4), r.size(3, 4)) } else { (size, size) };
+    let side = size.min(MOST_SIDE);
+    let (m, n) = if size == 0 { (r.size(3, 4), r.size(3, 4)) } else { (side, side) };
     let every = if size == 0 { *r.pick(&[1, 2, 4]) } else { (m * n).div_ceil(r.size(2, 900)) };
     one(r, torus_shape(m, n, 30.0, 10.0).merged(every))
 }

@@ -2,6 +2,7 @@
 
 mod bodies;
 mod edges;
+pub mod large;
 mod shapes;
 mod texts;
 
@@ -10,7 +11,7 @@ use crate::random::Random;
 use crate::sheet::Sheet;
 
 enum Maker {
-    /// A body of about so many pieces on each shape.
+    /// A body of about so many pieces on each shape, or of so many triangles at most.
     Body(fn(&mut Random, usize) -> Sheet),
     /// A text that may be no sheet at all.
     Text(fn(&mut Random) -> Vec<u8>),
@@ -64,6 +65,22 @@ pub const KINDS: &[Kind] = &[
     text("malformed", "texts that are no sheet: 51", texts::malformed),
 ];
 
+/// Kinds whose size is a number of triangles, for bodies up to the limits of document 01.
+pub const LARGE: &[Kind] = &[
+    body("large-torus", "a closed torus in up to 4,096 rows, wound at random", large::closed),
+    body("large-open", "a torus with every fifth row left out", large::open),
+    body("large-far", "a closed torus four kilometres from the origin", large::far),
+    body("large-flat", "a plane grid, through the origin or beside it", large::flat),
+    body("large-nothing", "a closed torus flattened onto a plane, so that rounding decides the sign of V", large::flattened),
+    body("large-twisted", "a band closed with a half twist, whose rows cannot all agree", large::twisted),
+    body("large-shells", "many closed shapes, some at one place, some of one shell", large::shells),
+    body("large-soup", "triangles on a grid, in no order, with many users an edge", large::soup),
+    body("large-pinwheel", "rows around one edge that all triangles use", large::pinwheel),
+    body("large-row", "all triangles on one row", large::one_row),
+    body("large-points", "as many vertices as a body may have, on few triangles", large::points),
+    body("large-full", "as many rows and vertices as a body may have; 262,144 triangles are as many indices", large::full),
+];
+
 /// The sheet of a kind and a seed, as text; a size of 0 is a small body within the bench program's limits.
 pub fn generate(kind: &Kind, seed: u64, size: usize) -> Vec<u8> {
     match kind.maker {
@@ -81,7 +98,7 @@ pub fn body_of(kind: &Kind, seed: u64, size: usize) -> Option<Sheet> {
 }
 
 pub fn kind(name: &str) -> Option<&'static Kind> {
-    KINDS.iter().find(|k| k.name == name)
+    KINDS.iter().chain(LARGE).find(|k| k.name == name)
 }
 
 /// Each kind has random numbers of its own.

@@ -121,6 +121,18 @@ pub fn torus(m: usize, n: usize, major: f64, minor: f64) -> Shape {
     s
 }
 
+/// A band of m by n quadrilaterals, its points placed by their two numbers, which run to m and n.
+pub fn band(m: usize, n: usize, at: impl Fn(usize, usize) -> Point) -> Shape {
+    let mut s = Shape { points: (0..=m).flat_map(|i| (0..=n).map(move |j| (i, j))).map(|(i, j)| at(i, j)).collect(), faces: Vec::new() };
+    let number = |i: usize, j: usize| i * (n + 1) + j;
+    for i in 0..m {
+        for j in 0..n {
+            s.quad(number(i, j), number(i + 1, j), number(i + 1, j + 1), number(i, j + 1));
+        }
+    }
+    s
+}
+
 pub fn bits(p: Point) -> [u32; 3] {
     p.map(|v| (v as f32).to_bits())
 }
@@ -159,15 +171,21 @@ pub fn turn(row: &mut Row) {
     row.normals.iter_mut().flatten().for_each(|v| *v ^= 0x8000_0000);
 }
 
-/// The rows of a shape, some of them turned, faces numbered on from a first.
-pub fn rows(r: &mut Random, shape: &Shape, shell: u32, first: u32) -> Vec<Row> {
-    let percent = *r.pick(&[0, 20, 50, 100]);
+/// The rows of a shape, about so many of a hundred turned, faces numbered on from a first.
+pub fn wound_rows(r: &mut Random, shape: &Shape, shell: u32, first: u32, percent: u64) -> Vec<Row> {
     let mut rows: Vec<Row> = shape.faces.iter().enumerate().map(|(k, f)| row(shape, f, shell, first + k as u32)).collect();
     for row in &mut rows {
         if r.chance(percent) {
             turn(row);
         }
     }
+    rows
+}
+
+/// The rows of a shape, some of them turned, in order or not, faces numbered on from a first.
+pub fn rows(r: &mut Random, shape: &Shape, shell: u32, first: u32) -> Vec<Row> {
+    let percent = *r.pick(&[0, 20, 50, 100]);
+    let mut rows = wound_rows(r, shape, shell, first, percent);
     if r.chance(30) {
         shuffle(r, &mut rows);
     }
