@@ -70,6 +70,16 @@ pub vertices-next : (table : List ℕ) (k : ℕ) → k < length (rowsOf table) �
 unfolding verticesBefore allVertices rowAt
 vertices-next table k h = sum-more (λ r. r .vertices) (rowsOf table) k noRow h
 
+-- a front's vertices are among all
+pub vertices-front : (rows : List Row) (k : ℕ) → verticesBefore rows k ≤ allVertices rows
+unfolding verticesBefore allVertices
+vertices-front rows k = sum-front (λ r. r .vertices) rows k
+
+-- so are its indices
+pub indices-front : (rows : List Row) (k : ℕ) → indicesBefore rows k ≤ allIndices rows
+unfolding indicesBefore allIndices
+indices-front rows k = sum-front (λ r. r .indices) rows k
+
 -- a row's indices end within all
 pub indices-room : (rows : List Row) (k : ℕ) → k < length rows → indicesBefore rows k + getD rows k noRow .indices ≤ allIndices rows
 unfolding indicesBefore allIndices

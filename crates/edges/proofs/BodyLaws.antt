@@ -6,11 +6,11 @@ use native.Mathlib.Omega.{arith}
 use lib.ListN.{length, getD, take, drop, replicate, length-append, length-take, length-drop, length-replicate, drop-of-length-le}
 use lib.Seq.{sets, length-sets, drop-cons, drop-drop, getD-drop, getD-take, length-take-le}
 use Rattle.lists.specs.Lists.{sumOf}
-use Rattle.lists.specs.Any.{sum-front, sum-all}
+use Rattle.lists.specs.Any.{sum-all}
 use Rattle.lists.specs.Sets.{getD-sets-below, sets-append}
 use Rattle.body.specs.Body.{Row, Triangle, rowsOf, trianglesOf, allVertices, allIndices}
 use Rattle.body.specs.Rows.{noRow, rowAt, verticesBefore, indicesBefore}
-use Rattle.body.specs.Patches.{vertices-next, indices-next}
+use Rattle.body.specs.Patches.{vertices-next, indices-next, vertices-front, indices-front}
 use Rattle.edges.specs.Edges.{Use, triangleUses}
 use Rattle.edges.specs.RowUses.{uses-agree, names-any-row, runs-any, uses-count}
 use Rattle.edges.specs.Named.{useName, useRun, rowUses, rowNumbers, RowReady, NameReady, BodyReady, NamesReady, RowsRoom}
@@ -23,14 +23,6 @@ module _ (table : List ℕ) (k : ℕ) (h : k < length (rowsOf table)) where
   pub rows-here : drop k (rowsOf table) ≡ rowAt table k ∷ drop (k + 1) (rowsOf table)
   unfolding rowAt
   rows-here = let e : suc k ≡ k + 1 = omega arith in drop-cons (rowsOf table) k noRow h ∙ ap (λ (n : ℕ). getD (rowsOf table) k noRow ∷ drop n (rowsOf table)) e
-
-pub vertices-front : (rows : List Row) (k : ℕ) → verticesBefore rows k ≤ allVertices rows
-unfolding verticesBefore allVertices
-vertices-front rows k = sum-front (λ r. r .vertices) rows k
-
-pub indices-front : (rows : List Row) (k : ℕ) → indicesBefore rows k ≤ allIndices rows
-unfolding indicesBefore allIndices
-indices-front rows k = sum-front (λ r. r .indices) rows k
 
 pub indices-end : (rows : List Row) (k : ℕ) → length rows ≤ k → indicesBefore rows k ≡ allIndices rows
 unfolding indicesBefore allIndices

@@ -69,7 +69,7 @@ pub record Inside (rows : List Row) (is : List ℕ) : Type 0 where
   pub below : (k : ℕ) → k < length rows → (j : ℕ) → j < getD rows k noRow .indices → getD is (indicesBefore rows k + j) 0 < getD rows k noRow .vertices
 
 -- so are those of the rows behind the first
-inside-rest : (r : Row) (rs : List Row) (is : List ℕ) → Inside (r ∷ rs) is → Inside rs (drop (r .indices) is)
+pub inside-rest : (r : Row) (rs : List Row) (is : List ℕ) → Inside (r ∷ rs) is → Inside rs (drop (r .indices) is)
 unfolding indicesBefore allIndices sumOf
 inside-rest r rs is h =
     record {
@@ -79,7 +79,7 @@ inside-rest r rs is h =
     }
 
 -- the first row's indices are of its vertices
-inside-first : (r : Row) (rs : List Row) (is : List ℕ) → Inside (r ∷ rs) is → (j : ℕ) → j < length (take (r .indices) is) → getD (take (r .indices) is) j 0 < r .vertices
+pub inside-first : (r : Row) (rs : List Row) (is : List ℕ) → Inside (r ∷ rs) is → (j : ℕ) → j < length (take (r .indices) is) → getD (take (r .indices) is) j 0 < r .vertices
 unfolding indicesBefore allIndices sumOf
 inside-first r rs is h j l =
     let m : j < r .indices = omega (arith, length-take (r .indices) is) in

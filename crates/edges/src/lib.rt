@@ -10,5 +10,6 @@ pub use bodies::list_rows;
 pub use bodies::list_runs;
 pub use bodies::name_uses;
 pub use counts::count_uses;
+pub use rows::fill;
 pub use rows::name_row;
 pub use users::first_users;

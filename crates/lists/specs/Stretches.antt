@@ -4,7 +4,7 @@ use mathlib.Core.List.{List, [], _∷_, _++_, append-assoc}
 use Prim.Native.Nat.{ℕ, zero, suc, _+_, _-_, _<_, _≤_}
 use native.Mathlib.Omega.{arith}
 use lib.ListN.{length, getD, take, drop, length-drop, List·getD-append}
-use lib.Seq.{sets, sets-eq, getD-take, getD-drop, take-take, drop-drop, take-at, drop-at, take-append-le, drop-append-le, length-take-le}
+use lib.Seq.{sets, sets-eq, drop-cons, getD-take, getD-drop, take-take, drop-drop, take-at, drop-at, take-append-le, drop-append-le, length-take-le}
 use borrow.Rule.Slice.PartMut.{midOf, postOf, putMid, take-put, drop-put, mid-len}
 
 module _ {A : Type 0} where
@@ -37,9 +37,36 @@ module _ {A : Type 0} where
   pub front-at : (q k : ℕ) (W E : List A) (x : A) → take q E ≡ take q W → k < q → getD E k x ≡ getD W k x
   front-at q k W E x e l = sym (getD-take q E k x l) ∙ ap (λ (v : List A). getD v k x) e ∙ getD-take q W k x l
 
+  -- a word behind what was written is as it was
+  pub rest-at : (b k : ℕ) (W E : List A) (x : A) → drop b E ≡ drop b W → b ≤ k → getD E k x ≡ getD W k x
+  rest-at b k W E x e l =
+      let gap : b + (k - b) ≡ k = omega arith in
+      ap (λ (n : ℕ). getD E n x) (sym gap)
+      ∙ sym (getD-drop b E (k - b) x)
+      ∙ ap (λ (v : List A). getD v (k - b) x) e
+      ∙ getD-drop b W (k - b) x
+      ∙ ap (λ (n : ℕ). getD W n x) gap
+
   -- a word of a stretch
   pub stretch-at : (k n : ℕ) (W : List A) (j : ℕ) (x : A) → j < n → getD (take n (drop k W)) j x ≡ getD W (k + j) x
   stretch-at k n W j x l = getD-take n (drop k W) j x l ∙ getD-drop k W j x
+
+  -- the stretch from k up to `to` begins with word k
+  pub stretch-cons : (W : List A) (k to : ℕ) (x : A) → k < to → to ≤ length W → take (to - k) (drop k W) ≡ getD W k x ∷ take (to - (k + 1)) (drop (k + 1) W)
+  stretch-cons W k to x l h =
+      let e : to - k ≡ suc (to - (k + 1)) = omega arith in
+      let f : suc k ≡ k + 1 = omega arith in
+      ap (λ (n : ℕ). take n (drop k W)) e ∙ ap (take (suc (to - (k + 1)))) (drop-cons W k x (omega arith)) ∙ ap (λ (n : ℕ). getD W k x ∷ take (to - (k + 1)) (drop n W)) f
+
+  -- and with the two behind it
+  pub stretch-three : (W : List A) (k to : ℕ) (x : A) → k + 3 ≤ to → to ≤ length W
+      → take (to - k) (drop k W) ≡ getD W k x ∷ getD W (k + 1) x ∷ getD W (k + 2) x ∷ take (to - (k + 3)) (drop (k + 3) W)
+  stretch-three W k to x l h =
+      let e : k + 1 + 1 ≡ k + 2 = omega arith in
+      let f : k + 2 + 1 ≡ k + 3 = omega arith in
+      stretch-cons W k to x (omega arith) h
+      ∙ ap (λ (v : List A). getD W k x ∷ v) (stretch-cons W (k + 1) to x (omega arith) h ∙ ap (λ (n : ℕ). getD W (k + 1) x ∷ take (to - n) (drop n W)) e)
+      ∙ ap (λ (v : List A). getD W k x ∷ getD W (k + 1) x ∷ v) (stretch-cons W (k + 2) to x (omega arith) h ∙ ap (λ (n : ℕ). getD W (k + 2) x ∷ take (to - n) (drop n W)) f)
 
   -- where a run of stores stands is what was stored
   pub stretch-sets : (W : List A) (at : ℕ) (vs : List A) (n : ℕ) → length vs ≡ n → at + n ≤ length W → take n (drop at (sets W at vs)) ≡ vs

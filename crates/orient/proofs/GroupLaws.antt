@@ -2,11 +2,11 @@
 use mathlib.Core.Path.{_≡_, sym, ap, _∙_}
 use mathlib.Core.Bool.{Bool, true, false, cond}
 use mathlib.Core.List.{List}
-use Prim.Native.Nat.{ℕ, _+_, _-_, _*_, _≤_}
+use Prim.Native.Nat.{ℕ, _+_, _*_}
 use native.Mathlib.Omega.{arith}
-use lib.ListN.{length, getD, drop}
-use lib.Seq.{getD-drop}
+use lib.ListN.{length, drop}
 use lib.Ieee.{Float}
+use Rattle.lists.specs.Stretches.{rest-at}
 use Rattle.geometry.specs.Geometry.{zero64}
 use Rattle.walk.specs.Walk.{inverted}
 use Rattle.walk.specs.Area.{coloursAt, areaEnd}
@@ -15,16 +15,6 @@ use Rattle.walk.specs.Group.{queueOf, coloursOf, GroupWalked, GroupInverted, wa
 use Rattle.orient.specs.Orient.{volumeFrom, inverts, addGroup}
 use Rattle.orient.specs.Measured.{shapes, vertexBasesAt, indexBasesAt, Measurable}
 use Rattle.orient.specs.Settled.{Judgeable, Judged, Settleable, Settled}
-
--- words behind the walk's regions are as they were
-behind : (n m j : ℕ) (W E : List ℕ) → drop (5 * n + 3 * m) E ≡ drop (5 * n + 3 * m) W → 5 * n + 3 * m ≤ j → getD E j 0 ≡ getD W j 0
-behind n m j W E e l =
-    let q : 5 * n + 3 * m + (j - (5 * n + 3 * m)) ≡ j = omega arith in
-    ap (λ k. getD E k 0) (sym q)
-    ∙ sym (getD-drop (5 * n + 3 * m) E (j - (5 * n + 3 * m)) 0)
-    ∙ ap (λ l. getD l (j - (5 * n + 3 * m)) 0) e
-    ∙ getD-drop (5 * n + 3 * m) W (j - (5 * n + 3 * m)) 0
-    ∙ ap (λ k. getD W k 0) q
 
 -- what measuring asks is kept
 pub measurable-kept : {table : List ℕ} {ps : List Float} {is W E : List ℕ} {n m : ℕ} → Measurable table ps is W n m → drop (5 * n + 3 * m) E ≡ drop (5 * n + 3 * m) W → length E ≡ length W → Measurable table ps is E n m
@@ -37,8 +27,8 @@ measurable-kept {table} {ps} {is} {W} {E} {n} {m} g e l =
       indices-few = g .indices-few;
       inside = g .inside;
       room = omega (arith, g .room);
-      vertex-bases = λ k h. behind n m (vertexBasesAt n m + k) W E e (omega arith) ∙ g .vertex-bases k h;
-      index-bases = λ k h. behind n m (indexBasesAt n m + k) W E e (omega arith) ∙ g .index-bases k h;
+      vertex-bases = λ k h. rest-at (5 * n + 3 * m) (vertexBasesAt n m + k) W E 0 e (omega arith) ∙ g .vertex-bases k h;
+      index-bases = λ k h. rest-at (5 * n + 3 * m) (indexBasesAt n m + k) W E 0 e (omega arith) ∙ g .index-bases k h;
     }
 
 module _ {table : List ℕ} {ps : List Float} {is W : List ℕ} {n m t : ℕ} {b : Bool} (j : Judgeable table ps is W n m t)
