@@ -3,5 +3,6 @@ pub mod Floats
 pub mod Narrowing
 pub mod Root
 pub mod SquareRoot
+pub mod RootOrder
 pub mod Cases
 pub mod Evaluation
