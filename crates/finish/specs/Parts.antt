@@ -13,7 +13,9 @@ use Rattle.body.specs.Body.{Patch, rowsOf, patchesOf}
 use Rattle.geometry.specs.declared.Vec3.{Vec3}
 use Rattle.geometry.specs.Geometry.{zero64}
 use Rattle.orient.specs.Orient.{AfterTurn, turnOf}
-use Rattle.stitch.specs.Stitch.{Facet, Side, Loose, Placed, SplitTriangle, AfterStitch, facetsIn, looseIn, sidesOf, splitTriangle, stitchedBodyOf, stitchOrRefuse, clearedSlices}
+use Rattle.loose.specs.Loose.{Facet, Loose, facetsIn, looseIn}
+use Rattle.splits.specs.Splits.{Side, Placed, SplitTriangle, sidesOf, splitTriangle}
+use Rattle.stitch.specs.Stitch.{AfterStitch, stitchedBodyOf, stitchOrRefuse, clearedSlices}
 use Rattle.finish.specs.Finish.{Sheet, Room, Outcome, Refused, area, stitchSlices, assembleNext}
 
 -- turn's answer, normals and indices as numbers

@@ -12,7 +12,9 @@ use Rattle.floats.specs.Floats.{f32, f64, bits32, bits64}
 use Rattle.points.specs.Points.{key}
 use Rattle.body.specs.Given.{Given, at, below, row, triangle, triangleIn, givenTable, givenPositions, givenIndices, K8}
 use Rattle.geometry.specs.Geometry.{sub, zero64, one64}
-use Rattle.stitch.specs.Stitch.{near-end, near-last, least-length, far-end, StitchSlices, AfterStitch, stitchOf, faceIndices}
+use Rattle.projection.specs.Projection.{near-end, least-length, far-end}
+use Rattle.splits.specs.Splits.{near-last}
+use Rattle.stitch.specs.Stitch.{StitchSlices, AfterStitch, stitchOf, faceIndices}
 use Rattle.stitch.specs.Evaluation.{evaluation}
 
 -- slices with room for 9 rows, 99 vertices and 99 indices

@@ -1,0 +1,7 @@
+-- The definitions of open edges and loose points, both in the work area, that the two are one, and the definitions computed.
+pub mod Loose
+pub mod Listed
+pub mod Open
+pub mod Insertions
+pub mod LooseLaws
+pub mod Evaluation

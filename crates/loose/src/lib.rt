@@ -1,0 +1,12 @@
+// Open edges, marked by a flag for each use, and loose points: the corners of triangles with an open edge, listed by key.
+
+mod gather;
+mod list;
+mod open;
+
+pub use gather::any_set;
+pub use gather::corner;
+pub use gather::gather_loose;
+pub use list::insert_vertex;
+pub use list::move_up;
+pub use open::mark_open;

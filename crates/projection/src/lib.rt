@@ -1,0 +1,40 @@
+// Where a point projects on an edge, whether it is near enough to split it, and the normal mixed there.
+
+mod feet;
+mod mixing;
+mod sag;
+
+pub use feet::Projection;
+pub use feet::project;
+use geometry::Vec3;
+pub use mixing::Normal;
+pub use mixing::mixed_normal;
+pub use sag::beyond_of;
+pub use sag::within_sag;
+ghost use mathlib.Core.Path.{_≡_};
+ghost use Rattle.projection.specs.Projection.{edgeOf};
+
+// An edge from a point to another: its start, the way along it, and its squared length.
+pub struct Edge {
+    pub start: Vec3,
+    pub along: Vec3,
+    pub squared: f64,
+}
+
+// Where a point projects on an edge, and its distance from there.
+pub struct Hit {
+    pub t: f64,
+    pub distance: f64,
+}
+
+// The edge p to q.
+pub fn edge_of(p: Vec3, q: Vec3) -> Edge
+    ensures { λ r. ⌜ r ≡ edgeOf p q ⌝ }
+{
+    let d = q.sub(p);
+    Edge {
+        start: p,
+        along: d,
+        squared: d.dot(d),
+    }
+}

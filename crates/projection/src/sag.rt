@@ -1,0 +1,38 @@
+// Whether a point projects into an edge within the sag; a root is taken only where the square of the distance leaves it open.
+
+use crate::Edge;
+use crate::feet::Footing;
+use crate::feet::foot_of;
+use geometry::Vec3;
+ghost use mathlib.Core.Path.{_≡_};
+ghost use Rattle.projection.specs.Beyond.{Beyond};
+ghost use Rattle.projection.specs.Projection.{withinSag};
+
+// A squared distance beyond which a distance is above the sag: 4 times the sag's square, or, where that says nothing, the infinity.
+pub fn beyond_of(sag: f64) -> f64
+    ensures { λ b. ⌜ Beyond sag b ⌝ }
+{
+    let b = 4.0 * sag * sag;
+    if floats::sqrt_f64(b) > sag {
+        return b;
+    }
+    1.0 / 0.0
+}
+
+// Whether r projects into an edge at a distance that isn't above the sag.
+pub fn within_sag(s: Edge, r: Vec3, sag: f64, beyond: f64) -> bool
+    requires { ⌜ Beyond sag beyond ⌝ }
+    ensures { λ o. ⌜ o ≡ withinSag sag s r ⌝ }
+{
+    match foot_of(s, r) {
+        Footing::Outside => false,
+        Footing::Inside(f) => {
+            let off = f.off;
+            let d = off.dot(off);
+            if d > beyond {
+                return false;
+            }
+            !(floats::sqrt_f64(d) > sag)
+        }
+    }
+}

@@ -1,0 +1,221 @@
+-- Laws of the loops that write three numbers for each entry. Assumes nothing.
+use mathlib.Core.Path.{_≡_, refl, sym, ap, _∙_, subst}
+use mathlib.Core.List.{List, [], _∷_, _++_, append-assoc, append-nil}
+use Prim.Native.Nat.{ℕ, zero, suc, _+_, _*_, _/_, _%_, _<_, _≤_}
+use native.Mathlib.Omega.{arith}
+use lib.ListN.{length, getD, set, take, drop, length-append, length-drop}
+use lib.Seq.{sets, sets-eq, length-sets, take-suc, take-at, getD-drop, length-take-le}
+use lib.Ieee.{Float}
+use Rattle.lists.specs.Sets.{sets-append, drop-sets}
+use Rattle.floats.specs.Floats.{f64}
+use Rattle.geometry.specs.declared.Vec3.{Vec3}
+use Rattle.geometry.specs.Geometry.{vertexAt, pointAt, Corners}
+use Rattle.projection.specs.declared.mixing.Normal.{Normal}
+use Rattle.projection.specs.Answers.{normalOf}
+use Rattle.projection.specs.Projection.{mixed}
+use Rattle.splits.specs.Entries.{Entry, entryOf, entriesOf, entriesIn, entryAt}
+use Rattle.rings.specs.Rings.{coordinatesAt, newPositions, newNormals, startOf, endOf}
+use Rattle.rings.specs.Appended.{Appended, VerticesReady, NormalsReady}
+use Rattle.rings.specs.VertexSteps.{PointReady}
+
+-- three stores in turn are a run
+pub three-stored : (out : List Float) (k : ℕ) (x y z : Float) → set (set (set out k x) (k + 1) y) (k + 2) z ≡ sets out k (x ∷ y ∷ z ∷ [])
+three-stored out k x y z =
+    let e1 : k + 1 ≡ suc k = omega arith in
+    let e2 : k + 2 ≡ suc (suc k) = omega arith in
+    rw (e1, e2)
+
+-- ---- the corners of an edge
+
+-- an edge that is neither of the first two runs from c
+pub start-last : (a b c e : ℕ) → (e ≡ 0 → ⊥) → (e ≡ 1 → ⊥) → c ≡ startOf a b c e
+start-last a b c zero n m = absurd (n refl)
+start-last a b c (suc zero) n m = absurd (m refl)
+start-last a b c (suc (suc e)) n m = refl
+
+-- and to a
+pub end-last : (a b c e : ℕ) → (e ≡ 0 → ⊥) → (e ≡ 1 → ⊥) → a ≡ endOf a b c e
+end-last a b c zero n m = absurd (n refl)
+end-last a b c (suc zero) n m = absurd (m refl)
+end-last a b c (suc (suc e)) n m = refl
+
+module _ {ns : List Float} {a b c : ℕ} (k : Corners ns a b c) where
+  -- the normals of all corners are there
+  start-in : (e : ℕ) → 3 * startOf a b c e + 2 < length ns
+  start-in zero = k .in-a
+  start-in (suc zero) = k .in-b
+  start-in (suc (suc e)) = k .in-c
+
+  end-in : (e : ℕ) → 3 * endOf a b c e + 2 < length ns
+  end-in zero = k .in-b
+  end-in (suc zero) = k .in-c
+  end-in (suc (suc e)) = k .in-a
+
+  -- the normal of an edge's start is there
+  pub start-inside : (e : ℕ) {p : ℕ} → p ≡ startOf a b c e → 3 * p + 2 < length ns
+  start-inside e h = subst (λ (n : ℕ). 3 * n + 2 < length ns) (sym h) (start-in e)
+
+  -- and that of its end
+  pub end-inside : (e : ℕ) {q : ℕ} → q ≡ endOf a b c e → 3 * q + 2 < length ns
+  end-inside e h = subst (λ (n : ℕ). 3 * n + 2 < length ns) (sym h) (end-in e)
+
+-- the normal mixed from those of an edge's ends
+pub normal-is : (ns : List Float) (a b c e : ℕ) (t : Float) {p q : ℕ} {na nb : Vec3} {r : Normal} → p ≡ startOf a b c e → q ≡ endOf a b c e → na ≡ vertexAt ns (3 * p) → nb ≡ vertexAt ns (3 * q)
+    → normalOf r ≡ mixed na nb t → normalOf r ≡ mixed (pointAt ns (startOf a b c e)) (pointAt ns (endOf a b c e)) t
+normal-is ns a b c e t {p} {q} {na} {nb} ep eq en em k =
+    k
+    ∙ ap (λ (x : Vec3). mixed x nb t) (en ∙ ap (pointAt ns) ep)
+    ∙ ap (λ (x : Vec3). mixed (pointAt ns (startOf a b c e)) x t) (em ∙ ap (pointAt ns) eq)
+
+-- ---- one entry more
+
+-- a word more in both lists is an entry more
+entries-append : (X Y : List ℕ) (x y : ℕ) → length X ≡ length Y → entriesOf (X ++ x ∷ []) (Y ++ y ∷ []) ≡ entriesOf X Y ++ entryOf x y ∷ []
+unfolding entriesOf
+entries-append [] [] x y e = refl
+entries-append [] (b ∷ Y) x y e = absurd (omega arith)
+entries-append (a ∷ X) [] x y e = absurd (omega arith)
+entries-append (a ∷ X) (b ∷ Y) x y e = ap (λ (r : List Entry). entryOf a b ∷ r) (entries-append X Y x y (omega arith))
+
+-- behind the first j words of a stretch stands the word at place j
+words-more : (W : List ℕ) (k j : ℕ) → k + j < length W → take (j + 1) (drop k W) ≡ take j (drop k W) ++ getD W (k + j) 0 ∷ []
+words-more W k j l =
+    let e : j + 1 ≡ suc j = omega arith in
+    ap (λ (n : ℕ). take n (drop k W)) e
+    ∙ take-suc (drop k W) j 0 (omega (arith, length-drop k W))
+    ∙ ap (λ (x : ℕ). take j (drop k W) ++ x ∷ []) (getD-drop k W j 0)
+
+-- behind the first j entries stands the entry at place j
+entries-more : (W : List ℕ) (at ts j : ℕ) → at + j < length W → ts + j < length W → entriesIn W at ts (j + 1) ≡ entriesIn W at ts j ++ entryAt W at ts j ∷ []
+entries-more W at ts j l m =
+    ap (λ (v : List ℕ). entriesOf v (take (j + 1) (drop ts W))) (words-more W at j l)
+    ∙ ap (entriesOf (take j (drop at W) ++ getD W (at + j) 0 ∷ [])) (words-more W ts j m)
+    ∙ entries-append (take j (drop at W)) (take j (drop ts W)) (getD W (at + j) 0) (getD W (ts + j) 0)
+    (length-take-le j (drop at W) (omega (arith, length-drop at W)) ∙ sym (length-take-le j (drop ts W) (omega (arith, length-drop ts W))))
+
+-- the position of one entry more
+positions-append : (ps : List Float) (xs : List Entry) (x : Entry) → newPositions ps (xs ++ x ∷ []) ≡ newPositions ps xs ++ coordinatesAt ps (x .vertex)
+unfolding newPositions
+positions-append ps [] x = refl
+positions-append ps (y ∷ xs) x =
+    ap (λ (r : List Float). coordinatesAt ps (y .vertex) ++ r) (positions-append ps xs x)
+
+-- the normal of one entry more
+normals-append : (ns : List Float) (a b c : ℕ) (xs : List Entry) (x : Entry)
+    → newNormals ns a b c (xs ++ x ∷ []) ≡ newNormals ns a b c xs ++ mixed (pointAt ns (startOf a b c (x .e))) (pointAt ns (endOf a b c (x .e))) (x .t)
+unfolding newNormals
+normals-append ns a b c [] x = append-nil (mixed (pointAt ns (startOf a b c (x .e))) (pointAt ns (endOf a b c (x .e))) (x .t))
+normals-append ns a b c (y ∷ xs) x =
+    let m = mixed (pointAt ns (startOf a b c (y .e))) (pointAt ns (endOf a b c (y .e))) (y .t) in
+    let n = mixed (pointAt ns (startOf a b c (x .e))) (pointAt ns (endOf a b c (x .e))) (x .t) in
+    ap (λ (r : List Float). m ++ r) (normals-append ns a b c xs x) ∙ sym (append-assoc m (newNormals ns a b c xs) n)
+
+-- ---- three numbers for each of j entries
+
+-- the numbers xs of j entries are written from place o on: `out` became `new`
+pub record Adding (o j kept : ℕ) (xs out new : List Float) : Type 0 where
+  pub few : j ≤ kept
+  pub count : length xs ≡ 3 * j
+  pub list : new ≡ sets out o xs
+  pub long : length new ≡ length out
+
+module _ {o j kept : ℕ} {xs out new : List Float} (s : Adding o j kept xs out new) where
+  -- there is room for three more
+  pub three-room : o + 3 * kept ≤ length out → j < kept → o + 3 * j + 3 ≤ length new
+  three-room l m = omega (arith, s .long)
+
+  -- three more are written
+  adding-more : (ys zs : List Float) {v : List Float} → length ys ≡ 3 → zs ≡ xs ++ ys → j < kept → v ≡ sets new (o + 3 * j) ys → Adding o (j + 1) kept zs out v
+  adding-more ys zs {v} l e m h =
+      let place : o + 3 * j ≡ o + length xs = omega (arith, s .count) in
+      record {
+        few = omega arith;
+        count = ap length e ∙ length-append xs ys ∙ omega (arith, s .count);
+        list =
+            h
+            ∙ ap (λ (w : List Float). sets w (o + 3 * j) ys) (s .list)
+            ∙ ap (λ (k : ℕ). sets (sets out o xs) k ys) place
+            ∙ sym (sets-append out o xs ys)
+            ∙ ap (sets out o) (sym e);
+        long = ap length h ∙ length-sets new (o + 3 * j) ys ∙ s .long;
+      }
+
+  -- what was written when all are
+  adding-all : o + length xs ≤ length out → Appended o xs out new
+  adding-all l =
+      record {
+        content =
+            ap (take (o + length xs)) (s .list ∙ sets-eq xs out o l)
+            ∙ take-at (take o out ++ xs) (drop (o + length xs) out) (o + length xs)
+            (length-append (take o out) xs ∙ ap (λ (n : ℕ). n + length xs) (length-take-le o out (omega arith)));
+        rest = ap (drop (o + length xs)) (s .list) ∙ drop-sets out o xs (o + length xs) (omega arith);
+      }
+
+-- ---- the positions
+
+-- the positions of the first j entries are written
+abbrev pub PositionsAdded : List Float → List ℕ → ℕ → ℕ → ℕ → ℕ → ℕ → List Float → List Float → Type 0
+PositionsAdded ps W at ts kept o j out new = Adding o j kept (newPositions ps (entriesIn W at ts j)) out new
+
+-- none is written yet
+pub positions-none : (ps : List Float) (W : List ℕ) (at ts kept o : ℕ) (out : List Float) → PositionsAdded ps W at ts kept o 0 out out
+unfolding newPositions entriesOf
+positions-none ps W at ts kept o out = record { few = omega arith; count = refl; list = refl; long = refl }
+
+module _ {ps : List Float} {W : List ℕ} {at ts kept o j : ℕ} {out new : List Float} (r : VerticesReady ps W at ts kept o out) (s : PositionsAdded ps W at ts kept o j out new) where
+  -- the vertex of the next entry is there, and room for it
+  pub point-ready : {g : ℕ} → j < kept → g ≡ getD W (at + j) 0 % 262144 → PointReady ps g (o + 3 * j) new
+  point-ready m e = record { inside = subst (λ (n : ℕ). 3 * n + 2 < length ps) (sym e) (r .inside j m); room = three-room s (r .room) m }
+
+  -- one more is written
+  pub positions-more : {g : ℕ} {v : List Float} → j < kept → g ≡ getD W (at + j) 0 % 262144 → v ≡ sets new (o + 3 * j) (coordinatesAt ps g) → PositionsAdded ps W at ts kept o (j + 1) out v
+  positions-more {g} {v} m e h =
+      adding-more s (coordinatesAt ps (getD W (at + j) 0 % 262144)) (newPositions ps (entriesIn W at ts (j + 1))) refl
+      (ap (newPositions ps) (entries-more W at ts j (omega (arith, r .words)) (omega (arith, r .parameters))) ∙ positions-append ps (entriesIn W at ts j) (entryAt W at ts j))
+      m
+      (h ∙ ap (λ (n : ℕ). sets new (o + 3 * j) (coordinatesAt ps n)) e)
+
+  -- all are written
+  pub positions-all : kept ≤ j → Appended o (newPositions ps (entriesIn W at ts kept)) out new
+  positions-all l =
+      let e : j ≡ kept = omega (arith, s .few) in
+      subst (λ (n : ℕ). Appended o (newPositions ps (entriesIn W at ts n)) out new) e (adding-all s (omega (arith, s .count, s .few, r .room)))
+
+-- ---- the normals
+
+-- the normals of the first j entries are written
+abbrev pub NormalsAdded : List Float → ℕ → ℕ → ℕ → List ℕ → ℕ → ℕ → ℕ → ℕ → ℕ → List Float → List Float → Type 0
+NormalsAdded ns a b c W at ts kept o j out new = Adding o j kept (newNormals ns a b c (entriesIn W at ts j)) out new
+
+-- none is written yet
+pub normals-none : (ns : List Float) (a b c : ℕ) (W : List ℕ) (at ts kept o : ℕ) (out : List Float) → NormalsAdded ns a b c W at ts kept o 0 out out
+unfolding newNormals entriesOf
+normals-none ns a b c W at ts kept o out = record { few = omega arith; count = refl; list = refl; long = refl }
+
+-- the normals of the corners are there
+pub corners-ready : {ns : List Float} {a b c : ℕ} {W : List ℕ} {at ts kept o : ℕ} {out : List Float} → NormalsReady ns a b c W at ts kept o out → Corners ns a b c
+corners-ready r = record { in-a = r .in-a; in-b = r .in-b; in-c = r .in-c }
+
+module _ {ns : List Float} {a b c : ℕ} {W : List ℕ} {at ts kept o j : ℕ} {out new : List Float} (r : NormalsReady ns a b c W at ts kept o out) (s : NormalsAdded ns a b c W at ts kept o j out new) where
+  -- one more is written
+  pub normals-more : {e : ℕ} {t : Float} {n : Normal} {v : List Float} → j < kept → e ≡ getD W (at + j) 0 / 262144 → t ≡ f64 (getD W (ts + j) 0)
+      → normalOf n ≡ mixed (pointAt ns (startOf a b c e)) (pointAt ns (endOf a b c e)) t → v ≡ sets new (o + 3 * j) (normalOf n) → NormalsAdded ns a b c W at ts kept o (j + 1) out v
+  normals-more {e} {t} {n} {v} m p q k h =
+      adding-more s (normalOf n) (newNormals ns a b c (entriesIn W at ts (j + 1))) refl
+      (ap (newNormals ns a b c) (entries-more W at ts j (omega (arith, r .words)) (omega (arith, r .parameters)))
+      ∙ normals-append ns a b c (entriesIn W at ts j) (entryAt W at ts j)
+      ∙ ap (λ (x : List Float). newNormals ns a b c (entriesIn W at ts j) ++ x) (sym mix))
+      m
+      h
+    where
+      mix : normalOf n ≡ mixed (pointAt ns (startOf a b c (getD W (at + j) 0 / 262144))) (pointAt ns (endOf a b c (getD W (at + j) 0 / 262144))) (f64 (getD W (ts + j) 0))
+      mix =
+          k
+          ∙ ap (λ (x : ℕ). mixed (pointAt ns (startOf a b c x)) (pointAt ns (endOf a b c x)) t) p
+          ∙ ap (mixed (pointAt ns (startOf a b c (getD W (at + j) 0 / 262144))) (pointAt ns (endOf a b c (getD W (at + j) 0 / 262144)))) q
+
+  -- all are written
+  pub normals-all : kept ≤ j → Appended o (newNormals ns a b c (entriesIn W at ts kept)) out new
+  normals-all l =
+      let e : j ≡ kept = omega (arith, s .few) in
+      subst (λ (n : ℕ). Appended o (newNormals ns a b c (entriesIn W at ts n)) out new) e (adding-all s (omega (arith, s .count, s .few, r .room)))

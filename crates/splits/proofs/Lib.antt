@@ -1,0 +1,7 @@
+-- The laws that the proofs of this crate cite, by subject.
+pub mod EntryLaws
+pub mod PutLaws
+pub mod DropLaws
+pub mod FindingLaws
+pub mod PlacingLaws
+pub mod TriangleLaws

@@ -1,0 +1,191 @@
+// The points that split one triangle: every loose vertex tried on its open edges, the placed ones kept.
+
+use crate::entries::drop_close;
+use crate::entries::insert_entry;
+use crate::finding::found_on;
+use crate::placing::Place;
+use crate::placing::place_on;
+use crate::sides::Sides;
+ghost use mathlib.Core.Path.{_≡_};
+ghost use Prim.Native.Nat.{_+_};
+ghost use lib.ListN.{getD};
+ghost use Rattle.loose.specs.Listed.{NameAt};
+ghost use Rattle.splits.specs.Triangle.{TryReady, Tried, FindOn, FoundAll, Splittable, Split};
+
+// How many points were found, and how many entries there are.
+pub struct Tally {
+    pub found: u64,
+    pub placed: usize,
+}
+
+// The vertex at place j of the list.
+fn listed(w: &[u64], v: usize, list: usize, count: usize, j: usize) -> usize
+    requires { ⌜ NameAt v list count j (now w) ⌝ }
+    ensures { λ r. ⌜ r ≡ getD (now (w .entry)) (list + j) 0 ⌝ }
+{
+    w[list + j] as usize
+}
+
+// Vertex j of the list is tried on edge e: if it is found there it is counted, and if it is placed it goes among the entries.
+fn try_vertex(
+    positions: &[f32],
+    w: &mut [u64],
+    s: Sides,
+    sag: f64,
+    beyond: f64,
+    v: usize,
+    list: usize,
+    count: usize,
+    j: usize,
+    e: u64,
+    at: usize,
+    ts: usize,
+    found: u64,
+    placed: usize,
+) -> Tally
+    requires { ⌜ TryReady (now positions) sag beyond v list count j e at ts found placed (now w) ⌝ }
+    ensures { λ r. ⌜ Tried (now (positions .entry)) sag s v list j e at ts found placed (now (w .entry)) (now (w .exit)) (r .found) (r .placed) ⌝ }
+{
+    let g = listed(w, v, list, count, j);
+    let r = geometry::vertex(positions, 3 * g);
+    let name = w[g];
+    let here = found_on(s, e, name, r, sag, beyond);
+    if here {
+        match place_on(s, r) {
+            Place::Nowhere => {
+                return Tally {
+                    found: found + 1,
+                    placed: placed,
+                };
+            }
+            Place::On(p) => {
+                insert_entry(w, at, ts, placed, p.e, g, p.t);
+                return Tally {
+                    found: found + 1,
+                    placed: placed + 1,
+                };
+            }
+        }
+    }
+    Tally {
+        found: found,
+        placed: placed,
+    }
+}
+
+// All loose vertices are tried on edge e.
+fn find_all(
+    positions: &[f32],
+    w: &mut [u64],
+    s: Sides,
+    sag: f64,
+    beyond: f64,
+    v: usize,
+    list: usize,
+    count: usize,
+    e: u64,
+    at: usize,
+    ts: usize,
+    found: u64,
+    placed: usize,
+) -> Tally
+    requires { ⌜ FindOn (now positions) sag beyond v list count e at ts found placed (now w) ⌝ }
+    ensures { λ r. ⌜ FoundAll (now (positions .entry)) sag s v list count e at ts found placed (now (w .entry)) (now (w .exit)) (r .found) (r .placed) ⌝ }
+{
+    let mut total = found;
+    let mut entries = placed;
+    let mut j = 0usize;
+    while j < count {
+        let r = try_vertex(
+            positions,
+            w,
+            s,
+            sag,
+            beyond,
+            v,
+            list,
+            count,
+            j,
+            e,
+            at,
+            ts,
+            total,
+            entries,
+        );
+        total = r.found;
+        entries = r.placed;
+        j += 1;
+    }
+    Tally {
+        found: total,
+        placed: entries,
+    }
+}
+
+// The points that split a triangle are found on its edges in turn, and those close to the one before them dropped; the answer is how many were found and are kept.
+pub fn split_triangle(
+    positions: &[f32],
+    w: &mut [u64],
+    s: Sides,
+    sag: f64,
+    beyond: f64,
+    v: usize,
+    list: usize,
+    count: usize,
+    at: usize,
+    ts: usize,
+) -> Tally
+    requires { ⌜ Splittable (now positions) sag beyond v list count at ts (now w) ⌝ }
+    ensures { λ r. ⌜ Split (now (positions .entry)) sag s v list count at ts (now (w .entry)) (now (w .exit)) (r .found) (r .placed) ⌝ }
+{
+    let one = find_all(
+        positions,
+        w,
+        s,
+        sag,
+        beyond,
+        v,
+        list,
+        count,
+        0,
+        at,
+        ts,
+        0,
+        0,
+    );
+    let two = find_all(
+        positions,
+        w,
+        s,
+        sag,
+        beyond,
+        v,
+        list,
+        count,
+        1,
+        at,
+        ts,
+        one.found,
+        one.placed,
+    );
+    let three = find_all(
+        positions,
+        w,
+        s,
+        sag,
+        beyond,
+        v,
+        list,
+        count,
+        2,
+        at,
+        ts,
+        two.found,
+        two.placed,
+    );
+    let kept = drop_close(w, at, ts, three.placed);
+    Tally {
+        found: three.found,
+        placed: kept,
+    }
+}

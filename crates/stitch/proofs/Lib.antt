@@ -1,0 +1,7 @@
+-- The laws that the proofs of this crate cite, by subject.
+pub mod CopyLaws
+pub mod ResultLaws
+pub mod FaceLaws
+pub mod CountLaws
+pub mod BodyCountLaws
+pub mod AppendLaws
