@@ -265,11 +265,11 @@ module _ {ps : List Float} {is : List ℕ} {sag beyond : Float} {n v list count 
         ∙ (λ i. getD W (flags + k) 0 ∷ getD W (flags + k + 1) 0 ∷ getD W (flags + k + 2) 0 ∷ take (f i) (drop (h i) W))
 
     -- the view of the triangle at k
-    abbrev view : View
+    abbrev pub view : View
     view = viewOf sag ps (take v W) (take count (drop list W)) base (getD W (flags + k) 0) (getD W (flags + k + 1) 0) (getD W (flags + k + 2) 0) (record { a = getD is k 0; b = getD is (k + 1) 0; c = getD is (k + 2) 0 })
 
     -- the views begin with it
-    views-here : viewsIn ps is sag v list count flags base k to W ≡ view ∷ viewsIn ps is sag v list count flags base (k + 3) to W
+    pub views-here : viewsIn ps is sag v list count flags base k to W ≡ view ∷ viewsIn ps is sag v list count flags base (k + 3) to W
     unfolding rowViews trianglesOf
     views-here =
         ap (λ (fs : List ℕ). rowViews sag ps (take v W) (take count (drop list W)) base fs (trianglesOf (take (to - k) (drop k is)))) flags-three
@@ -277,10 +277,10 @@ module _ {ps : List Float} {is : List ℕ} {sag beyond : Float} {n v list count 
         (stretch-three is k to 0 three (omega (arith, g .inside, g .all)))
 
     -- what stands in E is what stands in W
-    names-are : take v E ≡ take v W
+    pub names-are : take v E ≡ take v W
     names-are = front-less v at W E (c .front) (omega (arith, g .stands .listed .behind, g .stands .flags-behind, g .stands .behind))
 
-    list-is : take count (drop list E) ≡ take count (drop list W)
+    pub list-is : take count (drop list E) ≡ take count (drop list W)
     list-is = stretch-kept list count at W E (c .front) (omega (arith, g .stands .flags-behind, g .stands .behind))
 
     flag-is : (j : ℕ) → flags + j < at → getD E (flags + j) 0 ≡ getD W (flags + j) 0

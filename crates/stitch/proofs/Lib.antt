@@ -5,3 +5,9 @@ pub mod FaceLaws
 pub mod CountLaws
 pub mod BodyCountLaws
 pub mod AppendLaws
+pub mod PrepareLaws
+pub mod TriangleWriteLaws
+pub mod RowWriteLaws
+pub mod BodyWriteLaws
+pub mod OpenLaws
+pub mod StitchLaws

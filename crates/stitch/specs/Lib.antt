@@ -9,6 +9,10 @@ pub mod Counting
 pub mod TriangleViews
 pub mod ViewLaws
 pub mod Lengths
+pub mod KeptVertices
 pub mod BodyLengths
+pub mod Prepared
+pub mod Stitched
+pub mod Writing
 pub mod Evaluation
 pub mod Claims
