@@ -3,6 +3,7 @@
 mod keys;
 mod patch;
 mod steps;
+mod stitching;
 mod turning;
 
 pub use keys::cad_cell;
@@ -15,4 +16,5 @@ pub use steps::cad_narrow;
 pub use steps::cad_round;
 pub use steps::cad_sqrt;
 pub use steps::cad_widen;
+pub use stitching::cad_stitch;
 pub use turning::cad_turn;

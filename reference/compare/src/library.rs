@@ -25,8 +25,17 @@ pub struct Turned {
     pub against: u64,
 }
 
+#[repr(C)]
+#[derive(Debug, Clone, Copy, PartialEq)]
+pub struct Stitched {
+    pub refusal: u32,
+    pub vertices: u32,
+    pub indices: u32,
+    pub splits: u64,
+}
+
 mod raw {
-    use super::{Judged, Measured, Turned};
+    use super::{Judged, Measured, Stitched, Turned};
 
     #[rustfmt::skip]
     unsafe extern "C" {
@@ -41,6 +50,7 @@ mod raw {
         pub fn cad_farthest(p: *const f32, pn: usize, n: *const f32, nn: usize, i: *const u32, ni: usize, x0: f64, y0: f64, z0: f64, x1: f64, y1: f64, z1: f64) -> Measured;
         pub fn cad_escapes_body(p: *const f32, pn: usize, n: *const f32, nn: usize, i: *const u32, ni: usize, x0: f64, y0: f64, z0: f64, x1: f64, y1: f64, z1: f64) -> Judged;
         pub fn cad_turn(rows: *const u32, rows_len: usize, p: *const f32, pn: usize, n: *mut f32, nn: usize, i: *mut u32, ni: usize, work: *mut u64, work_len: usize) -> Turned;
+        pub fn cad_stitch(rows: *const u32, rows_len: usize, p: *const f32, pn: usize, n: *const f32, nn: usize, i: *const u32, ni: usize, sag: f64, out_rows: *mut u32, out_rows_len: usize, op: *mut f32, opn: usize, on: *mut f32, onn: usize, oi: *mut u32, oin: usize, work: *mut u64, work_len: usize) -> Stitched;
     }
 }
 
@@ -113,6 +123,34 @@ pub fn turn(body: &mut Flat, work: &mut [u64]) -> Turned {
             n.len(),
             i.as_mut_ptr(),
             i.len(),
+            work.as_mut_ptr(),
+            work.len(),
+        )
+    }
+}
+
+/// A body stitched into another's slices.
+pub fn stitch(body: &Flat, sag: f64, out: &mut Flat, work: &mut [u64]) -> Stitched {
+    let (rows, p, n, i) = (&body.rows, &body.positions, &body.normals, &body.indices);
+    unsafe {
+        raw::cad_stitch(
+            rows.as_ptr(),
+            rows.len(),
+            p.as_ptr(),
+            p.len(),
+            n.as_ptr(),
+            n.len(),
+            i.as_ptr(),
+            i.len(),
+            sag,
+            out.rows.as_mut_ptr(),
+            out.rows.len(),
+            out.positions.as_mut_ptr(),
+            out.positions.len(),
+            out.normals.as_mut_ptr(),
+            out.normals.len(),
+            out.indices.as_mut_ptr(),
+            out.indices.len(),
             work.as_mut_ptr(),
             work.len(),
         )

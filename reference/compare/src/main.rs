@@ -1,11 +1,15 @@
-//! Holds the proved library against the unchanged Rust on generated bodies: turning with its refusals, each patch alone, and the
-//! float steps against the processor's own.
+//! Holds the proved library against the unchanged Rust on generated bodies: turning and stitching with their refusals, each patch
+//! alone, and the float steps against the processor's own.
 
 mod faults;
 mod patches;
+mod refusals;
 mod smallest;
+mod source_bodies;
 mod steps;
+mod stitching;
 mod turning;
+mod work;
 
 use driver::check::{MOST_INDICES, MOST_ROWS, check};
 use driver::command::fail;
@@ -79,9 +83,9 @@ impl Tally {
 /// How many refusals of a body were compared, or where it differs. The random numbers are those of the seed, so that it can be asked again.
 fn compared(sheet: &Sheet, seed: u64) -> Result<u64, String> {
     let r = &mut Random::new(seed);
-    match turning::differs(sheet, r).or_else(|| patches::differ(sheet, r)) {
+    match turning::differs(sheet, r).or_else(|| stitching::differs(sheet, r)).or_else(|| patches::differ(sheet, r)) {
         Some(what) => Err(what),
-        None => turning::refusals(sheet, r),
+        None => refusals::refusals(sheet, r),
     }
 }
 

@@ -109,15 +109,25 @@ fn ties(facet: &Facet, loose: &BTreeMap<u64, [f32; 3]>, sag: f64) -> bool {
     false
 }
 
+/// The triangles with an open edge of a body that the Rust turned.
+fn turned_open_facets(sheet: &Sheet) -> Vec<Facet> {
+    let mut faces = faces_of(sheet);
+    probe::orient_shell(&mut faces);
+    open_facets(faces.iter().filter_map(|(_, _, r)| r.as_ref().ok()))
+}
+
+/// How many triangles of a body have an open edge; stitching takes time that goes with the square of it, in the Rust too.
+pub fn open_triangles(sheet: &Sheet) -> usize {
+    turned_open_facets(sheet).len()
+}
+
 /// Which part of the condition a body breaks, if it breaks one.
 pub fn condition(sheet: &Sheet) -> Condition {
     let sag = f64::from_bits(sheet.sag);
     if !(sag > 0.0) {
         return Condition::Exact;
     }
-    let mut faces = faces_of(sheet);
-    probe::orient_shell(&mut faces);
-    let facets = open_facets(faces.iter().filter_map(|(_, _, r)| r.as_ref().ok()));
+    let facets = turned_open_facets(sheet);
     let mut loose: BTreeMap<u64, [f32; 3]> = BTreeMap::new();
     for corner in facets.iter().flat_map(|f| &f.corners) {
         let before = loose.insert(key(corner), *corner);

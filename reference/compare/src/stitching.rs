@@ -1,0 +1,126 @@
+//! Stitching against the unchanged Rust's, and its refusals.
+
+use crate::source_bodies::{flat_of, unlike};
+use crate::work::Work;
+use cad_tess::face::probe;
+use compare::library::{self, Stitched};
+use driver::check::{MOST_INDICES, MOST_VERTICES};
+use driver::condition::{Condition, condition, open_triangles};
+use driver::finish::faces_of;
+use driver::flat::Flat;
+use driver::random::Random;
+use driver::sheet::Sheet;
+
+/// Sags that split nothing, besides a sheet's own.
+const NOT_ABOVE: [f64; 5] = [0.0, -0.0, -1.0, f64::NAN, f64::NEG_INFINITY];
+
+/// Triangles with an open edge, at most, of a body that is stitched with its own sag: the time goes with their square.
+const MOST_OPEN: usize = 1000;
+
+/// A body turned by the Rust, as it is stitched by it, and the splits.
+struct Case {
+    before: Flat,
+    after: Flat,
+    splits: usize,
+}
+
+fn case(sheet: &Sheet, sag: f64) -> Case {
+    let mut faces = faces_of(sheet);
+    probe::orient_shell(&mut faces);
+    let before = flat_of(&faces, sheet);
+    let splits = probe::stitch_t_junctions(&mut faces, sag);
+    Case { before, after: flat_of(&faces, sheet), splits }
+}
+
+/// Output slices of the lengths of a body, each some longer, with content that is a function of its place.
+fn outputs(body: &Flat, r: &mut Random) -> Flat {
+    let salt = r.next() as u32;
+    let numbers = |n: usize| (0..n as u32).map(|k| k.wrapping_mul(0x9e37_79b9) ^ salt).collect::<Vec<u32>>();
+    let floats = |n: usize| numbers(n).into_iter().map(f32::from_bits).collect::<Vec<f32>>();
+    let more = r.size(0, 7);
+    Flat {
+        rows: numbers(body.rows.len() + more),
+        positions: floats(body.positions.len() + more),
+        normals: floats(body.normals.len() + more),
+        indices: numbers(body.indices.len() + more),
+    }
+}
+
+/// A body written over the front of outputs.
+fn written(body: &Flat, outputs: &Flat) -> Flat {
+    fn over<T: Copy>(front: &[T], all: &[T]) -> Vec<T> {
+        [front, &all[front.len()..]].concat()
+    }
+    Flat {
+        rows: over(&body.rows, &outputs.rows),
+        positions: over(&body.positions, &outputs.positions),
+        normals: over(&body.normals, &outputs.normals),
+        indices: over(&body.indices, &outputs.indices),
+    }
+}
+
+/// What is wrong with a call: its answer, the outputs it leaves, or the work area of which it should clear some words.
+fn wrong(before: &Flat, sag: f64, outputs: &Flat, work: &mut Work, want: Stitched, left: &Flat, cleared: usize) -> Option<String> {
+    let mut out = outputs.clone();
+    let got = library::stitch(before, sag, &mut out, &mut work.words);
+    if got != want {
+        return Some(format!("stitch: {want:?}, not {got:?}"));
+    }
+    unlike(left, &out).or_else(|| work.wrong(cleared)).map(|what| format!("stitch, sag {sag:?}: {what}"))
+}
+
+fn refusal(number: u32) -> Stitched {
+    Stitched { refusal: number, vertices: 0, indices: 0, splits: 0 }
+}
+
+/// The outputs with one slice a number shorter than a body needs, the first that is not empty from one at random on.
+fn short(after: &Flat, outputs: &Flat, r: &mut Random) -> Option<Flat> {
+    let mut out = outputs.clone();
+    let lengths = [after.rows.len(), after.positions.len(), after.normals.len(), after.indices.len()];
+    let first = r.size(0, 3);
+    let k = (first..first + 4).map(|k| k % 4).find(|k| lengths[*k] > 0)?;
+    match k {
+        0 => out.rows.truncate(lengths[0] - 1),
+        1 => out.positions.truncate(lengths[1] - 1),
+        2 => out.normals.truncate(lengths[2] - 1),
+        _ => out.indices.truncate(lengths[3] - 1),
+    }
+    Some(out)
+}
+
+/// Where a body is stitched in another way than by the Rust with one sag, or the result is not refused as it should be.
+fn differs_with(sheet: &Sheet, sag: f64, r: &mut Random) -> Option<String> {
+    let Case { before, after, splits } = case(sheet, sag);
+    let needed = before.words();
+    let work = || Work::new(needed + 3, 0x5a5a);
+    let (vertices, indices) = (after.positions.len() / 3, after.indices.len());
+    let outputs = outputs(&after, r);
+    if vertices > MOST_VERTICES || indices > MOST_INDICES {
+        return wrong(&before, sag, &outputs, &mut work(), refusal(33), &outputs, needed);
+    }
+    let want = Stitched { refusal: 0, vertices: vertices as u32, indices: indices as u32, splits: splits as u64 };
+    wrong(&before, sag, &outputs, &mut work(), want, &written(&after, &outputs), needed).or_else(|| {
+        let short = short(&after, &outputs, r)?;
+        wrong(&before, sag, &short, &mut work(), refusal(32), &short, needed)
+    })
+}
+
+/// Where a body is stitched in another way than by the Rust, if it is; only bodies that meet 01's condition are held against it.
+pub fn differs(sheet: &Sheet, r: &mut Random) -> Option<String> {
+    let none = *r.pick(&NOT_ABOVE);
+    if let Some(what) = differs_with(sheet, none, r) {
+        return Some(what);
+    }
+    if open_triangles(sheet) > MOST_OPEN || condition(sheet) != Condition::Exact {
+        return None;
+    }
+    differs_with(sheet, f64::from_bits(sheet.sag), r)
+}
+
+/// What is wrong with the refusal of a body that a check up to 31 refuses.
+pub fn refused(before: &Flat, words: usize, number: u32, r: &mut Random) -> Option<String> {
+    let outputs = outputs(&Flat::default(), r);
+    let mut work = Work::new(words, r.next());
+    let sag = *r.pick(&[1.0, 0.0, f64::NAN]);
+    wrong(before, sag, &outputs, &mut work, refusal(number), &outputs, 0)
+}
