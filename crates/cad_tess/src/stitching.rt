@@ -54,5 +54,16 @@ pub extern "C" fn cad_stitch(
         ≡ stitchOf Points.key (now (rows .entry)) (now (positions .entry)) (now (normals .entry)) (now (indices .entry)) sag
         (slicesOf (now («out_rows» .entry)) (now («out_positions» .entry)) (now («out_normals» .entry)) (now («out_indices» .entry)) (now (work .entry))) ⌝ }
 {
-    stitched_answer(stitch::stitch(rows, positions, normals, indices, sag, out_rows, out_positions, out_normals, out_indices, work))
+    stitched_answer(stitch::stitch(
+        rows,
+        positions,
+        normals,
+        indices,
+        sag,
+        out_rows,
+        out_positions,
+        out_normals,
+        out_indices,
+        work,
+    ))
 }
