@@ -1,0 +1,92 @@
+-- Acceptance: which patches go into the mesh and with what material, and why the others do not. Assumes nothing.
+use mathlib.Core.Bool.{Bool, true, false, not, cond}
+use mathlib.Core.List.{List, [], _∷_}
+use mathlib.Core.Option.{Option, none, some}
+use Prim.Native.Nat.{ℕ, zero, suc, _+_, _*_, _^_}
+use lib.ListN.{length}
+use lib.Dec.{ltb, eqb}
+use lib.Ieee.{Float}
+use Rattle.lists.specs.Lists.{any, sumOf, itemAt}
+use Rattle.floats.specs.Floats.{bits64}
+use Rattle.body.specs.Body.{Patch}
+use Rattle.geometry.specs.declared.Aabb.{Aabb}
+use Rattle.geometry.specs.Geometry.{farthest, diagonal, escapesBody}
+use Rattle.acceptance.specs.declared.Failure.{Failure}
+use Rattle.acceptance.specs.declared.Failure.the-variants.{Empty, Upstream, Escape}
+
+-- An escape carries the reach and the span.
+unfoldable pub escapeOf : Aabb → List Float → Option Failure
+escapeOf box ps = cond (escapesBody ps box) (some (Escape (farthest ps box) (diagonal box))) none
+
+-- A failure is one of: no triangles; upstream with its number; and an escape. Upstream goes first, then empty.
+unfoldable pub failureBy : Aabb → ℕ → List Float → List ℕ → Option Failure
+failureBy box outcome ps is = cond (not (eqb outcome 0)) (some (Upstream outcome)) (cond (eqb (length is) 0) (some Empty) (escapeOf box ps))
+
+-- the failure of a patch
+abbrev pub failureOf : Aabb → Patch → Option Failure
+failureOf box p = failureBy box (p .row .outcome) (p .positions) (p .indices)
+
+-- what an entry says: 0 is none, n + 1 is material n
+unfoldable pub entry : ℕ → Option ℕ
+entry zero = none
+entry (suc n) = some n
+
+-- the entry of a face; a missing one is none
+unfoldable pub entryOf : List ℕ → ℕ → Option ℕ
+entryOf materials face = elim (itemAt materials face) [ none ↦ none | some e ↦ entry e ]
+
+-- A face whose entry is 0 or missing has the default; no default means material 0.
+unfoldable pub materialOf : List ℕ → ℕ → ℕ → ℕ
+materialOf materials default face = elim (entryOf materials face) [
+  | some m ↦ m
+  | none ↦ elim (entry default) [ some m ↦ m | none ↦ 0 ]
+]
+
+-- an accepted patch with its material
+pub record Accepted : Type 0 where
+  pub patch : Patch
+  pub material : ℕ
+
+-- the face of a row that isn't accepted, and why
+pub record Failed : Type 0 where
+  pub face : ℕ
+  pub failure : Failure
+
+-- the accepted patches and the failures of a body
+pub record Acceptance : Type 0 where
+  pub accepted : List Accepted
+  pub failed : List Failed
+
+-- a patch with its material in front of the accepted ones, or its failure in front of the failures
+unfoldable pub withPatch : Patch → ℕ → Option Failure → Acceptance → Acceptance
+withPatch p m none rest = record { accepted = record { patch = p; material = m } ∷ rest .accepted; failed = rest .failed }
+withPatch p m (some f) rest = record { accepted = rest .accepted; failed = record { face = p .row .face; failure = f } ∷ rest .failed }
+
+-- Accepted patches and failures go in row order.
+unfoldable pub acceptance : Aabb → List ℕ → ℕ → List Patch → Acceptance
+acceptance box materials default [] = record { accepted = []; failed = [] }
+acceptance box materials default (p ∷ ps) = withPatch p (materialOf materials default (p .row .face)) (failureOf box p) (acceptance box materials default ps)
+
+-- how many vertices the accepted patches have
+unfoldable pub acceptedVertices : List Accepted → ℕ
+acceptedVertices accepted = sumOf (λ a. a .patch .row .vertices) accepted
+
+-- how many indices the accepted patches have
+unfoldable pub acceptedIndices : List Accepted → ℕ
+acceptedIndices accepted = sumOf (λ a. length (a .patch .indices)) accepted
+
+-- how many numbers make a failure
+abbrev pub failureWidth : ℕ
+failureWidth = 4
+
+-- a failure's numbers: face; case, 0 for empty, 1 to 255 for upstream, 256 for an escape; the bits of reach and span, else 0
+unfoldable pub failureNumbers : Failed → List ℕ
+failureNumbers f = elim (f .failure) [
+  | Empty ↦ f .face ∷ 0 ∷ 0 ∷ 0 ∷ []
+  | Upstream n ↦ f .face ∷ n ∷ 0 ∷ 0 ∷ []
+  | Escape reach span ↦ f .face ∷ 256 ∷ bits64 reach ∷ bits64 span ∷ []
+]
+
+-- 42: an entry or the default is above 2 ^ 32
+unfoldable pub badMaterials : List ℕ → ℕ → Bool
+badMaterials materials default = any (λ m. ltb (2 ^ 32) m) (default ∷ materials)

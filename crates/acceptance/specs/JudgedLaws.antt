@@ -1,0 +1,106 @@
+-- The decisions of a body give what the definition of acceptance gives. Assumes nothing.
+use mathlib.Core.Path.{_≡_, refl, sym, ap, _∙_}
+use mathlib.Core.Bool.{Bool, true, false}
+use mathlib.Core.List.{List, [], _∷_, _++_, map, flatMap}
+use mathlib.Core.Option.{Option, none, some}
+use Prim.Native.Nat.{ℕ, zero, suc, _+_, _*_, _≤_, _<_}
+use native.Mathlib.Omega.{arith}
+use lib.ListN.{length, getD, take, drop, length-drop}
+use lib.Seq.{length-take-le}
+use lib.Ieee.{Float}
+use Rattle.lists.specs.Lists.{sumOf}
+use Rattle.body.specs.Body.{Row, Patch, rowsOf, patchesOf, allVertices, allIndices}
+use Rattle.body.specs.Patches.{patchFrom}
+use Rattle.geometry.specs.declared.Aabb.{Aabb}
+use Rattle.acceptance.specs.declared.Failure.{Failure}
+use Rattle.acceptance.specs.Acceptance.{failureOf, materialOf, Accepted, Failed, withPatch, acceptance, acceptedVertices, acceptedIndices}
+use Rattle.acceptance.specs.Judged.{decisionBy, decisionOf, acceptedBy, acceptedRows, failedBy, failedOf}
+
+module _ (box : Aabb) (materials : List ℕ) (default : ℕ) where
+  -- the accepted are those with a decision other than 0, with its material
+  pub accepted-by : (ps : List Patch) → acceptedBy (map (decisionOf box materials default) ps) ps ≡ acceptance box materials default ps .accepted
+  unfolding acceptedBy decisionOf decisionBy acceptance withPatch
+  accepted-by [] = refl
+  accepted-by (p ∷ ps) = go (failureOf box p) (accepted-by ps)
+    where
+      go : (f : Option Failure) → acceptedBy (map (decisionOf box materials default) ps) ps ≡ acceptance box materials default ps .accepted
+          → acceptedBy (decisionBy f (materialOf materials default (p .row .face)) ∷ map (decisionOf box materials default) ps) (p ∷ ps) ≡ withPatch p (materialOf materials default (p .row .face)) f (acceptance box materials default ps) .accepted
+      go none e = ap (λ (xs : List Accepted). record { patch = p; material = materialOf materials default (p .row .face) } ∷ xs) e
+      go (some g) e = e
+
+  -- the failures are those of the patches
+  pub failed-by : (ps : List Patch) → flatMap (failedOf box) ps ≡ acceptance box materials default ps .failed
+  unfolding failedOf failedBy acceptance withPatch flatMap
+  failed-by [] = refl
+  failed-by (p ∷ ps) = go (failureOf box p) (failed-by ps)
+    where
+      go : (f : Option Failure) → flatMap (failedOf box) ps ≡ acceptance box materials default ps .failed
+          → failedBy f (p .row .face) ++ flatMap (failedOf box) ps ≡ withPatch p (materialOf materials default (p .row .face)) f (acceptance box materials default ps) .failed
+      go none e = e
+      go (some g) e = ap (λ (fs : List Failed). record { face = p .row .face; failure = g } ∷ fs) e
+
+  -- normals decide nothing
+  pub decisions-bare : (rows : List Row) (ps ns ms : List Float) (is : List ℕ) → map (decisionOf box materials default) (patchesOf rows ps ns is) ≡ map (decisionOf box materials default) (patchesOf rows ps ms is)
+  unfolding patchesOf decisionOf
+  decisions-bare [] ps ns ms is = refl
+  decisions-bare (r ∷ rs) ps ns ms is =
+      ap (λ (ds : List ℕ). decisionOf box materials default (patchFrom r ps ns is 0 0) ∷ ds) (decisions-bare rs (drop (3 * r .vertices) ps) (drop (3 * r .vertices) ns) (drop (3 * r .vertices) ms) (drop (r .indices) is))
+
+-- normals fail nothing
+pub failed-bare : (box : Aabb) (rows : List Row) (ps ns ms : List Float) (is : List ℕ) → flatMap (failedOf box) (patchesOf rows ps ns is) ≡ flatMap (failedOf box) (patchesOf rows ps ms is)
+unfolding patchesOf failedOf flatMap
+failed-bare box [] ps ns ms is = refl
+failed-bare box (r ∷ rs) ps ns ms is =
+    ap (λ (fs : List Failed). failedOf box (patchFrom r ps ns is 0 0) ++ fs) (failed-bare box rs (drop (3 * r .vertices) ps) (drop (3 * r .vertices) ns) (drop (3 * r .vertices) ms) (drop (r .indices) is))
+
+-- the accepted patches are as many as the accepted rows
+pub accepted-count : (ds : List ℕ) (rows : List Row) (ps ns : List Float) (is : List ℕ) → length (acceptedBy ds (patchesOf rows ps ns is)) ≡ length (acceptedRows ds rows)
+unfolding acceptedBy acceptedRows patchesOf
+accepted-count [] rows ps ns is = refl
+accepted-count (d ∷ ds) [] ps ns is = refl
+accepted-count (zero ∷ ds) (r ∷ rs) ps ns is = accepted-count ds rs (drop (3 * r .vertices) ps) (drop (3 * r .vertices) ns) (drop (r .indices) is)
+accepted-count (suc m ∷ ds) (r ∷ rs) ps ns is = ap suc (accepted-count ds rs (drop (3 * r .vertices) ps) (drop (3 * r .vertices) ns) (drop (r .indices) is))
+
+-- they have the rows' vertices
+pub accepted-vertices : (ds : List ℕ) (rows : List Row) (ps ns : List Float) (is : List ℕ) → acceptedVertices (acceptedBy ds (patchesOf rows ps ns is)) ≡ allVertices (acceptedRows ds rows)
+unfolding acceptedBy acceptedRows patchesOf acceptedVertices allVertices sumOf
+accepted-vertices [] rows ps ns is = refl
+accepted-vertices (d ∷ ds) [] ps ns is = refl
+accepted-vertices (zero ∷ ds) (r ∷ rs) ps ns is = accepted-vertices ds rs (drop (3 * r .vertices) ps) (drop (3 * r .vertices) ns) (drop (r .indices) is)
+accepted-vertices (suc m ∷ ds) (r ∷ rs) ps ns is = ap (λ (n : ℕ). r .vertices + n) (accepted-vertices ds rs (drop (3 * r .vertices) ps) (drop (3 * r .vertices) ns) (drop (r .indices) is))
+
+-- and, where the slice has them all, the rows' indices
+pub accepted-indices : (ds : List ℕ) (rows : List Row) (ps ns : List Float) (is : List ℕ) → allIndices rows ≤ length is → acceptedIndices (acceptedBy ds (patchesOf rows ps ns is)) ≡ allIndices (acceptedRows ds rows)
+unfolding acceptedBy acceptedRows patchesOf acceptedIndices allIndices sumOf
+accepted-indices [] rows ps ns is h = refl
+accepted-indices (d ∷ ds) [] ps ns is h = refl
+accepted-indices (zero ∷ ds) (r ∷ rs) ps ns is h =
+    accepted-indices ds rs (drop (3 * r .vertices) ps) (drop (3 * r .vertices) ns) (drop (r .indices) is) (omega (arith, length-drop (r .indices) is))
+accepted-indices (suc m ∷ ds) (r ∷ rs) ps ns is h =
+    let rest = accepted-indices ds rs (drop (3 * r .vertices) ps) (drop (3 * r .vertices) ns) (drop (r .indices) is) (omega (arith, length-drop (r .indices) is)) in
+    let here = length-take-le (r .indices) is (omega arith) in
+    λ j. here j + rest j
+
+-- a part of the rows has no more vertices
+pub accepted-few : (ds : List ℕ) (rows : List Row) → allVertices (acceptedRows ds rows) ≤ allVertices rows
+unfolding acceptedRows allVertices sumOf
+accepted-few [] rows = omega arith
+accepted-few (d ∷ ds) [] = omega arith
+accepted-few (zero ∷ ds) (r ∷ rs) = let e = accepted-few ds rs in omega arith
+accepted-few (suc m ∷ ds) (r ∷ rs) = let e = accepted-few ds rs in omega arith
+
+-- and no more indices
+pub accepted-fewer : (ds : List ℕ) (rows : List Row) → allIndices (acceptedRows ds rows) ≤ allIndices rows
+unfolding acceptedRows allIndices sumOf
+accepted-fewer [] rows = omega arith
+accepted-fewer (d ∷ ds) [] = omega arith
+accepted-fewer (zero ∷ ds) (r ∷ rs) = let e = accepted-fewer ds rs in omega arith
+accepted-fewer (suc m ∷ ds) (r ∷ rs) = let e = accepted-fewer ds rs in omega arith
+
+-- and it is no longer
+pub accepted-most : (ds : List ℕ) (rows : List Row) → length (acceptedRows ds rows) ≤ length rows
+unfolding acceptedRows
+accepted-most [] rows = omega arith
+accepted-most (d ∷ ds) [] = omega arith
+accepted-most (zero ∷ ds) (r ∷ rs) = let e = accepted-most ds rs in omega arith
+accepted-most (suc m ∷ ds) (r ∷ rs) = let e = accepted-most ds rs in omega arith

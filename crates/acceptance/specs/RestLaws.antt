@@ -1,0 +1,69 @@
+-- The patches from row k on: what they begin with, and what decisions make of them. Assumes nothing.
+use mathlib.Core.Path.{_≡_, refl, sym, ap, _∙_}
+use mathlib.Core.List.{List, [], _∷_}
+use Prim.Native.Nat.{ℕ, zero, suc, _+_, _-_, _*_, _≤_, _<_}
+use native.Mathlib.Omega.{arith}
+use lib.ListN.{length, getD, take, drop, length-drop}
+use lib.Seq.{drop-drop, drop-cons, length-take-le}
+use lib.Ieee.{Float}
+use Rattle.lists.specs.Lists.{sumOf}
+use Rattle.lists.specs.Stretches.{stretch-at}
+use Rattle.body.specs.Body.{Row, Patch, rowsOf, patchesOf, allVertices, allIndices}
+use Rattle.body.specs.Rows.{noRow, rowAt, verticesBefore, indicesBefore}
+use Rattle.body.specs.Patches.{patchFrom}
+use Rattle.acceptance.specs.Acceptance.{Accepted}
+use Rattle.acceptance.specs.Judged.{acceptedBy, acceptedRows, decisionsIn}
+
+-- the patches from row k on, whose vertices start at `base` and whose indices at i
+abbrev pub restOf : List ℕ → List Float → List Float → List ℕ → ℕ → ℕ → ℕ → List Patch
+restOf table ps ns is k base i = patchesOf (drop k (rowsOf table)) (drop (3 * base) ps) (drop (3 * base) ns) (drop i is)
+
+-- the rows from row k on begin with it
+pub rows-here : (table : List ℕ) (k : ℕ) → k < length (rowsOf table) → drop k (rowsOf table) ≡ rowAt table k ∷ drop (k + 1) (rowsOf table)
+unfolding rowAt
+rows-here table k h = let f : suc k ≡ k + 1 = omega arith in drop-cons (rowsOf table) k noRow h ∙ ap (λ (x : ℕ). rowAt table k ∷ drop x (rowsOf table)) f
+
+-- the patches from row k on begin with its own
+pub rest-here : (table : List ℕ) (ps ns : List Float) (is : List ℕ) (k base i : ℕ) → k < length (rowsOf table)
+    → restOf table ps ns is k base i ≡ patchFrom (rowAt table k) ps ns is base i ∷ restOf table ps ns is (k + 1) (base + rowAt table k .vertices) (i + rowAt table k .indices)
+unfolding patchesOf
+rest-here table ps ns is k base i h =
+    let r = rowAt table k in
+    let e : 3 * base + 3 * r .vertices ≡ 3 * (base + r .vertices) = omega arith in
+    ap (λ (rows : List Row). patchesOf rows (drop (3 * base) ps) (drop (3 * base) ns) (drop i is)) (rows-here table k h)
+    ∙ (λ j. patchFrom r ps ns is base i ∷ patchesOf (drop (k + 1) (rowsOf table)) ((drop-drop (3 * r .vertices) (3 * base) ps ∙ ap (λ (n : ℕ). drop n ps) e) j)
+    ((drop-drop (3 * r .vertices) (3 * base) ns ∙ ap (λ (n : ℕ). drop n ns) e) j) (drop-drop (r .indices) i is j))
+
+-- the decisions from row k on begin with its own
+pub decisions-here : (table W : List ℕ) (at k : ℕ) → k < length (rowsOf table) → at + length (rowsOf table) ≤ length W
+    → drop k (decisionsIn table W at) ≡ getD W (at + k) 0 ∷ drop (k + 1) (decisionsIn table W at)
+decisions-here table W at k h room =
+    let m = length (rowsOf table) in
+    let long = length-take-le m (drop at W) (omega (arith, length-drop at W)) in
+    let f : suc k ≡ k + 1 = omega arith in
+    drop-cons (decisionsIn table W at) k 0 (omega arith)
+    ∙ (λ j. stretch-at at m W k 0 h j ∷ drop (f j) (decisionsIn table W at))
+
+-- a patch whose decision is 0 is not accepted
+pub accepted-no : {ds es : List ℕ} {ps qs : List Patch} {d : ℕ} {p : Patch} → ds ≡ d ∷ es → ps ≡ p ∷ qs → d ≡ 0 → acceptedBy ds ps ≡ acceptedBy es qs
+unfolding acceptedBy
+accepted-no {ds} {es} {ps} {qs} {d} {p} e f z = (λ j. acceptedBy (e j) (f j)) ∙ ap (λ (x : ℕ). acceptedBy (x ∷ es) (p ∷ qs)) z
+
+-- one with another decision is, with the material that the decision tells
+pub accepted-yes : {ds es : List ℕ} {ps qs : List Patch} (d : ℕ) {p : Patch} → ds ≡ d ∷ es → ps ≡ p ∷ qs → (d ≡ 0 → ⊥) → acceptedBy ds ps ≡ record { patch = p; material = d - 1 } ∷ acceptedBy es qs
+unfolding acceptedBy
+accepted-yes zero e f n = absurd (n refl)
+accepted-yes {es = es} {qs = qs} (suc m) {p = p} e f n =
+    let k : m ≡ suc m - 1 = omega arith in
+    (λ j. acceptedBy (e j) (f j)) ∙ ap (λ (x : ℕ). record { patch = p; material = x } ∷ acceptedBy es qs) k
+
+-- the same of rows
+pub rows-no : {ds es : List ℕ} {rs ss : List Row} {d : ℕ} {r : Row} → ds ≡ d ∷ es → rs ≡ r ∷ ss → d ≡ 0 → acceptedRows ds rs ≡ acceptedRows es ss
+unfolding acceptedRows
+rows-no {ds} {es} {rs} {ss} {d} {r} e f z = (λ j. acceptedRows (e j) (f j)) ∙ ap (λ (x : ℕ). acceptedRows (x ∷ es) (r ∷ ss)) z
+
+-- a row with another decision is accepted
+pub rows-yes : {ds es : List ℕ} {rs ss : List Row} (d : ℕ) {r : Row} → ds ≡ d ∷ es → rs ≡ r ∷ ss → (d ≡ 0 → ⊥) → acceptedRows ds rs ≡ r ∷ acceptedRows es ss
+unfolding acceptedRows
+rows-yes zero e f n = absurd (n refl)
+rows-yes (suc m) e f n = λ j. acceptedRows (e j) (f j)
