@@ -1,0 +1,12 @@
+-- The definitions of the mesh, what the code asks and leaves, laws of both, and the definitions computed.
+pub mod Mesh
+pub mod JudgedRows
+pub mod Written
+pub mod Runs
+pub mod Parts
+pub mod Ranges
+pub mod RowLaws
+pub mod LaidLaws
+pub mod MaterialLaws
+pub mod RangeLaws
+pub mod Evaluation
