@@ -1,20 +1,18 @@
--- Acceptance, the mesh with its parts, ranges and failures, the edge counts, and the call. Assumes nothing.
-use mathlib.Core.Bool.{Bool, true, false, not, _&&_, _||_, cond}
+-- Acceptance, the mesh with its parts, ranges and failures, and the call. Assumes nothing.
+use mathlib.Core.Bool.{Bool, true, false, not, _||_, cond}
 use mathlib.Core.List.{List, [], _∷_, _++_, map, flatMap}
 use mathlib.Core.Option.{Option, none, some}
 use Prim.Native.Nat.{ℕ, zero, suc, _+_, _-_, _*_, _^_}
 use lib.ListN.{length}
 use lib.Dec.{leb, ltb, eqb}
 use lib.Ieee.{Float}
-use Rattle.lists.specs.Lists.{any, countIf, sumOf, itemAt, written}
+use Rattle.lists.specs.Lists.{any, sumOf, itemAt, written}
 use Rattle.floats.specs.Floats.{bits64}
-use Rattle.points.specs.Rule.{Rule, names}
-use Rattle.join.specs.Join.{joined}
 use Rattle.points.specs.Points.{bits}
-use Rattle.body.specs.Body.{Row, Patch, Check, check, trianglesOf, rowsOf, patchesOf, bodyChecks, firstFailing, cleared}
+use Rattle.body.specs.Body.{Row, Patch, Check, check, rowsOf, patchesOf, bodyChecks, firstFailing, cleared}
 use Rattle.geometry.specs.declared.Aabb.{Aabb}
 use Rattle.geometry.specs.Geometry.{farthest, diagonal, escapesBody}
-use Rattle.edges.specs.Edges.{Use, triangleUses, usesOf, firstUses}
+use Rattle.counts.specs.Counts.{Counts, countsOf, closedBy}
 use Rattle.assemble.specs.declared.Failure.{Failure}
 use Rattle.assemble.specs.declared.Failure.the-variants.{Empty, Upstream, Escape}
 
@@ -155,29 +153,6 @@ failureNumbers f = elim (f .failure) [
   | Upstream n ↦ f .face ∷ n ∷ 0 ∷ 0 ∷ []
   | Escape reach span ↦ f .face ∷ 256 ∷ bits64 reach ∷ bits64 span ∷ []
 ]
-
--- ---- the edge counts
-
--- edges, open (one use), over (more than two)
-pub record Counts : Type 0 where
-  pub edges : ℕ
-  pub openEdges : ℕ
-  pub overEdges : ℕ
-
--- the counts over a mesh's positions and indices, points joined by a rule; edges with equal ends are skipped
-unfoldable pub countsOf : Rule → List Float → List ℕ → Counts
-countsOf rule ps is =
-    let uses = triangleUses 0 0 (joined (names rule ps)) (trianglesOf is) in
-    let firsts = firstUses [] uses in
-    record {
-      edges = length firsts;
-      openEdges = countIf (λ u. eqb (usesOf uses u) 1) firsts;
-      overEdges = countIf (λ u. ltb 2 (usesOf uses u)) firsts;
-    }
-
--- Closed, if open and over are both 0.
-unfoldable pub closedBy : Counts → Bool
-closedBy c = eqb (c .openEdges) 0 && eqb (c .overEdges) 0
 
 -- ---- the call
 

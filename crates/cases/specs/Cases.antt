@@ -18,7 +18,8 @@ use Rattle.orient.specs.Orient.{AfterTurn}
 use Rattle.orient.specs.Claims.{turnGiven}
 use Rattle.stitch.specs.Stitch.{StitchSlices, AfterStitch}
 use Rattle.stitch.specs.Claims.{roomy, stitchGiven}
-use Rattle.assemble.specs.Assemble.{Counts, AfterAssemble}
+use Rattle.counts.specs.Counts.{Counts}
+use Rattle.assemble.specs.Assemble.{AfterAssemble}
 use Rattle.finish.specs.Evaluation.{evaluation}
 use Rattle.finish.specs.Finish.{Sheet, Outcome, Refused, Finished, finish}
 

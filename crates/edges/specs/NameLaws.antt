@@ -3,11 +3,11 @@ use mathlib.Core.Path.{_≡_, refl, sym, ap, _∙_}
 use mathlib.Core.Bool.{Bool, true, false, _&&_, _||_}
 use Prim.Native.Nat.{ℕ, zero, suc, _+_, _-_, _*_, _≤_, _<_, min, max}
 use native.Mathlib.Omega.{arith}
-use native.Mathlib.Decide.{ℕ-discrete}
+use native.Mathlib.Decide.{ℕ-discrete, decLt}
 use lib.Dec.{eqb}
-use borrow.Author.Tests.{eq-eqb, ne-eqb}
+use borrow.Author.Tests.{eq-eqb, ne-eqb, lt-ltb, le-ltb}
 use Rattle.edges.specs.Edges.{Use, sameEdge}
-use Rattle.edges.specs.Named.{edgeName, useName}
+use Rattle.edges.specs.Named.{edgeName, runOf, useName}
 
 -- a use between points that have names
 pub record LowUse (u : Use) : Type 0 where
@@ -75,3 +75,19 @@ names-tell u v lu lv = go (ℕ-discrete (v .shell) (u .shell)) (ℕ-discrete (v 
     go (yes s) (no p) q (yes r) (no t) =
         rw (eq-eqb (v .shell) (u .shell) s, ne-eqb (v .start) (u .start) p, eq-eqb (v .start) (u .end) r, ne-eqb (v .end) (u .start) t)
         (differ (λ n. p (omega (arith, lower-of n, higher-of n))) refl)
+
+-- ---- the way a use runs
+
+-- a use with equal ends runs 2
+pub run-equal : (a b : ℕ) → a ≡ b → runOf a b ≡ 2
+unfolding runOf
+run-equal a b e = rw (eq-eqb a b e)
+
+-- a use whose ends differ does not
+pub run-apart : (a b : ℕ) → (a ≡ b → ⊥) → runOf a b ≡ 2 → ⊥
+unfolding runOf
+run-apart a b h e = go (decLt a b)
+  where
+    go : Dec (a < b) → ⊥
+    go (yes l) = let z : runOf a b ≡ 0 = rw (ne-eqb a b h, lt-ltb a b l) in omega arith
+    go (no l) = let z : runOf a b ≡ 1 = rw (ne-eqb a b h, le-ltb a b (omega arith)) in omega arith

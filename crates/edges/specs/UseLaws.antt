@@ -132,7 +132,7 @@ low-append (x ∷ xs) ys f g zero = f 0
 low-append (x ∷ xs) ys f g (suc i) = low-append xs ys (λ k. f (suc k)) g i
 
 -- one row's uses run between points of the list
-low-triangles : (shell row : ℕ) (P : List ℕ) (ts : List Triangle) → ((x : ℕ) → getD P x 0 < 262144) → (i : ℕ) → LowUse (getD (triangleUses shell row P ts) i noUse)
+pub low-triangles : (shell row : ℕ) (P : List ℕ) (ts : List Triangle) → ((x : ℕ) → getD P x 0 < 262144) → (i : ℕ) → LowUse (getD (triangleUses shell row P ts) i noUse)
 unfolding triangleUses
 low-triangles shell row P [] h i = record { start-low = omega arith; end-low = omega arith }
 low-triangles shell row P (t ∷ ts) h zero = record { start-low = h (t .a); end-low = h (t .b) }
@@ -203,3 +203,10 @@ apart-tells g us a i j h l =
         ap (λ b. b && (eqb (getD us j noUse .start) (getD us i noUse .start) && eqb (getD us j noUse .end) (getD us i noUse .end) || eqb (getD us j noUse .start) (getD us i noUse .end) && eqb (getD us j noUse .end) (getD us i noUse .start)))
         (ne-eqb (getD us j noUse .shell) (getD us i noUse .shell) n ∙ sym (ne-eqb (g (getD us j noUse .shell)) (g (getD us i noUse .shell)) (λ e. n (a .shells j i l h e))))
         ∙ t
+
+-- the edge of use i has as many uses as there are with its first use
+pub edge-count : (us : List Use) → Apart (λ s. s) us → (i : ℕ) → i < length us → countIf (eqb (firstIndex (map useName us) i)) (joined (map useName us)) ≡ usesOf us (getD us i noUse)
+edge-count us a i l =
+    count-firsts (map useName us) i (omega (arith, length-named useName us))
+    ∙ ap (λ (n : ℕ). countIf (eqb n) (map useName us)) (getD-map useName us i l)
+    ∙ sym (count-at (nameBy (λ s. s)) us (apart-tells (λ s. s) us a) i l)

@@ -12,4 +12,5 @@ pub use bodies::name_uses;
 pub use counts::count_uses;
 pub use rows::fill;
 pub use rows::name_row;
+pub use rows::run_row;
 pub use users::first_users;

@@ -11,7 +11,8 @@ use lib.Seq.{getD-drop, getD-set-same, getD-set-other, take-set-le, drop-set-lt}
 use lib.Dec.{eqb}
 use Rattle.lists.specs.Stretches.{front-at, rest-less}
 use Rattle.edges.specs.Edges.{Use, skipped, usesOf, isOpen}
-use Rattle.edges.specs.Named.{runOf, useRun}
+use Rattle.edges.specs.Named.{useRun}
+use Rattle.edges.specs.NameLaws.{run-equal, run-apart}
 use Rattle.loose.specs.Open.{flagOf, flagBy, countIn, flagIn, FlagReady, FlagsReady, FlagsSet}
 
 -- ---- the flag by run and count
@@ -30,20 +31,6 @@ flag-one run count n e = rw (ne-eqb run 2 n, eq-eqb count 1 e)
 pub flag-more : (run count : ℕ) → (run ≡ 2 → ⊥) → (count ≡ 1 → ⊥) → 0 ≡ flagBy run count
 unfolding flagBy
 flag-more run count n e = rw (ne-eqb run 2 n, ne-eqb count 1 e)
-
--- equal ends
-run-equal : (a b : ℕ) → a ≡ b → runOf a b ≡ 2
-unfolding runOf
-run-equal a b e = rw (eq-eqb a b e)
-
--- ends that differ
-run-apart : (a b : ℕ) → (a ≡ b → ⊥) → runOf a b ≡ 2 → ⊥
-unfolding runOf
-run-apart a b h e = go (decLt a b)
-  where
-    go : Dec (a < b) → ⊥
-    go (yes l) = let z : runOf a b ≡ 0 = rw (ne-eqb a b h, lt-ltb a b l) in omega arith
-    go (no l) = let z : runOf a b ≡ 1 = rw (ne-eqb a b h, le-ltb a b (omega arith)) in omega arith
 
 -- the flag by a use's run and by how many uses its edge has is the definition's
 pub flag-is : (us : List Use) (u : Use) → flagBy (useRun u) (usesOf us u) ≡ flagOf us u

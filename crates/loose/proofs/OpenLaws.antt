@@ -22,7 +22,7 @@ use Rattle.edges.specs.Edges.{Use, usesOf}
 use Rattle.edges.specs.Named.{useName, useRun}
 use Rattle.edges.specs.FirstUsers.{UsersReady, usesIn}
 use Rattle.edges.specs.RowUses.{Inside, row-uses-agree}
-use Rattle.edges.specs.UseLaws.{noUse, nameBy, Apart, apart-tells, rows-uses, low-uses, getD-map, length-named, count-at, count-firsts}
+use Rattle.edges.specs.UseLaws.{noUse, Apart, rows-uses, low-uses, getD-map, length-named, edge-count}
 use Rattle.loose.specs.Open.{flagsAt, flagsEnd, bodyUses, flagOf, flagBy, countIn, flagIn, Markable, Marked, BodyJoined, UsesCounted, FlagsReady, FlagsSet}
 use Rattle.loose.proofs.FlagLaws.{flag-is}
 use Rattle.loose.proofs.OpenStages.{uses-count}
@@ -36,13 +36,6 @@ zeros-at : (rows : List Row) (k : ℕ) → getD (map one rows) k 0 ≡ 0
 zeros-at [] k = refl
 zeros-at (r ∷ rs) zero = refl
 zeros-at (r ∷ rs) (suc k) = zeros-at rs k
-
--- the edge of use i has as many uses as there are with its first use
-edge-count : (us : List Use) → Apart (λ s. s) us → (i : ℕ) → i < length us → countIf (eqb (firstIndex (map useName us) i)) (joined (map useName us)) ≡ usesOf us (getD us i noUse)
-edge-count us a i l =
-    count-firsts (map useName us) i (omega (arith, length-named useName us))
-    ∙ ap (λ (n : ℕ). countIf (eqb n) (map useName us)) (getD-map useName us i l)
-    ∙ sym (count-at (nameBy (λ s. s)) us (apart-tells (λ s. s) us a) i l)
 
 -- a list that is mapped, item by item
 mapped-at : (f : Use → ℕ) (us : List Use) (xs : List ℕ) → length xs ≡ length us → ((i : ℕ) → i < length us → getD xs i 0 ≡ f (getD us i noUse)) → xs ≡ map f us
