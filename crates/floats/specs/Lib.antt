@@ -4,5 +4,7 @@ pub mod Narrowing
 pub mod Root
 pub mod SquareRoot
 pub mod RootOrder
+pub mod Plus
+pub mod RootLarger
 pub mod Cases
 pub mod Evaluation

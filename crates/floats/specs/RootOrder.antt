@@ -23,7 +23,7 @@ unfolding rootOf
 rounded-root n = round-fits binary64 false _ (2 ^ 1074)
 
 -- the root of a value above zero is an f64
-root-fits : (x : Float) → T (positive x) → T (fits binary64 (sqrt x))
+pub root-fits : (x : Float) → T (positive x) → T (fits binary64 (sqrt x))
 unfolding sqrt
 root-fits nan p = absurd p
 root-fits (inf s) p = absurd p
@@ -32,7 +32,7 @@ root-fits (fin false zero e) p = absurd p
 root-fits (fin false (suc m) e) p = rounded-root (suc m * up e * 4 ^ 1074 / down e)
 
 -- The roots of two values above zero are in the values' order: were they not, the middle of the two roots would be below the one value and above the other.
-roots-ordered : (x y : Float) → T (positive x) → T (positive y) → T (le x y) → (n : Nearest x (sqrt x)) (m : Nearest y (sqrt y)) → n .root ≤ m .root
+pub roots-ordered : (x y : Float) → T (positive x) → T (positive y) → T (le x y) → (n : Nearest x (sqrt x)) (m : Nearest y (sqrt y)) → n .root ≤ m .root
 roots-ordered x y p q h n m =
     le-of-suc-le-suc
     (lt-of-not-le
@@ -159,7 +159,7 @@ not-above-infinity (inf t) h = true≢false (sym h)
 not-above-infinity (fin t n d) h = true≢false (sym h)
 
 -- what is below isn't above
-below-le : (x y : Float) → lt x y ≡ true → T (le x y)
+pub below-le : (x y : Float) → lt x y ≡ true → T (le x y)
 unfolding le
 below-le x y h = rw h tt
 

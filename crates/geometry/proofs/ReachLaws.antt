@@ -1,5 +1,5 @@
 -- The loop of `reach_from` follows `reachFrom`: what is left to look at gives the same at each turn; and the escape. Assumes nothing.
-use mathlib.Core.Path.{_≡_, refl, sym, ap, _∙_}
+use mathlib.Core.Path.{_≡_, refl, sym, ap, _∙_, subst}
 use mathlib.Core.Bool.{Bool, true, false, cond}
 use mathlib.Core.List.{List, [], _∷_}
 use Prim.Native.Nat.{ℕ, suc, _+_, _-_, _≤_, _<_}
@@ -7,19 +7,39 @@ use native.Mathlib.Numerals.{towards-suc}
 use native.Mathlib.Omega.{arith}
 use lib.ListN.{length, getD, drop, length-drop}
 use lib.Seq.{drop-cons}
-use lib.Ieee.{Float, nan, lt}
-use Rattle.floats.specs.Floats.{larger}
+use lib.Ieee as Ieee
+use lib.Ieee.{Float, nan, binary64, lt}
+use lib.Ieee.Bits.{ofBits-fits}
+use Rattle.floats.specs.Floats.{sqrt, negative, larger}
+use Rattle.floats.specs.Plus.{Plus, plus-square, plus-sum, plus-larger}
+use Rattle.floats.specs.RootLarger.{root-larger}
 use Rattle.geometry.specs.declared.Vec3.{Vec3}
 use Rattle.geometry.specs.declared.Aabb.{Aabb}
-use Rattle.geometry.specs.Geometry.{zero64, zeroV, pickV, subV, lengthV, vertexAt, distanceAt, isEmpty, centre, centreOf, diagonal, reachFrom, farthest, escapesBody}
+use Rattle.geometry.specs.Geometry.{add, mul, zero64, zeroV, pickV, subV, dot, lengthV, vertexAt, squareAt, isEmpty, centre, centreOf, diagonal, reachFrom, farthest, escapesBody}
 
--- the distance of a vertex from its difference
-pub distance-is : (ps : List Float) (k : ℕ) (c : Vec3) {p d : Vec3} {r : Float} → p ≡ vertexAt ps k → d ≡ subV p c → r ≡ lengthV d → r ≡ distanceAt ps k c
-distance-is ps k c e f g = g ∙ ap lengthV (f ∙ ap (λ (v : Vec3). subV v c) e)
+-- the square of a vertex's distance from its difference
+pub square-is : (ps : List Float) (k : ℕ) (c : Vec3) {p d : Vec3} {r : Float} → p ≡ vertexAt ps k → d ≡ subV p c → r ≡ dot d d → r ≡ squareAt ps k c
+square-is ps k c e f g = g ∙ ap (λ (v : Vec3). dot v v) (f ∙ ap (λ (v : Vec3). subV v c) e)
+
+-- no sign keeps it from having a root
+square-plus : (p : Vec3) → Plus (dot p p)
+square-plus p =
+    plus-sum (add (mul (p .x) (p .x)) (mul (p .y) (p .y))) (mul (p .z) (p .z))
+    (plus-sum (mul (p .x) (p .x)) (mul (p .y) (p .y)) (plus-square (p .x)) (plus-square (p .y)))
+    (plus-square (p .z))
+
+-- nor zero, which is its own root
+zero-plus : Plus zero64
+unfolding negative Ieee.ofBits
+zero-plus = record { f64 = ofBits-fits binary64 0; plus = refl }
+
+zero-root : sqrt zero64 ≡ zero64
+unfolding sqrt Ieee.ofBits
+zero-root = refl
 
 -- the vertex at k, and those behind it
-reach-next : (c : Vec3) (r : Float) (ps : List Float) (k : ℕ) → k + 2 < length ps → reachFrom c r (drop k ps) ≡ reachFrom c (larger r (distanceAt ps k c)) (drop (k + 3) ps)
-unfolding reachFrom
+reach-next : (c : Vec3) (r : Float) (ps : List Float) (k : ℕ) → k + 2 < length ps → reachFrom c r (drop k ps) ≡ reachFrom c (larger r (sqrt (squareAt ps k c))) (drop (k + 3) ps)
+unfolding reachFrom lengthV
 reach-next c r ps k h =
     simp towards-suc
     (ap (reachFrom c r)
@@ -37,28 +57,40 @@ reach-end c r (x ∷ y ∷ z ∷ ps) h = absurd (no (length ps) h)
     no : (n : ℕ) → suc (suc (suc n)) < 3 → ⊥
     no n l = omega arith
 
--- at coordinate k the reach so far is such that the rest gives the whole
+-- at coordinate k the root of the square so far is such that the rest gives the whole
 pub record Reaching (ps : List Float) (c : Vec3) (n k : ℕ) (far : Float) : Type 0 where
   pub all : n ≡ length ps
   pub low : k ≤ n
-  pub rest : reachFrom c far (drop k ps) ≡ reachFrom c zero64 ps
+  pub plus : Plus far
+  pub rest : reachFrom c (sqrt far) (drop k ps) ≡ reachFrom c zero64 ps
 
 -- no vertex is passed yet
 pub reaching-none : (ps : List Float) (c : Vec3) {n : ℕ} → n ≡ length ps → Reaching ps c n 0 zero64
-reaching-none ps c e = record { all = e; low = omega arith; rest = refl }
+reaching-none ps c e = record { all = e; low = omega arith; plus = zero-plus; rest = ap (λ (x : Float). reachFrom c x ps) zero-root }
 
 -- the vertex at k is passed
-pub reaching-more : {ps : List Float} {c : Vec3} {n k : ℕ} {far d r : Float} → Reaching ps c n k far → 3 ≤ n - k → d ≡ distanceAt ps k c → r ≡ larger far d
+pub reaching-more : {ps : List Float} {c : Vec3} {n k : ℕ} {far d r : Float} → Reaching ps c n k far → 3 ≤ n - k → d ≡ squareAt ps k c → r ≡ larger far d
     → Reaching ps c n (k + 3) r
-reaching-more {ps} {c} {n} {k} {far} s h e f = record {
+reaching-more {ps} {c} {n} {k} {far} {d} {r} s h e f = record {
   all = s .all;
   low = omega arith;
-  rest = ap (λ (x : Float). reachFrom c x (drop (k + 3) ps)) (f ∙ ap (larger far) e) ∙ sym (reach-next c far ps k (omega (arith, s .all))) ∙ s .rest;
+  plus = subst Plus (sym next) (plus-larger far (squareAt ps k c) (s .plus) own);
+  rest =
+      ap (λ (x : Float). reachFrom c (sqrt x) (drop (k + 3) ps)) next
+      ∙ ap (λ (x : Float). reachFrom c x (drop (k + 3) ps)) (root-larger far (squareAt ps k c) (s .plus) own)
+      ∙ sym (reach-next c (sqrt far) ps k (omega (arith, s .all)))
+      ∙ s .rest;
 }
+  where
+    own : Plus (squareAt ps k c)
+    own = square-plus (subV (vertexAt ps k) c)
 
--- every vertex is
-pub reaching-all : {ps : List Float} {c : Vec3} {n k : ℕ} {far : Float} → Reaching ps c n k far → n - k < 3 → far ≡ reachFrom c zero64 ps
-reaching-all {ps} {c} {n} {k} {far} s h = sym (reach-end c far (drop k ps) (simp length-drop (omega (arith, s .all)))) ∙ s .rest
+    next : r ≡ larger far (squareAt ps k c)
+    next = f ∙ ap (larger far) e
+
+-- every vertex is: the root is taken
+pub reaching-all : {ps : List Float} {c : Vec3} {n k : ℕ} {far r : Float} → Reaching ps c n k far → n - k < 3 → r ≡ sqrt far → r ≡ reachFrom c zero64 ps
+reaching-all {ps} {c} {n} {k} {far} s h e = e ∙ sym (reach-end c (sqrt far) (drop k ps) (simp length-drop (omega (arith, s .all)))) ∙ s .rest
 
 module _ (ps : List Float) (box : Aabb) {e : Bool} (test : e ≡ isEmpty box) where
   -- the reach in a box that is empty, and in one that is not

@@ -71,9 +71,9 @@ vertexAt ps k = record { x = widen (getD ps k nan); y = widen (getD ps (k + 1) n
 abbrev pub pointAt : List Float → ℕ → Vec3
 pointAt ps i = vertexAt ps (3 * i)
 
--- how far the vertex whose coordinates start at k is from c
-abbrev pub distanceAt : List Float → ℕ → Vec3 → Float
-distanceAt ps k c = lengthV (subV (vertexAt ps k) c)
+-- the square of how far the vertex whose coordinates start at k is from c
+abbrev pub squareAt : List Float → ℕ → Vec3 → Float
+squareAt ps k c = dot (subV (vertexAt ps k) c) (subV (vertexAt ps k) c)
 
 -- a0(b1c2 − b2c1) − a1(b0c2 − b2c0) + a2(b0c1 − b1c0), left to right
 abbrev pub det : Vec3 → Vec3 → Vec3 → Float

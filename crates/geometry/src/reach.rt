@@ -6,17 +6,18 @@ use crate::volume::vertex;
 ghost use mathlib.Core.Path.{_≡_};
 ghost use Prim.Native.Nat.{_+_, _<_};
 ghost use lib.ListN.{length};
-ghost use Rattle.geometry.specs.Geometry.{distanceAt, escapesBody, farthest, reachFrom, zero64};
+ghost use Rattle.geometry.specs.Geometry.{escapesBody, farthest, reachFrom, squareAt, zero64};
 
-// How far the vertex whose coordinates start at k is from c.
-fn distance(positions: &[f32], k: usize, c: Vec3) -> f64
+// The square of how far the vertex whose coordinates start at k is from c.
+fn distance_squared(positions: &[f32], k: usize, c: Vec3) -> f64
     requires { ⌜ k + 2 < length (now positions) ⌝ }
-    ensures { λ r. ⌜ r ≡ distanceAt (now (positions .entry)) k c ⌝ }
+    ensures { λ r. ⌜ r ≡ squareAt (now (positions .entry)) k c ⌝ }
 {
-    vertex(positions, k).sub(c).length()
+    let d = vertex(positions, k).sub(c);
+    d.dot(d)
 }
 
-// How far the farthest vertex is from c.
+// How far the farthest vertex is from c. One root serves all vertices, since the root of the larger of two squares is the larger of their roots.
 fn reach_from(positions: &[f32], c: Vec3) -> f64
     ensures { λ r. ⌜ r ≡ reachFrom c zero64 (now (positions .entry)) ⌝ }
 {
@@ -24,10 +25,10 @@ fn reach_from(positions: &[f32], c: Vec3) -> f64
     let mut k = 0usize;
     let n = positions.len();
     while n - k >= 3 {
-        far = floats::larger_f64(far, distance(positions, k, c));
+        far = floats::larger_f64(far, distance_squared(positions, k, c));
         k += 3;
     }
-    far
+    floats::sqrt_f64(far)
 }
 
 // How far the farthest vertex, used or not, is from the box's centre; 0 for an empty box.

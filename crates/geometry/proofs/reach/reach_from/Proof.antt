@@ -1,4 +1,4 @@
--- `geometry::reach::reach_from` meets its contract. What is left to look at gives the same reach at each turn. Assumes nothing.
+-- `geometry::reach::reach_from` meets its contract. What is left to look at gives the same reach at each turn, from the root of the square so far. Assumes nothing.
 use Prim.Native.Nat.{_-_}
 use Rattle.geometry.proofs.ReachLaws.{Reaching, reaching-none, reaching-more, reaching-all}
 use Rattle.geometry.proofs.reach.reach_from.Statement.{statement}
@@ -17,8 +17,8 @@ loop-holds c = search reaching-none
 sub-loop : tie.Need-sub-loop Inv-loop μ-loop
 sub-loop c = search needs
 
-distance-requires : tie.Need-distance-requires Inv-loop μ-loop
-distance-requires c κs = search needs
+distance-squared-requires : tie.Need-distance-squared-requires Inv-loop μ-loop
+distance-squared-requires c κs = search needs
 
 larger-f64-requires : tie.Need-larger-f64-requires Inv-loop μ-loop
 larger-f64-requires c κs = search needs
@@ -32,6 +32,9 @@ loop-less c = search needs
 loop-again : tie.Need-loop-again Inv-loop μ-loop
 loop-again c = search reaching-more
 
+sqrt-f64-requires : tie.Need-sqrt-f64-requires Inv-loop μ-loop
+sqrt-f64-requires c κs = search needs
+
 returns : tie.Need-returns Inv-loop μ-loop
 returns c = search reaching-all
 
@@ -43,9 +46,10 @@ reach-from-spec =
     μ-loop
     loop-holds
     sub-loop
-    distance-requires
+    distance-squared-requires
     larger-f64-requires
     add-k
     loop-less
     loop-again
+    sqrt-f64-requires
     returns)
