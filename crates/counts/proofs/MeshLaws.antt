@@ -16,14 +16,14 @@ use Rattle.points.specs.Points.{bits}
 use Rattle.points.specs.Names.{names-length}
 use Rattle.body.specs.Body.{trianglesOf}
 use Rattle.join.specs.declared.vertices.Rule.the-variants.{Bits}
-use Rattle.join.specs.Join.{joined, firstIndex, RoomAt, JoinedAt}
+use Rattle.join.specs.Join.{joined, RoomAt, JoinedAt}
 use Rattle.join.specs.Representatives.{rep-below, joined-length, joined-at}
 use Rattle.join.specs.Rules.{ruleOf, JoinedPoints}
 use Rattle.edges.specs.Edges.{Use, triangleUses}
 use Rattle.edges.specs.Named.{useName, useRun, RowReady, NameReady}
 use Rattle.edges.specs.Counted.{CountReady, Counted}
 use Rattle.edges.specs.RowUses.{uses-agree, uses-count}
-use Rattle.edges.specs.UseLaws.{noUse, Apart, low-triangles, getD-map, length-named}
+use Rattle.edges.specs.UseLaws.{Apart, low-triangles, getD-map, length-named}
 use Rattle.counts.specs.declared.tally.EdgeCounts.{EdgeCounts}
 use Rattle.counts.specs.Counts.{Counts, countsOf}
 use Rattle.counts.specs.Tally.{countsIn, UseWords, CountsOver, Tallied}

@@ -2,19 +2,19 @@
 use mathlib.Core.Path.{_≡_, refl, sym, ap, _∙_}
 use mathlib.Core.Bool.{Bool, true, false, cond}
 use mathlib.Core.List.{List, [], _∷_}
-use Prim.Native.Nat.{ℕ, zero, suc, _+_, _*_, _<_, _≤_}
+use Prim.Native.Nat.{ℕ, suc, _+_, _*_, _<_, _≤_}
 use native.Mathlib.Nat.{add-zero}
 use native.Mathlib.Omega.{arith}
 use native.Mathlib.Decide.{ℕ-discrete}
 use borrow.Author.Tests.{eq-eqb, ne-eqb, lt-ltb, le-ltb}
-use lib.ListN.{length, getD, drop, drop-of-length-le}
+use lib.ListN.{length, getD, drop-of-length-le}
 use lib.Dec.{eqb, ltb}
 use Rattle.lists.specs.Lists.{countIf}
 use Rattle.edges.specs.Edges.{Use, usesOf, firstUses}
 use Rattle.edges.specs.UseLaws.{noUse}
 use Rattle.counts.specs.declared.tally.EdgeCounts.{EdgeCounts}
 use Rattle.counts.specs.Counts.{Counts}
-use Rattle.counts.specs.Tally.{countsIn, withEdge, withUse, Few, UseReady, TallyReady, UseWords, CountsOver, Tallied}
+use Rattle.counts.specs.Tally.{countsIn, withEdge, withUse, UseReady, TallyReady, UseWords, Tallied}
 use Rattle.counts.proofs.UseSteps.{firstsFrom, firsts-all, firsts-none, passed-equal, passed-later, taken-first, uses-there}
 
 -- ---- one edge more

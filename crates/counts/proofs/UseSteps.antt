@@ -2,7 +2,7 @@
 use mathlib.Core.Path.{_≡_, refl, sym, ap, _∙_}
 use mathlib.Core.Bool.{Bool, true, false, _||_, cond}
 use mathlib.Core.List.{List, [], _∷_, map}
-use Prim.Native.Nat.{ℕ, zero, suc, _+_, _*_, _<_, _≤_}
+use Prim.Native.Nat.{ℕ, zero, suc, _+_, _*_, _<_}
 use native.Mathlib.Nat.{not-suc-le-zero}
 use native.Mathlib.Numerals.{add-one}
 use native.Mathlib.Omega.{arith}
@@ -15,9 +15,9 @@ use Rattle.lists.specs.Lists.{any, countIf}
 use Rattle.join.specs.Join.{joined, firstIndex}
 use Rattle.join.specs.Representatives.{rep-low, rep-name, same-name-rep}
 use Rattle.edges.specs.Edges.{Use, skipped, sameEdge, usesOf, firstUses}
-use Rattle.edges.specs.Named.{useName, useRun}
+use Rattle.edges.specs.Named.{useName}
 use Rattle.edges.specs.NameLaws.{run-equal, run-apart}
-use Rattle.edges.specs.UseLaws.{noUse, nameBy, Tells, apart-tells, getD-map, length-named, edge-count}
+use Rattle.edges.specs.UseLaws.{noUse, apart-tells, getD-map, length-named, edge-count}
 use Rattle.counts.specs.Tally.{UseWords}
 
 -- the uses before use i, the last first

@@ -1,8 +1,7 @@
 -- Small meshes counted, each of which tells a reading of document 01 from a near miss. Assumes nothing.
-use mathlib.Core.Bool.{Bool, true, false, cond}
-use mathlib.Core.List.{List, [], _∷_, _++_}
+use mathlib.Core.Bool.{Bool, cond}
+use mathlib.Core.List.{List, [], _∷_}
 use Prim.Native.Nat.{ℕ}
-use lib.IntN.{ℤ}
 use lib.Dec.{T}
 use lib.Ieee.{Float}
 use Rattle.lists.specs.Lists.{all}
