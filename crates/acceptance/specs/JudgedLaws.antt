@@ -7,14 +7,17 @@ use Prim.Native.Nat.{ℕ, zero, suc, _+_, _*_, _≤_, _<_}
 use native.Mathlib.Omega.{arith}
 use lib.ListN.{length, getD, take, drop, length-drop}
 use lib.Seq.{length-take-le}
+use lib.Dec.{ltb}
 use lib.Ieee.{Float}
-use Rattle.lists.specs.Lists.{sumOf}
+use borrow.Author.Tests.{ltb-false}
+use Rattle.lists.specs.Lists.{sumOf, itemAt}
+use Rattle.lists.specs.Any.{any-none}
 use Rattle.body.specs.Body.{Row, Patch, rowsOf, patchesOf, allVertices, allIndices}
 use Rattle.body.specs.Patches.{patchFrom}
 use Rattle.geometry.specs.declared.Aabb.{Aabb}
 use Rattle.acceptance.specs.declared.Failure.{Failure}
-use Rattle.acceptance.specs.Acceptance.{failureOf, materialOf, Accepted, Failed, withPatch, acceptance, acceptedVertices, acceptedIndices}
-use Rattle.acceptance.specs.Judged.{decisionBy, decisionOf, acceptedBy, acceptedRows, failedBy, failedOf}
+use Rattle.acceptance.specs.Acceptance.{failureOf, entry, entryOf, materialOf, Accepted, Failed, withPatch, acceptance, acceptedVertices, acceptedIndices, badMaterials}
+use Rattle.acceptance.specs.Judged.{SmallMaterials, decisionBy, decisionOf, acceptedBy, acceptedRows, failedBy, failedOf}
 
 module _ (box : Aabb) (materials : List ℕ) (default : ℕ) where
   -- the accepted are those with a decision other than 0, with its material
@@ -104,3 +107,50 @@ accepted-most [] rows = omega arith
 accepted-most (d ∷ ds) [] = omega arith
 accepted-most (zero ∷ ds) (r ∷ rs) = let e = accepted-most ds rs in omega arith
 accepted-most (suc m ∷ ds) (r ∷ rs) = let e = accepted-most ds rs in omega arith
+
+-- ---- what decisions tell
+
+-- an entry not above n tells a number below it
+entry-low : (n e : ℕ) → e ≤ n → (d : ℕ) → d < n → elim (entry e) [ some m ↦ m | none ↦ d ] < n
+unfolding entry
+entry-low n zero h d l = l
+entry-low n (suc m) h d l = h
+
+-- so does an item's
+item-low : (n : ℕ) (xs : List ℕ) (k : ℕ) → ((j : ℕ) → j < length xs → getD xs j 0 ≤ n) → (d : ℕ) → d < n → elim (entryOf xs k) [ some m ↦ m | none ↦ d ] < n
+unfolding entryOf itemAt
+item-low n [] k h d l = l
+item-low n (x ∷ xs) zero h d l = entry-low n x (h 0 (omega arith)) d l
+item-low n (x ∷ xs) (suc k) h d l = item-low n xs k (λ j m. h (suc j) (omega arith)) d l
+
+-- a material is of 32 bits, where no entry and no default is above 2 ^ 32
+material-low : (materials : List ℕ) (default face : ℕ) → SmallMaterials materials default → materialOf materials default face < 4294967296
+unfolding materialOf
+material-low materials default face s = item-low 4294967296 materials face (s .entries) (elim (entry default) [ some m ↦ m | none ↦ 0 ]) (entry-low 4294967296 default (s .other) 0 (omega arith))
+
+-- a decision is not above 2 ^ 32
+pub decision-low : (box : Aabb) (materials : List ℕ) (default : ℕ) (p : Patch) → SmallMaterials materials default → decisionOf box materials default p ≤ 4294967296
+unfolding decisionOf decisionBy
+decision-low box materials default p s = go (failureOf box p)
+  where
+    go : (f : Option Failure) → decisionBy f (materialOf materials default (p .row .face)) ≤ 4294967296
+    go none = material-low materials default (p .row .face) s
+    go (some f) = omega arith
+
+-- a patch whose decision isn't 0 does not fail
+pub decision-tells : (box : Aabb) (materials : List ℕ) (default : ℕ) (p : Patch) → (decisionOf box materials default p ≡ 0 → ⊥) → failureOf box p ≡ none
+unfolding decisionOf decisionBy
+decision-tells box materials default p n = go (failureOf box p) n
+  where
+    go : (f : Option Failure) → (decisionBy f (materialOf materials default (p .row .face)) ≡ 0 → ⊥) → f ≡ none
+    go none m = refl
+    go (some f) m = absurd (m refl)
+
+-- check 42 has passed
+pub small-materials : (materials : List ℕ) (default : ℕ) → badMaterials materials default ≡ false → SmallMaterials materials default
+unfolding badMaterials
+small-materials materials default h =
+    record {
+      entries = λ k l. ltb-false 4294967296 (getD materials k 0) (any-none (λ m. ltb 4294967296 m) (default ∷ materials) 0 h (suc k) (omega arith));
+      other = ltb-false 4294967296 default (any-none (λ m. ltb 4294967296 m) (default ∷ materials) 0 h 0 (omega arith));
+    }

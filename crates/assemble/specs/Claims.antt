@@ -13,7 +13,8 @@ use Rattle.geometry.specs.declared.Aabb.{Aabb}
 use Rattle.geometry.specs.Geometry.{zero64}
 use Rattle.geometry.specs.Given.{box68, onePoint}
 use Rattle.counts.specs.Counts.{Counts}
-use Rattle.assemble.specs.Assemble.{Vertices, MeshSlices, AfterAssemble, assembleOf}
+use Rattle.mesh.specs.Mesh.{Vertices}
+use Rattle.assemble.specs.Assemble.{MeshSlices, AfterAssemble, assembleOf}
 use Rattle.assemble.specs.Evaluation.{evaluation}
 
 -- mesh slices of so many numbers, and tables of so many rows

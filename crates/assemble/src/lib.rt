@@ -1,8 +1,9 @@
-// Acceptance, the mesh and its counts: the definitions are in specs/.
+// Assembling: the accepted patches of a body as one mesh with a run per material and a range per face, the failures, and the edge counts.
 
-// Why a row is not in the mesh. An escape carries the reach and the span.
-pub enum Failure {
-    Empty,
-    Upstream(u32),
-    Escape(f64, f64),
-}
+mod assembling;
+mod checks;
+mod written;
+
+pub use assembling::Assembled;
+pub use assembling::assemble;
+pub use written::MeshCounts;

@@ -12,7 +12,9 @@ use Rattle.geometry.specs.declared.Aabb.{Aabb}
 use Rattle.geometry.specs.Geometry.{zero64}
 use Rattle.orient.specs.Orient.{AfterTurn, turnOf}
 use Rattle.stitch.specs.Stitch.{StitchSlices, AfterStitch, stitchOf}
-use Rattle.assemble.specs.Assemble.{partWidth, rangeWidth, failureWidth, MeshSlices, AfterAssemble, assembleOf}
+use Rattle.acceptance.specs.Acceptance.{failureWidth}
+use Rattle.mesh.specs.Mesh.{partWidth, rangeWidth}
+use Rattle.assemble.specs.Assemble.{MeshSlices, AfterAssemble, assembleOf}
 
 -- a sheet that was read: box, sag, default and materials (0 is none, n + 1 is material n), and the body, whose floats are f32 bits
 pub record Sheet : Type 0 where

@@ -8,5 +8,6 @@ pub mod Ranges
 pub mod RowLaws
 pub mod LaidLaws
 pub mod MaterialLaws
+pub mod RunsLong
 pub mod RangeLaws
 pub mod Evaluation

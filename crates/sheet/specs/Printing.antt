@@ -7,7 +7,9 @@ use lib.Dec.{ltb, eqb}
 use Rattle.floats.specs.Floats.{bits32}
 use Rattle.orient.specs.Orient.{AfterTurn}
 use Rattle.stitch.specs.Stitch.{AfterStitch}
-use Rattle.assemble.specs.Assemble.{partWidth, rangeWidth, failureWidth, Vertices, AfterAssemble}
+use Rattle.acceptance.specs.Acceptance.{failureWidth}
+use Rattle.mesh.specs.Mesh.{partWidth, rangeWidth, Vertices}
+use Rattle.assemble.specs.Assemble.{AfterAssemble}
 use Rattle.sheet.specs.Bytes.{bytes}
 use Rattle.sheet.specs.Forms.{Piece, Word, Bits, Number, print, numbers, vertexForm, triangleForm}
 

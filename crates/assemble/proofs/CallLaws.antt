@@ -1,0 +1,293 @@
+-- Laws of assemble: decisions and totals of an accepted body, its checks 42 and 41, and the call. Assumes nothing.
+use mathlib.Core.Path.{_≡_, refl, sym, ap, _∙_, subst}
+use mathlib.Core.Bool.{Bool, true, false, cond}
+use mathlib.Core.List.{List, [], _∷_, _++_, map, flatMap}
+use mathlib.Core.Option.{none}
+use Prim.Native.Nat.{ℕ, zero, suc, _+_, _*_, _≤_, _<_}
+use native.Mathlib.Nat.{not-suc-le-zero}
+use native.Mathlib.Omega.{arith}
+use borrow.Author.Tests.{eq-eqb, ne-eqb}
+use lib.ListN.{length, getD, take, drop, replicate, length-map}
+use lib.Seq.{sets, length-sets}
+use lib.Dec.{eqb}
+use lib.Ieee.{Float}
+use Rattle.lists.specs.Lists.{sumOf, written}
+use Rattle.lists.specs.Sets.{drop-sets}
+use Rattle.lists.specs.Stretches.{stretch-sets, stretch-at, rest-less}
+use Rattle.points.specs.Points.{bits}
+use Rattle.body.specs.Body.{Row, Patch, rowsOf, patchesOf, allVertices, allIndices, workNeeded, cleared, bodyChecks, firstFailing}
+use Rattle.body.specs.Rows.{Total}
+use Rattle.body.specs.Patches.{noPatch, length-patches}
+use Rattle.body.specs.Accepted.{Passed, passed-rows}
+use Rattle.geometry.specs.declared.Aabb.{Aabb}
+use Rattle.acceptance.specs.declared.totals.Totals.{Totals}
+use Rattle.acceptance.specs.Acceptance.{failureOf, Accepted, Failed, Acceptance, acceptance, acceptedVertices, acceptedIndices, failureNumbers, badMaterials}
+use Rattle.acceptance.specs.Judged.{SmallMaterials, decisionOf, Judgeable, acceptedBy, acceptedRows, decisionsIn, failedOf, bare}
+use Rattle.acceptance.specs.JudgedLaws.{accepted-by, failed-by, decisions-bare, failed-bare, accepted-count, accepted-vertices, accepted-indices, accepted-few, decision-low, decision-tells, small-materials}
+use Rattle.acceptance.specs.Totals.{TotalsReady, Totalled}
+use Rattle.mesh.specs.Mesh.{Laid, verticesOf, writtenVertices, laidFrom, materialsOf, runsOf, partOf, rangesFrom}
+use Rattle.mesh.specs.JudgedRows.{judgedIn, numbersBy}
+use Rattle.mesh.specs.LaidLaws.{laid-by, positions-by, normals-by}
+use Rattle.mesh.specs.Parts.{laidIn}
+use Rattle.counts.specs.Counts.{Counts, countsOf, closedBy}
+use Rattle.assemble.specs.declared.written.MeshCounts.{MeshCounts}
+use Rattle.assemble.specs.declared.assembling.Assembled.{Assembled}
+use Rattle.assemble.specs.declared.assembling.Assembled.the-variants.{Done, Refused}
+use Rattle.assemble.specs.Assemble.{MeshSlices, AfterAssemble, meshOf, meshTooShort, meshChecks, refuseMesh, writeMesh, clearedMesh, assembleOrRefuse, assembleOf}
+use Rattle.assemble.specs.Room.{RoomAsked, shortBy, short-is}
+use Rattle.assemble.specs.Written.{Decided, WriteReady, MeshWritten}
+use Rattle.assemble.specs.Assembled.{slicesOf, leftMesh, assembleAnswered, assembleAccepted, AssembleReady, BodyAssembled}
+use Rattle.assemble.proofs.RoomLaws.{Fits, fits}
+
+-- item k of a list with each item changed
+item-changed : (f : Patch → ℕ) (xs : List Patch) (k : ℕ) → k < length xs → getD (map f xs) k 0 ≡ f (getD xs k noPatch)
+item-changed f [] k h = absurd (not-suc-le-zero h)
+item-changed f (x ∷ xs) zero h = refl
+item-changed f (x ∷ xs) (suc k) h = item-changed f xs k (omega arith)
+
+-- ---- 42, then 41
+
+module _ (rows : List Row) (materials : List ℕ) (default : ℕ) (v : Acceptance) (out : MeshSlices) where
+  -- the definition by the number of the first check that fails
+  byNumber : ℕ → AfterAssemble
+  byNumber n = elim (eqb n 0) [ true ↦ writeMesh v out | false ↦ refuseMesh n out ]
+
+  by-number : assembleOrRefuse rows materials default v out ≡ byNumber (firstFailing (meshChecks (length rows) materials default (v .accepted) out))
+  unfolding assembleOrRefuse byNumber
+  by-number = refl
+
+  fails-42 : badMaterials materials default ≡ true → firstFailing (meshChecks (length rows) materials default (v .accepted) out) ≡ 42
+  unfolding meshChecks firstFailing
+  fails-42 e = ap (λ (b : Bool). cond b 42 (cond (meshTooShort (length rows) (v .accepted) out) 41 0)) e
+
+  fails-41 : badMaterials materials default ≡ false → meshTooShort (length rows) (v .accepted) out ≡ true → firstFailing (meshChecks (length rows) materials default (v .accepted) out) ≡ 41
+  unfolding meshChecks firstFailing
+  fails-41 e f = λ j. cond (e j) 42 (cond (f j) 41 0)
+
+  fails-none : badMaterials materials default ≡ false → meshTooShort (length rows) (v .accepted) out ≡ false → firstFailing (meshChecks (length rows) materials default (v .accepted) out) ≡ 0
+  unfolding meshChecks firstFailing
+  fails-none e f = λ j. cond (e j) 42 (cond (f j) 41 0)
+
+  -- refused with 42
+  pub refused-42 : badMaterials materials default ≡ true → leftMesh (Refused 42) out ≡ assembleAnswered (assembleOrRefuse rows materials default v out)
+  unfolding byNumber refuseMesh
+  refused-42 e = sym (ap assembleAnswered (by-number ∙ ap byNumber (fails-42 e)))
+
+  -- refused with 41
+  pub refused-41 : badMaterials materials default ≡ false → meshTooShort (length rows) (v .accepted) out ≡ true → leftMesh (Refused 41) out ≡ assembleAnswered (assembleOrRefuse rows materials default v out)
+  unfolding byNumber refuseMesh
+  refused-41 e f = sym (ap assembleAnswered (by-number ∙ ap byNumber (fails-41 e f)))
+
+  -- written
+  written-is : badMaterials materials default ≡ false → meshTooShort (length rows) (v .accepted) out ≡ false → assembleOrRefuse rows materials default v out ≡ writeMesh v out
+  unfolding byNumber
+  written-is e f = by-number ∙ ap byNumber (fails-none e f)
+
+-- ---- an accepted body
+
+-- what the decisions ask
+pub judge-ready : {table : List ℕ} {ps ns : List Float} {is W : List ℕ} {m : ℕ} {materials : List ℕ} {default : ℕ} {b : Bool} → AssembleReady table ps ns is W m → b ≡ badMaterials materials default → b ≡ false → Judgeable table ps is materials default W 0
+unfolding workNeeded
+judge-ready {materials = materials} {default = default} g e f =
+    let q = g .passed in
+    record { rows = passed-rows q; all-positions = q .all-positions; all-indices = q .all-indices; small = small-materials materials default (sym e ∙ f); room = omega (arith, q .enough) }
+
+module _ {table : List ℕ} {ps ns : List Float} {is W : List ℕ} {m : ℕ} (g : AssembleReady table ps ns is W m) (box : Aabb) (materials : List ℕ) (default : ℕ) where
+  abbrev v : Acceptance
+  v = acceptance box materials default (patchesOf (rowsOf table) ps ns is)
+
+  q : Passed table ps ns is (length W)
+  q = g .passed
+
+  needed : 16 * length is + 16 * m + 4 * allVertices (rowsOf table) ≡ workNeeded (rowsOf table)
+  unfolding workNeeded
+  needed = omega (arith, q .all-indices, g .rows-are)
+
+  words : 0 + length (rowsOf table) ≤ length W
+  words = omega (arith, q .enough, sym needed, g .rows-are)
+
+  -- 42
+  pub body-42 : (P N : List Float) (I parts ranges failures : List ℕ) {b : Bool} → b ≡ badMaterials materials default → b ≡ true → BodyAssembled table ps ns is box materials default P P N N I I parts parts ranges ranges failures failures W W (Refused 42)
+  body-42 P N I parts ranges failures e t = record { same = λ work. refused-42 (rowsOf table) materials default v (slicesOf P N I parts ranges failures work) (sym e ∙ t); rest = refl }
+
+  module _ {b : Bool} (eb : b ≡ badMaterials materials default) (fb : b ≡ false) where
+    small : SmallMaterials materials default
+    small = small-materials materials default (sym eb ∙ fb)
+
+    abbrev made : List ℕ
+    made = map (decisionOf box materials default) (bare table ps is)
+
+    made-long : length made ≡ length (rowsOf table)
+    made-long = length-map (bare table ps is) (decisionOf box materials default) ∙ length-patches (rowsOf table) ps [] is
+
+    module _ {E : List ℕ} (e : E ≡ sets W 0 made) where
+      long : length E ≡ length W
+      long = ap length e ∙ length-sets W 0 made
+
+      pub passed-after : Passed table ps ns is (length E)
+      passed-after = subst (λ (n : ℕ). Passed table ps ns is n) (sym long) q
+
+      decisions-are : decisionsIn table E 0 ≡ made
+      decisions-are = ap (λ (ws : List ℕ). take (length (rowsOf table)) (drop 0 ws)) e ∙ stretch-sets W 0 made (length (rowsOf table)) made-long words
+
+      decision-is : (k : ℕ) → k < length (rowsOf table) → getD E (0 + k) 0 ≡ decisionOf box materials default (getD (bare table ps is) k noPatch)
+      decision-is k h =
+          sym (stretch-at 0 (length (rowsOf table)) E k 0 h)
+          ∙ ap (λ (xs : List ℕ). getD xs k 0) decisions-are
+          ∙ item-changed (decisionOf box materials default) (bare table ps is) k (omega (arith, length-patches (rowsOf table) ps [] is))
+
+      -- the decisions stand
+      decided : Decided table ps ns is box E m
+      decided =
+          record {
+            passed = passed-after;
+            rows-are = g .rows-are;
+            small = λ k h. subst (λ (n : ℕ). n ≤ 4294967296) (sym (decision-is k h)) (decision-low box materials default (getD (bare table ps is) k noPatch) small);
+            others = λ k h n. decision-tells box materials default (getD (bare table ps is) k noPatch) (λ z. n (decision-is k h ∙ z));
+          }
+
+      -- what adding up asks
+      pub totals-ready : TotalsReady table E 0
+      totals-ready = record { rows = passed-rows q; room = omega (arith, words, long); few-vertices = q .vertices; few-indices = q .indices }
+
+      -- the accepted patches are the definition's
+      accepted-are : acceptedBy (decisionsIn table E 0) (patchesOf (rowsOf table) ps ns is) ≡ v .accepted
+      accepted-are =
+          ap (λ (ds : List ℕ). acceptedBy ds (patchesOf (rowsOf table) ps ns is)) (decisions-are ∙ decisions-bare box materials default (rowsOf table) ps [] ns is)
+          ∙ accepted-by box materials default (patchesOf (rowsOf table) ps ns is)
+
+      failed-are : flatMap (failedOf box) (bare table ps is) ≡ v .failed
+      failed-are = failed-bare box (rowsOf table) ps [] ns is ∙ failed-by box materials default (patchesOf (rowsOf table) ps ns is)
+
+      laid-are : laidIn table E 0 is ≡ laidFrom 0 (v .accepted)
+      laid-are = sym (laid-by 0 (decisionsIn table E 0) (rowsOf table) ps ns is) ∙ ap (laidFrom 0) accepted-are
+
+      positions-are : numbersBy (judgedIn table E 0) ps ≡ flatMap (λ a. a .patch .positions) (v .accepted)
+      positions-are = sym (positions-by (decisionsIn table E 0) (rowsOf table) ps ns is) ∙ ap (flatMap (λ (a : Accepted). a .patch .positions)) accepted-are
+
+      normals-are : numbersBy (judgedIn table E 0) ns ≡ flatMap (λ a. a .patch .normals) (v .accepted)
+      normals-are = sym (normals-by (decisionsIn table E 0) (rowsOf table) ps ns is) ∙ ap (flatMap (λ (a : Accepted). a .patch .normals)) accepted-are
+
+      rest-judged : drop (workNeeded (rowsOf table)) E ≡ drop (workNeeded (rowsOf table)) W
+      rest-judged = ap (drop (workNeeded (rowsOf table))) e ∙ drop-sets W 0 made (workNeeded (rowsOf table)) (omega (arith, made-long, sym needed, g .rows-are))
+
+      module _ {t : Totals} (s : Totalled table E 0 t) where
+        vertices-are : t .vertices ≡ acceptedVertices (v .accepted)
+        vertices-are = s .vertices-are ∙ sym (accepted-vertices (decisionsIn table E 0) (rowsOf table) ps ns is) ∙ ap acceptedVertices accepted-are
+
+        indices-are : t .indices ≡ acceptedIndices (v .accepted)
+        indices-are = s .indices-are ∙ sym (accepted-indices (decisionsIn table E 0) (rowsOf table) ps ns is (omega (arith, q .all-indices))) ∙ ap acceptedIndices accepted-are
+
+        vertices-few : t .vertices ≤ allVertices (rowsOf table)
+        vertices-few = omega (arith, s .vertices-are, accepted-few (decisionsIn table E 0) (rowsOf table))
+
+        -- what check 41 asks
+        pub room-asked : RoomAsked (t .vertices) m
+        room-asked = record { few-vertices = omega (arith, vertices-few, q .vertices); few-rows = omega (arith, g .rows-are, q .rows) }
+
+        module _ (P N : List Float) (I parts ranges failures : List ℕ) {c : Bool} (ec : c ≡ shortBy (t .vertices) (t .indices) m (length P) (length N) (length I) (length parts) (length ranges) (length failures)) where
+          short : (work : List ℕ) → c ≡ meshTooShort (length (rowsOf table)) (v .accepted) (slicesOf P N I parts ranges failures work)
+          short work =
+              ec
+              ∙ (λ j. shortBy (vertices-are j) (indices-are j) (g .rows-are j) (length P) (length N) (length I) (length parts) (length ranges) (length failures))
+              ∙ sym (short-is (length (rowsOf table)) (v .accepted) (slicesOf P N I parts ranges failures work))
+
+          -- 41
+          pub body-41 : c ≡ true → BodyAssembled table ps ns is box materials default P P N N I I parts parts ranges ranges failures failures W E (Refused 41)
+          body-41 h =
+              record {
+                same = λ work. refused-41 (rowsOf table) materials default v (slicesOf P N I parts ranges failures work) (sym eb ∙ fb) (sym (short work) ∙ h);
+                rest = rest-judged;
+              }
+
+          -- what writing the mesh asks
+          pub write-ready : c ≡ false → WriteReady table ps ns is box E m t P N I parts ranges failures
+          write-ready h =
+              let f = fits (t .vertices) (t .indices) m (length P) (length N) (length I) (length parts) (length ranges) (length failures) (sym ec ∙ h) in
+              record {
+                decided = decided;
+                totals = s;
+                positions-room = f .positions;
+                normals-room = f .normals;
+                indices-room = f .indices;
+                parts-room = f .parts-fit;
+                ranges-room = f .ranges-fit;
+                failures-room = f .failures-fit;
+              }
+
+          -- the mesh is the definition's
+          pub body-done : {X : List ℕ} {P' N' : List Float} {I' parts' ranges' failures' : List ℕ} {r : MeshCounts} → c ≡ false
+              → MeshWritten table ps ns is box E X m t P P' N N' I I' parts parts' ranges ranges' failures failures' r
+              → BodyAssembled table ps ns is box materials default P P' N N' I I' parts parts' ranges ranges' failures failures' W X (Done r)
+          unfolding writeMesh meshOf verticesOf writtenVertices
+          body-done {X} {P'} {N'} {I'} {parts'} {ranges'} {failures'} {r} h w =
+              let counts : countsOf bits (numbersBy (judgedIn table E 0) ps) (runsOf (laidIn table E 0 is)) ≡ countsOf bits (flatMap (λ a. a .patch .positions) (v .accepted)) (runsOf (laidFrom 0 (v .accepted))) =
+              λ j. countsOf bits (positions-are j) (runsOf (laid-are j)) in
+              let ce = w .counts-are ∙ counts in
+              let ev = w .vertices-count ∙ vertices-are in
+              let ei = w .indices-count ∙ indices-are in
+              let ep = w .parts-count ∙ ap (λ (ls : List Laid). length (materialsOf ls)) laid-are in
+              let er = w .ranges-count ∙ sym (accepted-count (decisionsIn table E 0) (rowsOf table) ps ns is) ∙ ap length accepted-are in
+              let ef = w .failures-count ∙ ap length failed-are in
+              let ek = w .closed-is ∙ ap closedBy counts in
+              let eP = w .positions-are ∙ ap (λ (xs : List Float). written xs P) positions-are in
+              let eN = w .normals-are ∙ ap (λ (xs : List Float). written xs N) normals-are in
+              let eI = w .indices-are ∙ ap (λ (ls : List Laid). written (runsOf ls) I) laid-are in
+              let eT = w .parts-are ∙ ap (λ (ls : List Laid). written (flatMap (partOf ls) (materialsOf ls)) parts) laid-are in
+              let eR = w .ranges-are ∙ ap (λ (ls : List Laid). written (rangesFrom ls [] ls) ranges) laid-are in
+              let eF = w .failures-are ∙ ap (λ (fs : List Failed). written (flatMap failureNumbers fs) failures) failed-are in
+              record {
+                same = λ work.
+                    (λ j. leftMesh (Done (record { vertices = ev j; indices = ei j; parts = ep j; ranges = er j; failures = ef j; edges = ce j .edges; opens = ce j .openEdges; overs = ce j .overEdges; closed = ek j }))
+                    (slicesOf (eP j) (eN j) (eI j) (eT j) (eR j) (eF j) work))
+                    ∙ sym (ap assembleAnswered (written-is (rowsOf table) materials default v (slicesOf P N I parts ranges failures work) (sym eb ∙ fb) (sym (short work) ∙ h)));
+                rest = rest-less (16 * length is + 16 * m + 4 * t .vertices) (workNeeded (rowsOf table)) E X (w .rest) (omega (arith, sym needed, vertices-few)) ∙ rest-judged;
+              }
+
+-- ---- the words cleared
+
+module _ {table : List ℕ} {ps ns : List Float} {is : List ℕ} (W : List ℕ) {u m n : ℕ} (p : Passed table ps ns is (length W)) (ev : Total (allVertices (rowsOf table)) u) (em : m ≡ length (rowsOf table)) (en : n ≡ length is) where
+  words-are : 16 * n + 16 * m + 4 * u ≡ workNeeded (rowsOf table)
+  unfolding workNeeded
+  words-are = omega (arith, p .all-indices, ev .is, em, en)
+
+  -- they can be
+  pub clearable : (X : List ℕ) → length X ≡ length W → 16 * n + 16 * m + 4 * u ≤ length X
+  clearable X l = omega (arith, p .enough, words-are)
+
+  -- the body is assembled as the definition says
+  pub accepted-assembled : {box : Aabb} {materials : List ℕ} {default : ℕ} {P P' N N' : List Float} {I I' parts parts' ranges ranges' failures failures' X Z : List ℕ} {r : Assembled}
+      → BodyAssembled table ps ns is box materials default P P' N N' I I' parts parts' ranges ranges' failures failures' W X r
+      → Z ≡ replicate (16 * n + 16 * m + 4 * u) 0 ++ drop (16 * n + 16 * m + 4 * u) X
+      → leftMesh r (slicesOf P' N' I' parts' ranges' failures' Z) ≡ assembleAnswered (assembleAccepted table ps ns is box materials default (slicesOf P N I parts ranges failures W))
+  unfolding clearedMesh cleared
+  accepted-assembled {box} {materials} {default} {P} {P'} {N} {N'} {I} {I'} {parts} {parts'} {ranges} {ranges'} {failures} {failures'} {X} {Z} b z =
+      let e : Z ≡ cleared (rowsOf table) W = z ∙ ap (λ (k : ℕ). replicate k 0 ++ drop k X) words-are ∙ ap (λ (l : List ℕ). replicate (workNeeded (rowsOf table)) 0 ++ l) (b .rest) in
+      b .same Z
+      ∙ ap (λ (work : List ℕ). assembleAnswered (assembleOrRefuse (rowsOf table) materials default (acceptance box materials default (patchesOf (rowsOf table) ps ns is)) (slicesOf P N I parts ranges failures work))) e
+
+-- ---- the call
+
+module _ (table : List ℕ) (ps ns : List Float) (is : List ℕ) (box : Aabb) (materials : List ℕ) (default : ℕ) (out : MeshSlices) {refusal : ℕ} (f : refusal ≡ firstFailing (bodyChecks table ps ns is (length (out .work)))) where
+  -- the definition assembles a body that no check refuses
+  assemble-done : refusal ≡ 0 → assembleOf table ps ns is box materials default out ≡ assembleAccepted table ps ns is box materials default out
+  unfolding assembleOf
+  assemble-done e = rw (eq-eqb (firstFailing (bodyChecks table ps ns is (length (out .work)))) 0 (sym f ∙ e), assembleOf)
+
+  -- and refuses any other
+  assemble-refused : (refusal ≡ 0 → ⊥) → assembleOf table ps ns is box materials default out ≡ refuseMesh (firstFailing (bodyChecks table ps ns is (length (out .work)))) out
+  unfolding assembleOf
+  assemble-refused e = rw (ne-eqb (firstFailing (bodyChecks table ps ns is (length (out .work)))) 0 (λ x. e (f ∙ x)), assembleOf)
+
+  -- such a body is assembled
+  pub call-done : {r : Assembled} {s : MeshSlices} → refusal ≡ 0 → leftMesh r s ≡ assembleAnswered (assembleAccepted table ps ns is box materials default out)
+      → leftMesh r s ≡ assembleAnswered (assembleOf table ps ns is box materials default out)
+  call-done e t = t ∙ ap assembleAnswered (sym (assemble-done e))
+
+  -- any other is refused
+  pub call-refused : (refusal ≡ 0 → ⊥) → leftMesh (Refused refusal) out ≡ assembleAnswered (assembleOf table ps ns is box materials default out)
+  unfolding refuseMesh
+  call-refused e =
+      ap (λ (b : Bool). leftMesh (elim b [ true ↦ Done (record { vertices = 0; indices = 0; parts = 0; ranges = 0; failures = 0; edges = 0; opens = 0; overs = 0; closed = false }) | false ↦ Refused refusal ]) out) (sym (ne-eqb refusal 0 e))
+      ∙ ap (λ (k : ℕ). assembleAnswered (refuseMesh k out)) f
+      ∙ ap assembleAnswered (sym (assemble-refused e))

@@ -1,0 +1,7 @@
+-- The laws that the proofs of this crate cite, by subject.
+pub mod RoomLaws
+pub mod SizeLaws
+pub mod BelowLaws
+pub mod TableLaws
+pub mod MeshLaws
+pub mod CallLaws

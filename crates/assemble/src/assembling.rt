@@ -1,0 +1,176 @@
+// assemble: a body's accepted patches as one mesh, with parts, ranges, failures and edge counts.
+
+use crate::checks::too_short;
+use crate::written::MeshCounts;
+use crate::written::write_mesh;
+use geometry::Aabb;
+ghost use mathlib.Core.Path.{_≡_};
+ghost use Prim.Native.Nat.{_+_, _*_};
+ghost use lib.ListN.{length};
+ghost use Rattle.body.specs.Accepted.{Passed};
+ghost use Rattle.assemble.specs.Assemble.{assembleOf};
+ghost use Rattle.assemble.specs.Assembled.{slicesOf, leftMesh, assembleAnswered, assembleAccepted, AssembleReady, BodyAssembled};
+
+// What assemble answers: the counts, or the number of the first check that fails.
+pub enum Assembled {
+    Done(MeshCounts),
+    Refused(u32),
+}
+
+// A body of m rows that passed its checks is assembled if it passes 42 and 41: materials of 32 bits, and room.
+fn assemble_rows(
+    rows: &[u32],
+    positions: &[f32],
+    normals: &[f32],
+    indices: &[u32],
+    reference: Aabb,
+    materials: &[u64],
+    default: u64,
+    mesh_positions: &mut [f32],
+    mesh_normals: &mut [f32],
+    mesh_indices: &mut [u32],
+    parts: &mut [u32],
+    ranges: &mut [u32],
+    failures: &mut [u64],
+    w: &mut [u64],
+    m: usize,
+) -> Assembled
+    requires { ⌜ AssembleReady (now rows) (now positions) (now normals) (now indices) (now w) m ⌝ }
+    ensures { λ r. ⌜ BodyAssembled (now (rows .entry)) (now (positions .entry)) (now (normals .entry)) (now (indices .entry)) reference (now (materials .entry)) default
+        (now («mesh_positions» .entry)) (now («mesh_positions» .exit)) (now («mesh_normals» .entry)) (now («mesh_normals» .exit)) (now («mesh_indices» .entry)) (now («mesh_indices» .exit))
+        (now (parts .entry)) (now (parts .exit)) (now (ranges .entry)) (now (ranges .exit)) (now (failures .entry)) (now (failures .exit)) (now (w .entry)) (now (w .exit)) r ⌝ }
+{
+    if acceptance::bad_materials(materials, default) {
+        return Assembled::Refused(42);
+    }
+    acceptance::judge_rows(
+        rows,
+        positions,
+        indices,
+        reference,
+        materials,
+        default,
+        w,
+        0,
+    );
+    let t = acceptance::accepted_totals(rows, w, 0);
+    if too_short(
+        t.vertices,
+        t.indices,
+        m,
+        mesh_positions,
+        mesh_normals,
+        mesh_indices,
+        parts,
+        ranges,
+        failures,
+    ) {
+        return Assembled::Refused(41);
+    }
+    Assembled::Done(write_mesh(
+        rows,
+        positions,
+        normals,
+        indices,
+        reference,
+        w,
+        m,
+        t,
+        mesh_positions,
+        mesh_normals,
+        mesh_indices,
+        parts,
+        ranges,
+        failures,
+    ))
+}
+
+// An accepted body is assembled, and the words of the work area that it needs become 0.
+fn assemble_accepted(
+    rows: &[u32],
+    positions: &[f32],
+    normals: &[f32],
+    indices: &[u32],
+    reference: Aabb,
+    materials: &[u64],
+    default: u64,
+    mesh_positions: &mut [f32],
+    mesh_normals: &mut [f32],
+    mesh_indices: &mut [u32],
+    parts: &mut [u32],
+    ranges: &mut [u32],
+    failures: &mut [u64],
+    work: &mut [u64],
+) -> Assembled
+    requires { ⌜ Passed (now rows) (now positions) (now normals) (now indices) (length (now work)) ⌝ }
+    ensures { λ r. ⌜ leftMesh r (slicesOf (now («mesh_positions» .exit)) (now («mesh_normals» .exit)) (now («mesh_indices» .exit)) (now (parts .exit)) (now (ranges .exit)) (now (failures .exit)) (now (work .exit)))
+        ≡ assembleAnswered (assembleAccepted (now (rows .entry)) (now (positions .entry)) (now (normals .entry)) (now (indices .entry)) reference (now (materials .entry)) default
+        (slicesOf (now («mesh_positions» .entry)) (now («mesh_normals» .entry)) (now («mesh_indices» .entry)) (now (parts .entry)) (now (ranges .entry)) (now (failures .entry)) (now (work .entry)))) ⌝ }
+{
+    let v = body::total_vertices(rows);
+    let m = body::row_count(rows);
+    let n = indices.len();
+    let answer = assemble_rows(
+        rows,
+        positions,
+        normals,
+        indices,
+        reference,
+        materials,
+        default,
+        mesh_positions,
+        mesh_normals,
+        mesh_indices,
+        parts,
+        ranges,
+        failures,
+        work,
+        m,
+    );
+    body::clear(work, 16 * n + 16 * m + 4 * v);
+    answer
+}
+
+// The accepted patches of a body become one mesh: vertices in row order, indices in one run per material, a range per face; failures go to their table.
+// A body that fails a check is refused with the check's number, and the mesh slices and tables keep their content.
+pub fn assemble(
+    rows: &[u32],
+    positions: &[f32],
+    normals: &[f32],
+    indices: &[u32],
+    reference: Aabb,
+    materials: &[u64],
+    default: u64,
+    mesh_positions: &mut [f32],
+    mesh_normals: &mut [f32],
+    mesh_indices: &mut [u32],
+    parts: &mut [u32],
+    ranges: &mut [u32],
+    failures: &mut [u64],
+    work: &mut [u64],
+) -> Assembled
+    ensures { λ r. ⌜ leftMesh r (slicesOf (now («mesh_positions» .exit)) (now («mesh_normals» .exit)) (now («mesh_indices» .exit)) (now (parts .exit)) (now (ranges .exit)) (now (failures .exit)) (now (work .exit)))
+        ≡ assembleAnswered (assembleOf (now (rows .entry)) (now (positions .entry)) (now (normals .entry)) (now (indices .entry)) reference (now (materials .entry)) default
+        (slicesOf (now («mesh_positions» .entry)) (now («mesh_normals» .entry)) (now («mesh_indices» .entry)) (now (parts .entry)) (now (ranges .entry)) (now (failures .entry)) (now (work .entry)))) ⌝ }
+{
+    let refusal = body::first_failing(rows, positions, normals, indices, work.len());
+    if refusal == 0 {
+        return assemble_accepted(
+            rows,
+            positions,
+            normals,
+            indices,
+            reference,
+            materials,
+            default,
+            mesh_positions,
+            mesh_normals,
+            mesh_indices,
+            parts,
+            ranges,
+            failures,
+            work,
+        );
+    }
+    Assembled::Refused(refusal)
+}
