@@ -88,33 +88,56 @@ fn short(after: &Flat, outputs: &Flat, r: &mut Random) -> Option<Flat> {
     Some(out)
 }
 
-/// Where a body is stitched in another way than by the Rust with one sag, or the result is not refused as it should be.
-fn differs_with(sheet: &Sheet, sag: f64, r: &mut Random) -> Option<String> {
-    let Case { before, after, splits } = case(sheet, sag);
+/// What is wrong with a call that stitches, or with the refusals of its result.
+fn differs(case: &Case, sag: f64, r: &mut Random) -> Option<String> {
+    let Case { before, after, splits } = case;
     let needed = before.words();
     let work = || Work::new(needed + 3, 0x5a5a);
     let (vertices, indices) = (after.positions.len() / 3, after.indices.len());
-    let outputs = outputs(&after, r);
+    let outputs = outputs(after, r);
     if vertices > MOST_VERTICES || indices > MOST_INDICES {
-        return wrong(&before, sag, &outputs, &mut work(), refusal(33), &outputs, needed);
+        return wrong(before, sag, &outputs, &mut work(), refusal(33), &outputs, needed);
     }
-    let want = Stitched { refusal: 0, vertices: vertices as u32, indices: indices as u32, splits: splits as u64 };
-    wrong(&before, sag, &outputs, &mut work(), want, &written(&after, &outputs), needed).or_else(|| {
-        let short = short(&after, &outputs, r)?;
-        wrong(&before, sag, &short, &mut work(), refusal(32), &short, needed)
+    let want = Stitched { refusal: 0, vertices: vertices as u32, indices: indices as u32, splits: *splits as u64 };
+    wrong(before, sag, &outputs, &mut work(), want, &written(after, &outputs), needed).or_else(|| {
+        let short = short(after, &outputs, r)?;
+        wrong(before, sag, &short, &mut work(), refusal(32), &short, needed)
     })
 }
 
-/// Where a body is stitched in another way than by the Rust, if it is; only bodies that meet 01's condition are held against it.
-pub fn differs(sheet: &Sheet, r: &mut Random) -> Option<String> {
+/// How a body was held against the Rust beyond being copied.
+#[derive(Debug)]
+pub enum Held {
+    /// Its sag is not above 0.
+    NoSag,
+    /// More triangles with an open edge than `MOST_OPEN`: not stitched.
+    TooOpen,
+    /// It breaks document 01's condition for an exact match: not stitched.
+    Outside,
+    /// Stitched with its own sag, with so many splits by the Rust.
+    Stitched(usize),
+}
+
+/// The number of splits with one sag, or where a body is stitched in another way than by the Rust.
+fn splits_with(sheet: &Sheet, sag: f64, r: &mut Random) -> Result<usize, String> {
+    let case = case(sheet, sag);
+    differs(&case, sag, r).map_or(Ok(case.splits), Err)
+}
+
+/// How a body was held against the Rust, or where it is stitched in another way. A sag that splits nothing is tried on every body.
+pub fn compared(sheet: &Sheet, r: &mut Random) -> Result<Held, String> {
     let none = *r.pick(&NOT_ABOVE);
-    if let Some(what) = differs_with(sheet, none, r) {
-        return Some(what);
+    splits_with(sheet, none, r)?;
+    let sag = f64::from_bits(sheet.sag);
+    if !(sag > 0.0) {
+        splits_with(sheet, sag, r).map(|_| Held::NoSag)
+    } else if open_triangles(sheet) > MOST_OPEN {
+        Ok(Held::TooOpen)
+    } else if condition(sheet) != Condition::Exact {
+        Ok(Held::Outside)
+    } else {
+        splits_with(sheet, sag, r).map(Held::Stitched)
     }
-    if open_triangles(sheet) > MOST_OPEN || condition(sheet) != Condition::Exact {
-        return None;
-    }
-    differs_with(sheet, f64::from_bits(sheet.sag), r)
 }
 
 /// What is wrong with the refusal of a body that a check up to 31 refuses.
