@@ -17,7 +17,7 @@ use Rattle.projection.specs.declared.feet.Footing.{Footing}
 use Rattle.projection.specs.declared.feet.Footing.the-variants as Footing
 use Rattle.projection.specs.Projection.{withinSag}
 use Rattle.projection.specs.Answers.{footing}
-use Rattle.projection.specs.Beyond.{Beyond}
+use Rattle.projection.specs.Beyond.{Beyond, Ruled}
 use Rattle.projection.proofs.EdgeLaws.{hitOf, hit-foot}
 
 -- a product whose root is above the sag
@@ -57,3 +57,15 @@ module _ (sag : Float) (s : Edge) (r : Vec3) where
       -- the square decides
       pub within-beyond : {b : Float} → Beyond sag b → lt b d ≡ true → false ≡ withinSag sag s r
       within-beyond b l = ap not (sym (b .far d (subst (λ (x : Float). T (fits binary64 x)) (sym h) (add-fits binary64 _ _)) l)) ∙ within-root refl
+
+-- what is no hit, or a hit beyond, is ruled out
+module _ (s : Edge) (r : Vec3) {o : Footing} (e : o ≡ footing s r) where
+  pub ruled-outside : (b : Float) → o ≡ Footing.Outside → Ruled b s r false
+  ruled-outside b g = record { out = λ sag y z. sym (within-outside sag s r e g) }
+
+  pub ruled-inside : (b : Float) (f : Foot) {d : Float} → o ≡ Footing.Inside f → d ≡ dot (f .off) (f .off) → Ruled b s r (not (lt b d))
+  ruled-inside b f {d} g h = record { out = λ sag y z. sym (within-beyond sag s r e f g h y (above (lt b d) z)) }
+    where
+      above : (x : Bool) → not x ≡ false → x ≡ true
+      above true z = refl
+      above false z = sym z

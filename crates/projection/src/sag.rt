@@ -5,7 +5,7 @@ use crate::feet::Footing;
 use crate::feet::foot_of;
 use geometry::Vec3;
 ghost use mathlib.Core.Path.{_≡_};
-ghost use Rattle.projection.specs.Beyond.{Beyond};
+ghost use Rattle.projection.specs.Beyond.{Beyond, Ruled};
 ghost use Rattle.projection.specs.Projection.{withinSag};
 
 // A squared distance beyond which a distance is above the sag: 4 times the sag's square, or, where that says nothing, the infinity.
@@ -33,6 +33,20 @@ pub fn within_sag(s: Edge, r: Vec3, sag: f64, beyond: f64) -> bool
                 return false;
             }
             !(floats::sqrt_f64(d) > sag)
+        }
+    }
+}
+
+// Whether r projects into an edge and isn't beyond: only then can it be within the sag.
+pub fn may_hit(s: Edge, r: Vec3, beyond: f64) -> bool
+    ensures { λ o. ⌜ Ruled beyond s r o ⌝ }
+{
+    match foot_of(s, r) {
+        Footing::Outside => false,
+        Footing::Inside(f) => {
+            let off = f.off;
+            let d = off.dot(off);
+            !(d > beyond)
         }
     }
 }

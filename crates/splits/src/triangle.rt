@@ -6,11 +6,15 @@ use crate::finding::found_on;
 use crate::placing::Place;
 use crate::placing::place_on;
 use crate::sides::Sides;
+use crate::sides::side_of;
+use projection::Edge;
 ghost use mathlib.Core.Path.{_≡_};
 ghost use Prim.Native.Nat.{_+_};
 ghost use lib.ListN.{getD};
+ghost use Rattle.geometry.specs.Geometry.{pointAt};
+ghost use Rattle.projection.specs.Beyond.{Ruled};
 ghost use Rattle.loose.specs.Listed.{NameAt};
-ghost use Rattle.splits.specs.Triangle.{TryReady, Tried, FindOn, FoundAll, Splittable, Split};
+ghost use Rattle.splits.specs.Triangle.{PointReady, TryReady, Tried, FindOn, FoundAll, Splittable, Split};
 
 // How many points were found, and how many entries there are.
 pub struct Tally {
@@ -24,6 +28,25 @@ fn listed(w: &[u64], v: usize, list: usize, count: usize, j: usize) -> usize
     ensures { λ r. ⌜ r ≡ getD (now (w .entry)) (list + j) 0 ⌝ }
 {
     w[list + j] as usize
+}
+
+// Whether vertex j of the list may be within the sag of an edge.
+fn may_split(
+    positions: &[f32],
+    w: &[u64],
+    s: Edge,
+    beyond: f64,
+    v: usize,
+    list: usize,
+    count: usize,
+    j: usize,
+) -> bool
+    requires { ⌜ PointReady (now positions) v list count j (now w) ⌝ }
+    ensures { λ r. ⌜ Ruled beyond s (pointAt (now (positions .entry)) (getD (now (w .entry)) (list + j) 0)) r ⌝ }
+{
+    let g = listed(w, v, list, count, j);
+    let r = geometry::vertex(positions, 3 * g);
+    projection::may_hit(s, r, beyond)
 }
 
 // Vertex j of the list is tried on edge e: if it is found there it is counted, and if it is placed it goes among the entries.
@@ -73,7 +96,7 @@ fn try_vertex(
     }
 }
 
-// All loose vertices are tried on edge e.
+// All loose vertices that may be within the sag of edge e, if it is open, are tried on it.
 fn find_all(
     positions: &[f32],
     w: &mut [u64],
@@ -92,29 +115,41 @@ fn find_all(
     requires { ⌜ FindOn (now positions) sag beyond v list count e at ts found placed (now w) ⌝ }
     ensures { λ r. ⌜ FoundAll (now (positions .entry)) sag s v list count e at ts found placed (now (w .entry)) (now (w .exit)) (r .found) (r .placed) ⌝ }
 {
+    let side = side_of(s, e);
+    if !side.opens {
+        return Tally {
+            found: found,
+            placed: placed,
+        };
+    }
     let mut total = found;
     let mut entries = placed;
     let mut j = 0usize;
     while j < count {
-        let r = try_vertex(
-            positions,
-            w,
-            s,
-            sag,
-            beyond,
-            v,
-            list,
-            count,
-            j,
-            e,
-            at,
-            ts,
-            total,
-            entries,
-        );
-        total = r.found;
-        entries = r.placed;
-        j += 1;
+        let may = may_split(positions, w, side.edge, beyond, v, list, count, j);
+        if may {
+            let r = try_vertex(
+                positions,
+                w,
+                s,
+                sag,
+                beyond,
+                v,
+                list,
+                count,
+                j,
+                e,
+                at,
+                ts,
+                total,
+                entries,
+            );
+            total = r.found;
+            entries = r.placed;
+            j += 1;
+        } else {
+            j += 1;
+        }
     }
     Tally {
         found: total,
