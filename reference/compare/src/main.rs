@@ -11,6 +11,7 @@ mod stitching;
 mod tally;
 mod turning;
 mod work;
+mod worst;
 
 use driver::check::{MOST_INDICES, MOST_ROWS, check};
 use driver::command::fail;
@@ -23,9 +24,11 @@ use tally::{Compared, Tally};
 
 const USAGE: &str = "usage: compare FIRST LAST [SIZE]
        compare --large FIRST LAST [TRIANGLES]
+       compare --worst POINTS
 The bodies of every kind with the seeds FIRST to LAST, small ones and some of a size that goes with the seed, or only those of SIZE
 pieces on each shape, 4096 at most. In the end, one body of every large kind with 100000 triangles and one at every limit.
-With --large only bodies of the large kinds, with TRIANGLES triangles, 262144 at most; 100000 if left out.";
+With --large only bodies of the large kinds, with TRIANGLES triangles, 262144 at most; 100000 if left out.
+With --worst the bodies that ask the most of stitching, one with POINTS loose points on one edge, and the time that this one takes.";
 
 /// Pieces on each shape, one of these for each seed besides the small body.
 const SIZES: [usize; 9] = [1, 2, 3, 5, 8, 13, 21, 34, 60];
@@ -35,6 +38,9 @@ const NOTHING: [usize; 4] = [18, 24, 32, 500];
 const MANY_TRIANGLES: usize = 100_000;
 const MOST_TRIANGLES: usize = MOST_INDICES / 3;
 const STEPS_A_SEED: u64 = 1000;
+
+/// Loose points on one edge, of the body that asks the most of stitching.
+const WORST_POINTS: usize = 1500;
 
 /// How a body was made.
 struct Made<'a> {
@@ -97,8 +103,16 @@ fn compare_steps(seed: u64, tally: &mut Tally) {
     }
 }
 
+fn compare_worst(points: usize, tally: &mut Tally) {
+    match worst::compared(points) {
+        Ok(bodies) => tally.worst += bodies,
+        Err(what) => fail(&format!("compare: {what}")),
+    }
+}
+
 /// The bodies of a run without --large.
 fn compare_all(first: u64, last: u64, size: Option<usize>, tally: &mut Tally) {
+    compare_worst(WORST_POINTS, tally);
     for seed in first..=last {
         let sizes = size.map_or(vec![0, SIZES[(seed % SIZES.len() as u64) as usize]], |s| vec![s]);
         for size in sizes {
@@ -132,6 +146,11 @@ fn main() {
         Some((word, rest)) if word == "--large" => {
             let (first, last, size) = numbers(rest, MOST_TRIANGLES);
             (first..=last).for_each(|seed| compare_kinds(LARGE, seed, size.unwrap_or(MANY_TRIANGLES), tally));
+        }
+        Some((word, [points])) if word == "--worst" => {
+            let Ok(points) = points.parse() else { fail(USAGE) };
+            compare_worst(points, tally);
+            println!("compare: {points} loose points on one edge: {:.2} s", worst::seconds(points));
         }
         _ => {
             let (first, last, size) = numbers(&words, MOST_ROWS);

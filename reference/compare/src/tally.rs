@@ -26,6 +26,8 @@ pub struct Tally {
     /// Bodies with a sag that were only copied: too open, and outside document 01's condition.
     open: u64,
     outside: u64,
+    /// Bodies made by hand.
+    pub worst: u64,
     shown: Option<Instant>,
 }
 
@@ -63,9 +65,9 @@ impl Tally {
 
     /// All counts in one line.
     pub fn said(&self) -> String {
-        let Tally { bodies, rows, refusals, steps, triangles, stitched, split, splits, open, outside, .. } = self;
+        let Tally { bodies, rows, refusals, steps, triangles, stitched, split, splits, open, outside, worst, .. } = self;
         format!(
-            "{bodies} bodies of up to {triangles} triangles, {rows} rows; {stitched} stitched with their own sag, {split} of them split, \
+            "{worst} bodies made by hand, {bodies} of up to {triangles} triangles, {rows} rows; {stitched} stitched with their own sag, {split} of them split, \
              {splits} splits ({outside} more outside the condition, {open} too open); {refusals} refusals, {steps} float steps"
         )
     }
