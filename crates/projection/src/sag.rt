@@ -37,16 +37,18 @@ pub fn within_sag(s: Edge, r: Vec3, sag: f64, beyond: f64) -> bool
     }
 }
 
-// Whether r projects into an edge and isn't beyond: only then can it be within the sag.
+// Whether r may be within the sag of an edge: not if it projects outside, which the sign of one product tells, nor if it is beyond.
 pub fn may_hit(s: Edge, r: Vec3, beyond: f64) -> bool
     ensures { λ o. ⌜ Ruled beyond s r o ⌝ }
 {
-    match foot_of(s, r) {
-        Footing::Outside => false,
-        Footing::Inside(f) => {
-            let off = f.off;
-            let d = off.dot(off);
-            !(d > beyond)
-        }
+    let start = s.start;
+    let along = s.along;
+    let w = r.sub(start);
+    let t = w.dot(along) / s.squared;
+    if (t - 0.000001) * (0.999999 - t) < 0.0 {
+        return false;
     }
+    let off = w.sub(along.scale(t));
+    let d = off.dot(off);
+    !(d > beyond)
 }

@@ -1,34 +1,41 @@
 -- `projection::sag::may_hit` meets its contract. Assumes nothing.
-use Rattle.projection.proofs.SagLaws.{ruled-outside, ruled-inside}
+use Rattle.projection.specs.Projection.{near-end, far-end}
+use Rattle.projection.proofs.SagLaws.{ruled-sign, ruled-far}
 use borrow.Author.Needs.{needs}
 use Rattle.projection.proofs.sag.may_hit.Statement.{statement}
 use Rattle.projection.proofs.sag.may_hit.Tie as tie
 
-foot-of-requires : tie.Need-foot-of-requires
-foot-of-requires c κs = search needs
-
-enum-told : tie.Need-enum-told
-enum-told c = search needs
-
-enum-known-f : tie.Need-enum-known-f
-enum-known-f c = search needs
+sub-requires : tie.Need-sub-requires
+sub-requires c κs = search needs
 
 dot-requires : tie.Need-dot-requires
 dot-requires c κs = search needs
 
 returns : tie.Need-returns
-returns c = search ruled-outside
+unfolding near-end far-end
+returns c = search ruled-sign
+
+scale-requires : tie.Need-scale-requires
+scale-requires c κs = search needs
+
+sub-requires-2 : tie.Need-sub-requires-2
+sub-requires-2 c κs = search needs
+
+dot-requires-2 : tie.Need-dot-requires-2
+dot-requires-2 c κs = search needs
 
 returns-2 : tie.Need-returns-2
-returns-2 c = search ruled-inside
+unfolding near-end far-end
+returns-2 c = search ruled-far
 
 pub may-hit-spec : {M : Type 1} → statement M
 may-hit-spec =
     tie.close
     (tie.spec
-    foot-of-requires
-    enum-told
-    enum-known-f
+    sub-requires
     dot-requires
     returns
+    scale-requires
+    sub-requires-2
+    dot-requires-2
     returns-2)
