@@ -150,7 +150,11 @@ fn main() {
         Some((word, [points])) if word == "--worst" => {
             let Ok(points) = points.parse() else { fail(USAGE) };
             compare_worst(points, tally);
-            println!("compare: {points} loose points on one edge: {:.2} s", worst::seconds(points));
+            let seconds = worst::seconds(points);
+            return println!(
+                "compare: {} bodies made by hand: no difference; {points} loose points on one edge: {seconds:.2} s",
+                tally.worst
+            );
         }
         _ => {
             let (first, last, size) = numbers(&words, MOST_ROWS);

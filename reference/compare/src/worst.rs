@@ -7,7 +7,7 @@ use driver::check::{MOST_INDICES, MOST_VERTICES};
 use driver::condition::{Condition, condition};
 use driver::flat::Flat;
 use driver::random::Random;
-use driver::sheet::{Row, Sheet};
+use driver::sheet::{Row, Sheet, parse};
 use driver::source::key;
 use std::time::Instant;
 
@@ -66,12 +66,26 @@ fn equal_parameters(points: usize) -> Case {
     let all: Vec<[Point; 3]> = (0..points).map(needle).collect();
     let before = Flat::of(&sheet(vec![row(0, &[[[0.0; 3], [10.0, 0.0, 0.0], [0.0, 10.0, 0.0]]]), row(1, &all)], 0.25));
     let lowest = all.iter().map(|t| t[0]).min_by_key(|p| key(p)).expect("some points");
+    split_once(before, lowest, points)
+}
+
+/// A body whose first row is one triangle with normals along z, and of which one point is kept on the triangle's first edge.
+fn split_once(before: Flat, new: Point, splits: usize) -> Case {
     let mut after = before.clone();
     (after.rows[3], after.rows[4]) = (4, 6);
-    after.positions.splice(9..9, lowest);
+    after.positions.splice(9..9, new);
     after.normals.splice(9..9, [0.0, 0.0, 1.0]);
     after.indices.splice(0..3, [0, 3, 1, 0, 1, 2]);
-    Case { before, after, splits: points }
+    Case { before, after, splits }
+}
+
+/// The smallest bodies outside 01's condition for an exact match, with the vertex that 01 keeps and the splits.
+fn smallest() -> [Case; 2] {
+    let body = |text: &[u8]| Flat::of(&parse(text, None).expect("a sheet"));
+    let tie = body(include_bytes!("../../smallest/tie.sheet"));
+    let shared = body(include_bytes!("../../smallest/shared-key.sheet"));
+    let (lower_key, last) = ([5.0, 0.0, 0.2], [5.0, f32::from_bits(0x3DCC_CCCE), 0.0]);
+    [split_once(tie, lower_key, 2), split_once(shared, last, 1)]
 }
 
 /// A call in slices of exactly the lengths that it needs, each of them one short, and the work area one word short.
@@ -121,13 +135,16 @@ pub fn compared(points: usize) -> Result<u64, String> {
     named("an infinite sag", held(&infinite_sag(r)))?;
     named("the ends of the range", held(&ends_of_the_range()))?;
     named("equal parameters", exact(&equal_parameters(500), 0.25).map_or(Ok(()), Err))?;
+    for case in smallest() {
+        named("a smallest body", exact(&case, 0.25).map_or(Ok(()), Err))?;
+    }
     for (more, name) in [(0, "the most vertices"), (1, "one vertex too many")] {
         named(name, limit(&padded(vertices + more, 0), r))?;
     }
     for (more, name) in [(0, "the most indices"), (1, "one triangle too many")] {
         named(name, limit(&padded(0, triangles + more), r))?;
     }
-    Ok(8)
+    Ok(10)
 }
 
 /// The time that the library takes for so many loose points on one edge, in seconds.
