@@ -2,12 +2,5 @@
 pub mod CopyLaws
 pub mod ResultLaws
 pub mod FaceLaws
-pub mod CountLaws
-pub mod BodyCountLaws
-pub mod AppendLaws
-pub mod PrepareLaws
-pub mod TriangleWriteLaws
-pub mod RowWriteLaws
-pub mod BodyWriteLaws
 pub mod OpenLaws
 pub mod StitchLaws

@@ -15,16 +15,16 @@ use Rattle.body.specs.Rows.{Total}
 use Rattle.body.specs.Accepted.{Passed, passed-rows}
 use Rattle.geometry.specs.Geometry.{zero64}
 use Rattle.loose.specs.Open.{Markable}
-use Rattle.stitch.specs.declared.count.Finder.{Finder}
+use Rattle.counting.specs.declared.count.Finder.{Finder}
 use Rattle.stitch.specs.declared.stitching.Stitched.{Stitched}
 use Rattle.stitch.specs.declared.stitching.Stitched.the-variants.{Done, Refused}
 use Rattle.stitch.specs.Stitch.{StitchSlices, StitchedBody, stitchedBody, stitchBody, refuseStitch, clearedSlices, stitchOrRefuse, stitchOf}
 use Rattle.stitch.specs.Copied.{BodyRoom, BodyCopied, flat-rows, flat-positions, flat-normals, flat-indices, flat-table}
-use Rattle.stitch.specs.Counting.{BodyCounted}
-use Rattle.stitch.specs.Prepared.{Preparable, Prepared}
+use Rattle.counting.specs.Counting.{BodyCounted}
+use Rattle.counting.specs.Prepared.{Preparable, Prepared}
 use Rattle.stitch.specs.Results.{resultChecks, ResultFits, result-fits}
 use Rattle.stitch.specs.Stitched.{slicesOf, leftStitch, stitchAnswered, stitchAccepted, StitchReady, BodyStitched, result-refused, result-written}
-use Rattle.stitch.specs.Writing.{BodyWritable, BodyWritten}
+use Rattle.writing.specs.Writing.{BodyWritable, BodyWritten}
 use Rattle.stitch.proofs.OpenLaws.{vertices-are, indices-many, rows-many, splits-is, rows-there, writable, table-is, positions-is, normals-is, indices-is, rest-written, rest-counted}
 
 -- a result that passed its checks fits

@@ -2,9 +2,9 @@
 
 use crate::checks::result_failing;
 use crate::copy::copy_body;
-use crate::count::count_splits;
-use crate::prepare::prepare;
-use crate::write::write_body;
+use counting::count_splits;
+use counting::prepare::prepare;
+use writing::write_body;
 ghost use mathlib.Core.Path.{_≡_};
 ghost use Prim.Native.Nat.{_+_, _*_};
 ghost use lib.ListN.{length};
