@@ -12,7 +12,7 @@ use Rattle.body.specs.Body.{rowsOf, allIndices}
 use Rattle.projection.specs.Beyond.{Beyond}
 use Rattle.loose.specs.Listed.{bodyVertices, Gatherable, Gathered}
 use Rattle.loose.specs.Open.{Marked, Markable, bodyUses, flagOf}
-use Rattle.counting.specs.declared.count.Finder.{Finder}
+use Rattle.splits.specs.declared.finder.Finder.{Finder}
 use Rattle.counting.specs.Prepared.{Preparable, Prepared}
 
 module _ {table : List ℕ} {ps : List Float} {is W : List ℕ} {v m : ℕ} (g : Preparable table ps is W v m) where

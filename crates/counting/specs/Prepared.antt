@@ -9,7 +9,7 @@ use Rattle.points.specs.Points.{key}
 use Rattle.body.specs.Body.{rowsOf}
 use Rattle.loose.specs.Listed.{bodyVertices}
 use Rattle.loose.specs.Open.{Markable, bodyUses, flagOf}
-use Rattle.counting.specs.declared.count.Finder.{Finder}
+use Rattle.splits.specs.declared.finder.Finder.{Finder}
 use Rattle.counting.specs.Counting.{BodyReady}
 
 -- what it asks: a body whose open edges can be marked, and the words that 31 counts

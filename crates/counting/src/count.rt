@@ -1,5 +1,6 @@
 // The splits of the body's triangles counted, one triangle after another.
 
+use splits::Finder;
 use splits::Sides;
 use splits::Tally;
 use splits::TriangleEdge;
@@ -8,18 +9,6 @@ ghost use lib.ListN.{getD};
 ghost use Rattle.geometry.specs.Geometry.{pointAt};
 ghost use Rattle.projection.specs.Projection.{edgeOf};
 ghost use Rattle.counting.specs.Counting.{EdgeReady, SidesReady, sidesIn, TriangleReady, TriangleDone, RowReady, RowCounted, BodyReady, BodyCounted};
-
-// What finding splits asks: the sag and a squared distance beyond it, and where names, loose vertices, entries, parameters and flags stand.
-pub struct Finder {
-    pub sag: f64,
-    pub beyond: f64,
-    pub v: usize,
-    pub list: usize,
-    pub count: usize,
-    pub at: usize,
-    pub ts: usize,
-    pub flags: usize,
-}
 
 // The edge between the vertices g and h.
 fn edge_between(
@@ -86,18 +75,7 @@ pub fn find_splits(
     let opens = loose::any_set(w, f.flags + k);
     if opens {
         let s = sides_at(positions, indices, w, f.v, f.flags, base, k);
-        return splits::split_triangle(
-            positions,
-            w,
-            s,
-            f.sag,
-            f.beyond,
-            f.v,
-            f.list,
-            f.count,
-            f.at,
-            f.ts,
-        );
+        return splits::split_triangle(positions, w, s, f);
     }
     Tally {
         found: 0,

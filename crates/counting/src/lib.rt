@@ -3,6 +3,5 @@
 mod count;
 pub mod prepare;
 
-pub use count::Finder;
 pub use count::count_splits;
 pub use count::find_splits;

@@ -1,6 +1,6 @@
 // The work area made ready for finding splits.
 
-use crate::count::Finder;
+use splits::Finder;
 ghost use Rattle.counting.specs.Prepared.{Preparable, Prepared};
 
 // The open edges of a body of v vertices and m rows are marked and its loose vertices listed; the answer says where they stand.

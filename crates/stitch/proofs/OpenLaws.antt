@@ -23,7 +23,7 @@ use Rattle.loose.specs.LooseLaws.{loose-is}
 use Rattle.loose.specs.Open.{bodyUses, flagOf}
 use Rattle.splits.specs.FoundPoints.{Distinct}
 use Rattle.splits.specs.FoundLaws.{keys-distinct}
-use Rattle.counting.specs.declared.count.Finder.{Finder}
+use Rattle.splits.specs.declared.finder.Finder.{Finder}
 use Rattle.stitch.specs.Stitch.{StitchedBody, stitchedBody}
 use Rattle.counting.specs.Views.{View, bodyViews, foundIn, keptIn, viewedRows, viewedPositions, viewedNormals, viewedIndices}
 use Rattle.stitch.specs.ViewLaws.{Viewable, rows-are, positions-are, normals-are, indices-are, splits-are}

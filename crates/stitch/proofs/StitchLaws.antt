@@ -15,7 +15,7 @@ use Rattle.body.specs.Rows.{Total}
 use Rattle.body.specs.Accepted.{Passed, passed-rows}
 use Rattle.geometry.specs.Geometry.{zero64}
 use Rattle.loose.specs.Open.{Markable}
-use Rattle.counting.specs.declared.count.Finder.{Finder}
+use Rattle.splits.specs.declared.finder.Finder.{Finder}
 use Rattle.stitch.specs.declared.stitching.Stitched.{Stitched}
 use Rattle.stitch.specs.declared.stitching.Stitched.the-variants.{Done, Refused}
 use Rattle.stitch.specs.Stitch.{StitchSlices, StitchedBody, stitchedBody, stitchBody, refuseStitch, clearedSlices, stitchOrRefuse, stitchOf}

@@ -2,8 +2,8 @@
 
 use crate::append::append_stretch;
 use crate::append::put_row;
-use counting::Finder;
 use counting::find_splits;
+use splits::Finder;
 ghost use Rattle.writing.specs.Writing.{TriangleWritable, TriangleWritten, RowWritable, RowWritten, BodyWritable, BodyWritten};
 
 // Where the written vertices and indices end.

@@ -6,11 +6,11 @@ use Rattle.splits.proofs.triangle.find_all.Statement.{statement}
 use Rattle.splits.proofs.triangle.find_all.Tie as tie
 
 abbrev Inv-loop : tie.InvT-loop
-Inv-loop positions w₀ s sag beyond v list count e at ts found placed side total₀ entries₀ j₀ w total entries j =
-    Finding positions sag s v list count e at ts found placed w₀ total entries j w
+Inv-loop positions w₀ s f e found placed side t₀ j₀ w t j =
+    Finding positions (f .sag) s (f .v) (f .list) (f .count) e (f .at) (f .ts) found placed w₀ (t .found) (t .placed) j w
 
 abbrev μ-loop : tie.MeasureT-loop
-μ-loop positions w₀ s sag beyond v list count e at ts found placed side total₀ entries₀ j₀ w total entries j = count - j
+μ-loop positions w₀ s f e found placed side t₀ j₀ w t j = f .count - j
 
 side-of-requires : tie.Need-side-of-requires Inv-loop μ-loop
 side-of-requires c κs = search needs
@@ -46,9 +46,9 @@ loop-again-2 : tie.Need-loop-again-2 Inv-loop μ-loop
 loop-again-2 c =
     let m = c .before in
     let t = m .before .before in
-    let l = t .before in
+    let l = t .before .before in
     let i = l .before .before .before in
-    finding-ruled (i .before .before .before .pre) _ (l .loop .inv) (t .loop-test .taken) (i .side-of .ensures) (m .may-split .ensures) (c .if2 .left)
+    finding-ruled (i .before .before .before .pre) _ (l .loop .inv) (t .if2 .taken) (i .side-of .ensures) (m .may-split .ensures) (c .if3 .left)
 
 same-length : tie.Need-same-length Inv-loop μ-loop
 same-length c = search needs
