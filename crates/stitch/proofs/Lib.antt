@@ -2,5 +2,7 @@
 pub mod CopyLaws
 pub mod ResultLaws
 pub mod FaceLaws
+pub mod UnsplitLaws
+pub mod PutLaws
 pub mod OpenLaws
 pub mod StitchLaws

@@ -142,7 +142,7 @@ module _ {table : List ℕ} {ps : List Float} (ns : List Float) {is : List ℕ} 
     same-views : viewsOf table ps is (f .sag) (f .v) (f .list) (f .count) (f .flags) X ≡ views
     same-views = views-kept X (p .ready) (c .front) ∙ views-are
 
-    kept-there : sumOf keptIn (viewsOf table ps is (f .sag) (f .v) (f .list) (f .count) (f .flags) X) ≡ kept
+    pub kept-there : sumOf keptIn (viewsOf table ps is (f .sag) (f .v) (f .list) (f .count) (f .flags) X) ≡ kept
     kept-there = ap (sumOf keptIn) same-views ∙ sym kept-is
 
     module _ (long : length X ≡ length E) (all : length ns ≡ 3 * v) {R : List ℕ} {P N : List Float} {I : List ℕ} where

@@ -6,5 +6,6 @@ pub mod Faces
 pub mod TriangleViews
 pub mod ViewLaws
 pub mod Stitched
+pub mod Put
 pub mod Evaluation
 pub mod Claims

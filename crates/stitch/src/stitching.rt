@@ -2,9 +2,9 @@
 
 use crate::checks::result_failing;
 use crate::copy::copy_body;
+use crate::put::put_body;
 use counting::count_splits;
 use counting::prepare::prepare;
-use writing::write_body;
 ghost use mathlib.Core.Path.{_≡_};
 ghost use Prim.Native.Nat.{_+_, _*_};
 ghost use lib.ListN.{length};
@@ -63,13 +63,14 @@ fn stitch_open(
         out_indices,
     );
     if failing == 0 {
-        write_body(
+        put_body(
             rows,
             positions,
             normals,
             indices,
             w,
             f,
+            t.placed,
             out_rows,
             out_positions,
             out_normals,

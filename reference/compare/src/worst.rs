@@ -40,6 +40,13 @@ fn infinite_sag(r: &mut Random) -> Sheet {
     sheet(all.chunks(7).enumerate().map(|(k, t)| row(k as u32, t)).collect(), f64::INFINITY)
 }
 
+/// Points as near one edge of a triangle as another, bit for bit: the first has them.
+fn equally_near() -> Sheet {
+    let corner = row(0, &[[[0.0; 3], [8.0, 0.0, 0.0], [0.0, 8.0, 0.0]]]);
+    let points = row(1, &[[[1.0, 1.0, 0.0], [1.0, 2.0, 50.0], [2.0, 1.0, 60.0]], [[2.0, 2.0, 0.5], [3.0, 2.0, -50.0], [2.0, 3.0, -60.0]]]);
+    sheet(vec![corner, points], 2.25)
+}
+
 /// Corners at both ends of the range of f32, and points at its smallest values.
 fn ends_of_the_range() -> Sheet {
     let (last, least) = (f32::MAX, f32::from_bits(1));
@@ -132,6 +139,7 @@ pub fn compared(points: usize) -> Result<u64, String> {
     let new = case(&padded(0, 0), 0.25).after;
     let (vertices, triangles) = (MOST_VERTICES - new.positions.len() / 3, (MOST_INDICES - new.indices.len()) / 3);
     named("every loose point on one edge", held(&on_one_edge(points)))?;
+    named("points equally near two edges", held(&equally_near()))?;
     named("an infinite sag", held(&infinite_sag(r)))?;
     named("the ends of the range", held(&ends_of_the_range()))?;
     named("equal parameters", exact(&equal_parameters(500), 0.25).map_or(Ok(()), Err))?;
@@ -144,7 +152,7 @@ pub fn compared(points: usize) -> Result<u64, String> {
     for (more, name) in [(0, "the most indices"), (1, "one triangle too many")] {
         named(name, limit(&padded(0, triangles + more), r))?;
     }
-    Ok(10)
+    Ok(11)
 }
 
 /// The time that the library takes for so many loose points on one edge, in seconds.
