@@ -95,8 +95,7 @@ pub fn line(r: &mut Random, size: usize) -> Sheet {
     let mut rows = Vec::new();
     for side in [1.0, -1.0] {
         let count = pieces(r, size, 4) - 1;
-        let inner: Vec<f64> = cuts(r, count);
-        let chain: Vec<Point> = inner
+        let chain: Vec<Point> = cuts(r, count)
             .iter()
             .map(|t| {
                 let off = if *t == 0.0 || *t == 1.0 { [0.0; 3] } else { noise(r, off) };
@@ -148,7 +147,7 @@ pub fn corner(r: &mut Random, size: usize) -> Sheet {
         let k = r.size(0, 2);
         let (from, a, b) = (big[k], sub(big[(k + 1) % 3], big[k]), sub(big[(k + 2) % 3], big[k]));
         let (x, y) = (r.unit() * reach, r.between(-0.3, 1.0) * reach);
-        let at = [0, 1, 2].map(|c| from[c] + a[c] * x + b[c] * y + f.unit * r.between(-0.1, 0.1) * reach);
+        let at = [0, 1, 2].map(|axis| from[axis] + a[axis] * x + b[axis] * y + f.unit * r.between(-0.1, 0.1) * reach);
         let size = f.unit * reach;
         rows.push(vec![speck(r, at, size)]);
     }
@@ -165,7 +164,7 @@ pub fn sliver(r: &mut Random, size: usize) -> Sheet {
         let y = k as f64 * *r.pick(&[0.0, 0.001, 0.5]);
         let (a, b) = (f.point(r.unit(), y, [0.0; 3]), f.point(1.0 + r.unit(), y, noise(r, 0.1)));
         let t = r.unit();
-        let c = [0, 1, 2].map(|c| a[c] + (b[c] - a[c]) * t + f.unit * height * r.between(-1.0, 1.0));
+        let c = [0, 1, 2].map(|axis| a[axis] + (b[axis] - a[axis]) * t + f.unit * height * r.between(-1.0, 1.0));
         let mut triangles = vec![[a, b, c]];
         if r.chance(20) {
             triangles.push([a, a, c]);
