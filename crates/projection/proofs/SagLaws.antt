@@ -1,24 +1,25 @@
 -- The distance within the sag, with and without its root. Assumes nothing.
 use mathlib.Core.Path.{_≡_, refl, sym, ap, _∙_, subst}
-use mathlib.Core.Bool.{Bool, true, false, not}
+use mathlib.Core.Bool.{Bool, true, false, not, _&&_, cond}
 use mathlib.Core.Option.{Option, none, some}
 use lib.Dec.{T}
 use lib.Ieee as Ieee
-use lib.Ieee.{Float, inf, binary64, fits, lt}
+use lib.Ieee.{Float, inf, binary64, fits, lt, eq}
 use lib.Ieee.Fits.{add-fits, mul-fits}
 use Rattle.floats.specs.Floats.{sqrt}
 use Rattle.floats.specs.RootOrder.{not-above-infinity, below-root}
 use Rattle.geometry.specs.declared.Vec3.{Vec3}
-use Rattle.geometry.specs.Geometry.{mul, div, dot, lengthV, zero64, one64}
+use Rattle.geometry.specs.Geometry.{sub, mul, div, subV, scale, dot, lengthV, zero64, one64}
 use Rattle.projection.specs.declared.Edge.{Edge}
 use Rattle.projection.specs.declared.Hit.{Hit}
 use Rattle.projection.specs.declared.feet.Foot.{Foot}
 use Rattle.projection.specs.declared.feet.Footing.{Footing}
 use Rattle.projection.specs.declared.feet.Footing.the-variants as Footing
-use Rattle.projection.specs.Projection.{withinSag}
+use Rattle.projection.specs.Projection.{near-end, far-end, withinSag}
 use Rattle.projection.specs.Answers.{footing}
-use Rattle.projection.specs.Beyond.{Beyond}
+use Rattle.projection.specs.Beyond.{Beyond, Ruled}
 use Rattle.projection.proofs.EdgeLaws.{hitOf, hit-foot}
+use Rattle.projection.proofs.SignLaws.{between-plain}
 
 -- a product whose root is above the sag
 pub beyond-product : (sag p : Float) {q : Float} → q ≡ sqrt (mul p sag) → lt sag q ≡ true → Beyond sag (mul p sag)
@@ -57,3 +58,49 @@ module _ (sag : Float) (s : Edge) (r : Vec3) where
       -- the square decides
       pub within-beyond : {b : Float} → Beyond sag b → lt b d ≡ true → false ≡ withinSag sag s r
       within-beyond b l = ap not (sym (b .far d (subst (λ (x : Float). T (fits binary64 x)) (sym h) (add-fits binary64 _ _)) l)) ∙ within-root refl
+
+-- ---- what a point that is not within the sag is ruled out by
+
+module _ (s : Edge) (r : Vec3) {w : Vec3} {k : Float} (e : w ≡ subV r (s .start)) (m : k ≡ dot w (s .along)) where
+  -- the footing by the way and the product that the code makes
+  there : cond (not (eq (s .squared) zero64) && lt near-end (div k (s .squared)) && lt (div k (s .squared)) far-end)
+      (Footing.Inside (record { t = div k (s .squared); off = subV w (scale (s .along) (div k (s .squared))) })) Footing.Outside ≡ footing s r
+  unfolding footing
+  there = ap (at w) m ∙ ap (λ (w : Vec3). at w (dot w (s .along))) e
+    where
+      at : Vec3 → Float → Footing
+      at w k =
+          cond (not (eq (s .squared) zero64) && lt near-end (div k (s .squared)) && lt (div k (s .squared)) far-end)
+          (Footing.Inside (record { t = div k (s .squared); off = subV w (scale (s .along) (div k (s .squared))) })) Footing.Outside
+
+  -- the sign of the product of both distances
+  pub ruled-sign : (b : Float) → lt (mul (sub (div k (s .squared)) near-end) (sub far-end (div k (s .squared)))) zero64 ≡ true → Ruled b s r false
+  unfolding Ieee.ofBits
+  ruled-sign b h = record { out = λ sag y z. sym (within-outside sag s r refl (sym there ∙ outside (Footing.Inside (record { t = div k (s .squared); off = subV w (scale (s .along) (div k (s .squared))) })) (not (eq (s .squared) zero64)) (lt near-end (div k (s .squared))) (lt (div k (s .squared)) far-end) both)) }
+    where
+      both : lt near-end (div k (s .squared)) ≡ true → lt (div k (s .squared)) far-end ≡ true → ⊥
+      both p q = between-plain binary64 near-end (div k (s .squared)) far-end p q h
+
+      outside : (f : Footing) (a c d : Bool) → (c ≡ true → d ≡ true → ⊥) → cond (a && c && d) f Footing.Outside ≡ Footing.Outside
+      outside f true true true n = absurd (n refl refl)
+      outside f true true false n = refl
+      outside f true false d n = refl
+      outside f false c d n = refl
+
+  -- the square of the distance
+  pub ruled-far : (b : Float) {u o : Vec3} {d : Float} → u ≡ scale (s .along) (div k (s .squared)) → o ≡ subV w u → d ≡ dot o o → Ruled b s r (not (lt b d))
+  ruled-far b {u} {o} {d} eu eo ed = record { out = λ sag y z. go sag y (above (lt b d) z) (not (eq (s .squared) zero64) && lt near-end (div k (s .squared)) && lt (div k (s .squared)) far-end) there }
+    where
+      above : (x : Bool) → not x ≡ false → x ≡ true
+      above true z = refl
+      above false z = sym z
+
+      off : Vec3
+      off = subV w (scale (s .along) (div k (s .squared)))
+
+      square : d ≡ dot off off
+      square = ed ∙ ap (λ (o : Vec3). dot o o) (eo ∙ ap (subV w) eu)
+
+      go : (sag : Float) → Beyond sag b → lt b d ≡ true → (c : Bool) → cond c (Footing.Inside (record { t = div k (s .squared); off = off })) Footing.Outside ≡ footing s r → withinSag sag s r ≡ false
+      go sag y l true g = sym (within-beyond sag s r g (record { t = div k (s .squared); off = off }) refl square y l)
+      go sag y l false g = sym (within-outside sag s r g refl)

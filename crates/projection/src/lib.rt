@@ -10,6 +10,7 @@ use geometry::Vec3;
 pub use mixing::Normal;
 pub use mixing::mixed_normal;
 pub use sag::beyond_of;
+pub use sag::may_hit;
 pub use sag::within_sag;
 ghost use mathlib.Core.Path.{_≡_};
 ghost use Rattle.projection.specs.Projection.{edgeOf};

@@ -5,7 +5,7 @@ use crate::feet::Footing;
 use crate::feet::foot_of;
 use geometry::Vec3;
 ghost use mathlib.Core.Path.{_≡_};
-ghost use Rattle.projection.specs.Beyond.{Beyond};
+ghost use Rattle.projection.specs.Beyond.{Beyond, Ruled};
 ghost use Rattle.projection.specs.Projection.{withinSag};
 
 // A squared distance beyond which a distance is above the sag: 4 times the sag's square, or, where that says nothing, the infinity.
@@ -35,4 +35,20 @@ pub fn within_sag(s: Edge, r: Vec3, sag: f64, beyond: f64) -> bool
             !(floats::sqrt_f64(d) > sag)
         }
     }
+}
+
+// Whether r may be within the sag of an edge: not if it projects outside, which the sign of one product tells, nor if it is beyond.
+pub fn may_hit(s: Edge, r: Vec3, beyond: f64) -> bool
+    ensures { λ o. ⌜ Ruled beyond s r o ⌝ }
+{
+    let start = s.start;
+    let along = s.along;
+    let w = r.sub(start);
+    let t = w.dot(along) / s.squared;
+    if (t - 0.000001) * (0.999999 - t) < 0.0 {
+        return false;
+    }
+    let off = w.sub(along.scale(t));
+    let d = off.dot(off);
+    !(d > beyond)
 }

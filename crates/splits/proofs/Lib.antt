@@ -4,4 +4,5 @@ pub mod PutLaws
 pub mod DropLaws
 pub mod FindingLaws
 pub mod PlacingLaws
-pub mod TriangleLaws
+pub mod SideLaws
+mod TriangleLaws

@@ -1,6 +1,6 @@
 -- Laws of a triangle's splits: one vertex tried, all tried on an edge, and the three edges in turn. Assumes nothing.
 use mathlib.Core.Path.{_≡_, refl, sym, ap, _∙_, subst}
-use mathlib.Core.Bool.{Bool, true, false, cond}
+use mathlib.Core.Bool.{Bool, true, false, not, cond}
 use mathlib.Core.List.{List, [], _∷_}
 use mathlib.Core.Option.{Option, none, some}
 use Prim.Native.Nat.{ℕ, zero, suc, _+_, _-_, _*_, _<_, _≤_}
@@ -13,17 +13,21 @@ use Rattle.lists.specs.Stretches.{stretch-at, stretch-kept, front-at, front-les
 use Rattle.geometry.specs.declared.Vec3.{Vec3}
 use Rattle.geometry.specs.Geometry.{vertexAt, pointAt}
 use Rattle.projection.specs.declared.Hit.{Hit}
-use Rattle.projection.specs.Projection.{project}
+use Rattle.projection.specs.declared.Edge.{Edge}
+use Rattle.projection.specs.Projection.{project, withinSag}
+use Rattle.projection.specs.Beyond.{Ruled}
 use Rattle.loose.specs.Listed.{nameIn, Listed, NameAt}
 use Rattle.splits.specs.declared.placing.Placing.{Placing}
 use Rattle.splits.specs.declared.placing.Place.{Place}
 use Rattle.splits.specs.declared.placing.Place.the-variants.{Nowhere, On}
+use Rattle.splits.specs.declared.sides.TriangleEdge.{TriangleEdge}
 use Rattle.splits.specs.declared.sides.Sides.{Sides}
 use Rattle.splits.specs.Entries.{Entry, entriesOf, entriesIn, insertEntry, keptEntries, EntryRoom, EntryInserted, EntriesHeld, EntriesKept}
-use Rattle.splits.specs.Found.{Spot, foundOnly, nearerSpot, spotOf, withSpot, withVertex, entriesOn, foundCount, triangleFound, triangleKept}
+use Rattle.splits.specs.Found.{Spot, sideOf, foundOnly, nearerSpot, spotOf, withSpot, withVertex, entriesOn, foundCount, triangleFound, triangleKept}
 use Rattle.splits.specs.Finding.{FindReady}
 use Rattle.splits.specs.Placing.{placeAs, spotAs}
-use Rattle.splits.specs.Triangle.{TryReady, Tried, FindOn, FoundAll, Splittable, Split}
+use Rattle.splits.specs.Triangle.{PointReady, TryReady, Tried, FindOn, FoundAll, Splittable, Split}
+use Rattle.splits.proofs.SideLaws.{closed-finds-none, far-is-not-found}
 
 -- ---- where a point is placed
 
@@ -61,6 +65,20 @@ unfolding spotOf
 spot-low s r =
     low-nearer (nearerSpot (nearerSpot none 0 (project (s .first .edge) r)) 1 (project (s .second .edge) r)) 2 (project (s .third .edge) r)
     (low-nearer (nearerSpot none 0 (project (s .first .edge) r)) 1 (project (s .second .edge) r) (low-nearer none 0 (project (s .first .edge) r) low-none (omega arith)) (omega arith)) (omega arith)
+
+-- ---- a look at one vertex
+
+module _ {ps : List Float} {v list count j : ℕ} {W : List ℕ} (t : PointReady ps v list count j W) where
+  pub point-there : NameAt v list count j W
+  point-there = record { listed = t .listed; inside = t .inside }
+
+  module _ {g : ℕ} (eg : g ≡ getD W (list + j) 0) where
+    pub coordinates-there : 3 * g + 2 < length ps
+    coordinates-there = omega (arith, eg, t .listed .below j (t .inside), t .all)
+
+    -- what is ruled out is the point of the vertex
+    pub ruled-there : {b : Float} {s : Edge} {r : Vec3} {o : Bool} → r ≡ vertexAt ps (3 * g) → Ruled b s r o → Ruled b s (pointAt ps (getD W (list + j) 0)) o
+    ruled-there {b} {s} {r} {o} er d = subst (λ (r : Vec3). Ruled b s r o) (er ∙ ap (pointAt ps) eg) d
 
 -- ---- one vertex
 
@@ -215,6 +233,10 @@ module _ {ps : List Float} {sag beyond : Float} {v list count e at ts found plac
         drop-cons (take count (drop list W)) j 0 (omega (arith, length-take-le count (drop list W) (omega (arith, length-drop list W, g .listed .room))))
         ∙ (λ i. stretch-at list count W j 0 l i ∷ drop (k i) (take count (drop list W)))
 
+    -- the next can be looked at
+    pub point-ready : PointReady ps v list count j E
+    point-ready = record { listed = next-ready .listed; inside = l; few = g .few; all = g .all }
+
     -- one more has been tried
     pub finding-more : {total' entries' : ℕ} {F : List ℕ} → Tried ps sag s v list j e at ts total entries E F total' entries' → length F ≡ length E
         → Finding ps sag s v list count e at ts found placed W total' entries' (j + 1) F
@@ -251,6 +273,24 @@ module _ {ps : List Float} {sag beyond : Float} {v list count e at ts found plac
         one true = omega arith
         one false = omega arith
 
+    -- one that is not found need not be tried
+    skip : foundOnly sag s e (getD (take v E) (getD E (list + j) 0) 0) (pointAt ps (getD E (list + j) 0)) ≡ false → Finding ps sag s v list count e at ts found placed W total entries (j + 1) E
+    skip h = finding-more (tried-not next-ready refl s refl (look h) refl) refl
+      where
+        look : foundOnly sag s e (getD (take v E) (getD E (list + j) 0) 0) (pointAt ps (getD E (list + j) 0)) ≡ false
+            → false ≡ foundOnly sag s e (getD E (getD E (list + j) 0) 0) (vertexAt ps (3 * getD E (list + j) 0))
+        look h = sym h ∙ ap (λ (n : ℕ). foundOnly sag s e n (pointAt ps (getD E (list + j) 0))) (getD-take v E (getD E (list + j) 0) 0 (next-ready .listed .below j l))
+
+    -- nor one that the edge rules out
+    pub finding-ruled : {x : TriangleEdge} {o : Bool} → x ≡ sideOf s e → Ruled beyond (x .edge) (pointAt ps (getD E (list + j) 0)) o → o ≡ false
+        → Finding ps sag s v list count e at ts found placed W total entries (j + 1) E
+    finding-ruled {x} {o} ex d z =
+        skip (far-is-not-found sag s e _ _ (subst (λ (x : TriangleEdge). withinSag sag (x .edge) (pointAt ps (getD E (list + j) 0)) ≡ false) ex (d .out sag (g .far) z)))
+
+    -- nor any on an edge that is not open
+    skip-closed : sideOf s e .opens ≡ false → Finding ps sag s v list count e at ts found placed W total entries (j + 1) E
+    skip-closed h = skip (closed-finds-none sag s e _ _ h)
+
   -- all have been tried
   pub finding-all : {total entries j : ℕ} {E : List ℕ} → Finding ps sag s v list count e at ts found placed W total entries j E → count ≤ j
       → FoundAll ps sag s v list count e at ts found placed W E total entries
@@ -266,6 +306,21 @@ module _ {ps : List Float} {sag beyond : Float} {v list count e at ts found plac
         front = f .front;
         rest = f .rest;
       }
+
+  -- an edge that is not open finds nothing
+  pub finding-closed : {x : TriangleEdge} → x ≡ sideOf s e → not (x .opens) ≡ true → FoundAll ps sag s v list count e at ts found placed W W found placed
+  finding-closed {x} ex h = finding-all (all count (omega arith)) (omega arith)
+    where
+      shut : (b : Bool) → not b ≡ true → b ≡ false
+      shut true z = sym z
+      shut false z = refl
+
+      closed : sideOf s e .opens ≡ false
+      closed = ap (λ (x : TriangleEdge). x .opens) (sym ex) ∙ shut (x .opens) h
+
+      all : (j : ℕ) → j ≤ count → Finding ps sag s v list count e at ts found placed W found placed j W
+      all zero l = finding-none
+      all (suc j) l = let k : j + 1 ≡ suc j = omega arith in subst (λ (n : ℕ). Finding ps sag s v list count e at ts found placed W found placed n W) k (skip-closed (all j (omega arith)) (omega arith) closed)
 
 -- ---- the three edges
 

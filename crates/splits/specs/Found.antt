@@ -28,6 +28,12 @@ sidesFrom f = record { first = edgeFrom (f .c₀) (f .c₁); second = edgeFrom (
 abbrev pub counts : Float → TriangleEdge → ℕ → Vec3 → Bool
 counts sag s name r = s .opens && not (eqb name (s .start)) && not (eqb name (s .end)) && withinSag sag (s .edge) r
 
+-- the edge from corner 0, 1, 2
+unfoldable pub sideOf : Sides → ℕ → TriangleEdge
+sideOf s zero = s .first
+sideOf s (suc zero) = s .second
+sideOf s (suc (suc e)) = s .third
+
 -- for the edge from corner 0, 1, 2
 unfoldable pub countsOn : Float → Sides → ℕ → ℕ → Vec3 → Bool
 countsOn sag s zero name r = counts sag (s .first) name r

@@ -14,6 +14,13 @@ use Rattle.splits.specs.declared.sides.Sides.{Sides}
 use Rattle.splits.specs.Entries.{entriesIn}
 use Rattle.splits.specs.Found.{foundOnly, withVertex, entriesOn, foundCount, triangleFound, triangleKept}
 
+-- what looking at the point of vertex j of the list asks
+pub record PointReady (ps : List Float) (v list count j : ℕ) (W : List ℕ) : Type 0 where
+  pub listed : Listed v list count W
+  pub inside : j < count
+  pub few : v ≤ 262144
+  pub all : length ps ≡ 3 * v
+
 -- what trying vertex j of the list on edge e asks: room for one entry more, and a count that can grow
 pub record TryReady (ps : List Float) (sag beyond : Float) (v list count j e at ts found placed : ℕ) (W : List ℕ) : Type 0 where
   pub listed : Listed v list count W

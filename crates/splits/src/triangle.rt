@@ -2,15 +2,20 @@
 
 use crate::entries::drop_close;
 use crate::entries::insert_entry;
+use crate::finder::Finder;
 use crate::finding::found_on;
 use crate::placing::Place;
 use crate::placing::place_on;
 use crate::sides::Sides;
+use crate::sides::side_of;
+use projection::Edge;
 ghost use mathlib.Core.Path.{_≡_};
 ghost use Prim.Native.Nat.{_+_};
 ghost use lib.ListN.{getD};
+ghost use Rattle.geometry.specs.Geometry.{pointAt};
+ghost use Rattle.projection.specs.Beyond.{Ruled};
 ghost use Rattle.loose.specs.Listed.{NameAt};
-ghost use Rattle.splits.specs.Triangle.{TryReady, Tried, FindOn, FoundAll, Splittable, Split};
+ghost use Rattle.splits.specs.Triangle.{PointReady, TryReady, Tried, FindOn, FoundAll, Splittable, Split};
 
 // How many points were found, and how many entries there are.
 pub struct Tally {
@@ -26,30 +31,34 @@ fn listed(w: &[u64], v: usize, list: usize, count: usize, j: usize) -> usize
     w[list + j] as usize
 }
 
+// Whether vertex j of the list may be within the sag of an edge.
+fn may_split(positions: &[f32], w: &[u64], s: Edge, f: Finder, j: usize) -> bool
+    requires { ⌜ PointReady (now positions) (f .v) (f .list) (f .count) j (now w) ⌝ }
+    ensures { λ r. ⌜ Ruled (f .beyond) s (pointAt (now (positions .entry)) (getD (now (w .entry)) (f .list + j) 0)) r ⌝ }
+{
+    let g = listed(w, f.v, f.list, f.count, j);
+    let r = geometry::vertex(positions, 3 * g);
+    projection::may_hit(s, r, f.beyond)
+}
+
 // Vertex j of the list is tried on edge e: if it is found there it is counted, and if it is placed it goes among the entries.
 fn try_vertex(
     positions: &[f32],
     w: &mut [u64],
     s: Sides,
-    sag: f64,
-    beyond: f64,
-    v: usize,
-    list: usize,
-    count: usize,
+    f: Finder,
     j: usize,
     e: u64,
-    at: usize,
-    ts: usize,
     found: u64,
     placed: usize,
 ) -> Tally
-    requires { ⌜ TryReady (now positions) sag beyond v list count j e at ts found placed (now w) ⌝ }
-    ensures { λ r. ⌜ Tried (now (positions .entry)) sag s v list j e at ts found placed (now (w .entry)) (now (w .exit)) (r .found) (r .placed) ⌝ }
+    requires { ⌜ TryReady (now positions) (f .sag) (f .beyond) (f .v) (f .list) (f .count) j e (f .at) (f .ts) found placed (now w) ⌝ }
+    ensures { λ r. ⌜ Tried (now (positions .entry)) (f .sag) s (f .v) (f .list) j e (f .at) (f .ts) found placed (now (w .entry)) (now (w .exit)) (r .found) (r .placed) ⌝ }
 {
-    let g = listed(w, v, list, count, j);
+    let g = listed(w, f.v, f.list, f.count, j);
     let r = geometry::vertex(positions, 3 * g);
     let name = w[g];
-    let here = found_on(s, e, name, r, sag, beyond);
+    let here = found_on(s, e, name, r, f.sag, f.beyond);
     if here {
         match place_on(s, r) {
             Place::Nowhere => {
@@ -59,7 +68,7 @@ fn try_vertex(
                 };
             }
             Place::On(p) => {
-                insert_entry(w, at, ts, placed, p.e, g, p.t);
+                insert_entry(w, f.at, f.ts, placed, p.e, g, p.t);
                 return Tally {
                     found: found + 1,
                     placed: placed + 1,
@@ -73,117 +82,49 @@ fn try_vertex(
     }
 }
 
-// All loose vertices are tried on edge e.
+// All loose vertices that may be within the sag of edge e, if it is open, are tried on it.
 fn find_all(
     positions: &[f32],
     w: &mut [u64],
     s: Sides,
-    sag: f64,
-    beyond: f64,
-    v: usize,
-    list: usize,
-    count: usize,
+    f: Finder,
     e: u64,
-    at: usize,
-    ts: usize,
     found: u64,
     placed: usize,
 ) -> Tally
-    requires { ⌜ FindOn (now positions) sag beyond v list count e at ts found placed (now w) ⌝ }
-    ensures { λ r. ⌜ FoundAll (now (positions .entry)) sag s v list count e at ts found placed (now (w .entry)) (now (w .exit)) (r .found) (r .placed) ⌝ }
+    requires { ⌜ FindOn (now positions) (f .sag) (f .beyond) (f .v) (f .list) (f .count) e (f .at) (f .ts) found placed (now w) ⌝ }
+    ensures { λ r. ⌜ FoundAll (now (positions .entry)) (f .sag) s (f .v) (f .list) (f .count) e (f .at) (f .ts) found placed (now (w .entry)) (now (w .exit)) (r .found) (r .placed) ⌝ }
 {
-    let mut total = found;
-    let mut entries = placed;
+    let side = side_of(s, e);
+    let mut t = Tally {
+        found: found,
+        placed: placed,
+    };
+    if !side.opens {
+        return t;
+    }
     let mut j = 0usize;
-    while j < count {
-        let r = try_vertex(
-            positions,
-            w,
-            s,
-            sag,
-            beyond,
-            v,
-            list,
-            count,
-            j,
-            e,
-            at,
-            ts,
-            total,
-            entries,
-        );
-        total = r.found;
-        entries = r.placed;
-        j += 1;
+    while j < f.count {
+        let may = may_split(positions, w, side.edge, f, j);
+        if may {
+            t = try_vertex(positions, w, s, f, j, e, t.found, t.placed);
+            j += 1;
+        } else {
+            j += 1;
+        }
     }
-    Tally {
-        found: total,
-        placed: entries,
-    }
+    t
 }
 
 // The points that split a triangle are found on its edges in turn, and those close to the one before them dropped; the answer is how many were found and are kept.
-pub fn split_triangle(
-    positions: &[f32],
-    w: &mut [u64],
-    s: Sides,
-    sag: f64,
-    beyond: f64,
-    v: usize,
-    list: usize,
-    count: usize,
-    at: usize,
-    ts: usize,
-) -> Tally
-    requires { ⌜ Splittable (now positions) sag beyond v list count at ts (now w) ⌝ }
-    ensures { λ r. ⌜ Split (now (positions .entry)) sag s v list count at ts (now (w .entry)) (now (w .exit)) (r .found) (r .placed) ⌝ }
+pub fn split_triangle(positions: &[f32], w: &mut [u64], s: Sides, f: Finder) -> Tally
+    requires { ⌜ Splittable (now positions) (f .sag) (f .beyond) (f .v) (f .list) (f .count) (f .at) (f .ts) (now w) ⌝ }
+    ensures { λ r. ⌜ Split (now (positions .entry)) (f .sag) s (f .v) (f .list) (f .count) (f .at) (f .ts) (now (w .entry)) (now (w .exit)) (r .found) (r .placed) ⌝ }
 {
-    let one = find_all(
-        positions,
-        w,
-        s,
-        sag,
-        beyond,
-        v,
-        list,
-        count,
-        0,
-        at,
-        ts,
-        0,
-        0,
-    );
-    let two = find_all(
-        positions,
-        w,
-        s,
-        sag,
-        beyond,
-        v,
-        list,
-        count,
-        1,
-        at,
-        ts,
-        one.found,
-        one.placed,
-    );
-    let three = find_all(
-        positions,
-        w,
-        s,
-        sag,
-        beyond,
-        v,
-        list,
-        count,
-        2,
-        at,
-        ts,
-        two.found,
-        two.placed,
-    );
-    let kept = drop_close(w, at, ts, three.placed);
+    let one = find_all(positions, w, s, f, 0, 0, 0);
+    let two = find_all(positions, w, s, f, 1, one.found, one.placed);
+    let three = find_all(positions, w, s, f, 2, two.found, two.placed);
+    let kept = drop_close(w, f.at, f.ts, three.placed);
     Tally {
         found: three.found,
         placed: kept,

@@ -2,12 +2,7 @@
 pub mod CopyLaws
 pub mod ResultLaws
 pub mod FaceLaws
-pub mod CountLaws
-pub mod BodyCountLaws
-pub mod AppendLaws
-pub mod PrepareLaws
-pub mod TriangleWriteLaws
-pub mod RowWriteLaws
-pub mod BodyWriteLaws
+pub mod UnsplitLaws
+pub mod PutLaws
 pub mod OpenLaws
 pub mod StitchLaws

@@ -23,16 +23,16 @@ use Rattle.loose.specs.LooseLaws.{loose-is}
 use Rattle.loose.specs.Open.{bodyUses, flagOf}
 use Rattle.splits.specs.FoundPoints.{Distinct}
 use Rattle.splits.specs.FoundLaws.{keys-distinct}
-use Rattle.stitch.specs.declared.count.Finder.{Finder}
+use Rattle.splits.specs.declared.finder.Finder.{Finder}
 use Rattle.stitch.specs.Stitch.{StitchedBody, stitchedBody}
-use Rattle.stitch.specs.Views.{View, bodyViews, foundIn, keptIn, viewedRows, viewedPositions, viewedNormals, viewedIndices}
+use Rattle.counting.specs.Views.{View, bodyViews, foundIn, keptIn, viewedRows, viewedPositions, viewedNormals, viewedIndices}
 use Rattle.stitch.specs.ViewLaws.{Viewable, rows-are, positions-are, normals-are, indices-are, splits-are}
-use Rattle.stitch.specs.BodyLengths.{vertices-viewed, indices-viewed, rows-length}
-use Rattle.stitch.specs.Counting.{Stands, BodyReady, BodyCounted}
-use Rattle.stitch.specs.Prepared.{Prepared}
+use Rattle.writing.specs.BodyLengths.{vertices-viewed, indices-viewed, rows-length}
+use Rattle.counting.specs.Counting.{Stands, BodyReady, BodyCounted}
+use Rattle.counting.specs.Prepared.{Prepared}
 use Rattle.stitch.specs.Results.{resultChecks, ResultFits, result-fits}
-use Rattle.stitch.specs.Writing.{viewsOf, BodyWritable, BodyWritten}
-use Rattle.stitch.proofs.CountLaws.{stands-kept}
+use Rattle.writing.specs.Writing.{viewsOf, BodyWritable, BodyWritten}
+use Rattle.counting.specs.RowLaws.{stands-kept}
 
 -- uses do not depend on normals
 uses-any : (f : Row → ℕ) (P : List ℕ) (rows : List Row) (ps ns : List Float) (is : List ℕ) → usesFrom f 0 P (patchesOf rows ps [] is) ≡ usesFrom f 0 P (patchesOf rows ps ns is)
@@ -142,7 +142,7 @@ module _ {table : List ℕ} {ps : List Float} (ns : List Float) {is : List ℕ} 
     same-views : viewsOf table ps is (f .sag) (f .v) (f .list) (f .count) (f .flags) X ≡ views
     same-views = views-kept X (p .ready) (c .front) ∙ views-are
 
-    kept-there : sumOf keptIn (viewsOf table ps is (f .sag) (f .v) (f .list) (f .count) (f .flags) X) ≡ kept
+    pub kept-there : sumOf keptIn (viewsOf table ps is (f .sag) (f .v) (f .list) (f .count) (f .flags) X) ≡ kept
     kept-there = ap (sumOf keptIn) same-views ∙ sym kept-is
 
     module _ (long : length X ≡ length E) (all : length ns ≡ 3 * v) {R : List ℕ} {P N : List Float} {I : List ℕ} where

@@ -15,17 +15,18 @@ use Rattle.body.specs.Rows.{Total}
 use Rattle.body.specs.Accepted.{Passed, passed-rows}
 use Rattle.geometry.specs.Geometry.{zero64}
 use Rattle.loose.specs.Open.{Markable}
-use Rattle.stitch.specs.declared.count.Finder.{Finder}
+use Rattle.splits.specs.declared.finder.Finder.{Finder}
 use Rattle.stitch.specs.declared.stitching.Stitched.{Stitched}
 use Rattle.stitch.specs.declared.stitching.Stitched.the-variants.{Done, Refused}
 use Rattle.stitch.specs.Stitch.{StitchSlices, StitchedBody, stitchedBody, stitchBody, refuseStitch, clearedSlices, stitchOrRefuse, stitchOf}
 use Rattle.stitch.specs.Copied.{BodyRoom, BodyCopied, flat-rows, flat-positions, flat-normals, flat-indices, flat-table}
-use Rattle.stitch.specs.Counting.{BodyCounted}
-use Rattle.stitch.specs.Prepared.{Preparable, Prepared}
+use Rattle.counting.specs.Counting.{BodyCounted}
+use Rattle.counting.specs.Prepared.{Preparable, Prepared}
 use Rattle.stitch.specs.Results.{resultChecks, ResultFits, result-fits}
 use Rattle.stitch.specs.Stitched.{slicesOf, leftStitch, stitchAnswered, stitchAccepted, StitchReady, BodyStitched, result-refused, result-written}
-use Rattle.stitch.specs.Writing.{BodyWritable, BodyWritten}
-use Rattle.stitch.proofs.OpenLaws.{vertices-are, indices-many, rows-many, splits-is, rows-there, writable, table-is, positions-is, normals-is, indices-is, rest-written, rest-counted}
+use Rattle.writing.specs.Writing.{BodyWritable, BodyWritten}
+use Rattle.stitch.specs.Put.{Puttable}
+use Rattle.stitch.proofs.OpenLaws.{vertices-are, indices-many, rows-many, splits-is, rows-there, writable, table-is, positions-is, normals-is, indices-is, rest-written, rest-counted, kept-there}
 
 -- a result that passed its checks fits
 pub sizes-fit : {vertices indices m r p n i refusal : ℕ} → refusal ≡ firstFailing (resultChecks vertices indices m r p n i) → refusal ≡ 0 → ResultFits vertices indices m r p n i
@@ -88,6 +89,10 @@ module _ {table : List ℕ} {ps ns : List Float} {is W : List ℕ} {v m : ℕ} (
         let r = open-fits z in
         writable ns p c l all-normals
         (record { vertices = r .vertices; indices = r .indices; room-rows = omega (arith, r .room-rows, g .rows); room-positions = r .room-positions; room-normals = r .room-normals; room-indices = r .room-indices })
+
+    -- or copied, if there is no new vertex
+    pub open-puttable : length X ≡ length E → refusal ≡ 0 → Puttable table ps ns is (f .sag) (f .beyond) (f .v) (f .list) (f .count) (f .at) (f .ts) (f .flags) kept X R P N I
+    open-puttable l z = record { writable = open-writable l z; kept-is = sym (kept-there ns p c) }
 
     -- it was
     pub open-done : {F R' : List ℕ} {P' N' : List Float} {I' : List ℕ} → length X ≡ length E → refusal ≡ 0

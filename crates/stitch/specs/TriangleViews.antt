@@ -20,7 +20,7 @@ use Rattle.splits.specs.Places.{sideAt, placedOf}
 use Rattle.splits.specs.FoundLaws.{found-is, kept-is}
 use Rattle.rings.specs.Rings.{fan, fanFrom, fanGo, coordinatesAt, newPositions, newNormals, startOf, endOf, numbersOf, ringAfter}
 use Rattle.stitch.specs.Stitch.{newNormal, coordinates, numbersOn, ring}
-use Rattle.stitch.specs.Views.{edgeAt, sidesAt, View, viewOf}
+use Rattle.counting.specs.Views.{edgeAt, sidesAt, View, viewOf}
 
 -- ---- the fan
 

@@ -22,7 +22,7 @@ use Rattle.splits.specs.Splits.{SplitTriangle, splitTriangle}
 use Rattle.splits.specs.FoundPoints.{Distinct}
 use Rattle.rings.specs.Rings.{fanGo, ringAfter}
 use Rattle.stitch.specs.Stitch.{newNormal, coordinates, fanned, stitchedPatch, stitchedPatches, stitchedBodyOf, stitchedBody}
-use Rattle.stitch.specs.Views.{View, rowViews, bodyViews, foundIn, keptIn, rowPositions, rowNormals, rowIndices, viewedRow, viewedRows, viewedPositions, viewedNormals, viewedIndices}
+use Rattle.counting.specs.Views.{View, rowViews, bodyViews, foundIn, keptIn, rowPositions, rowNormals, rowIndices, viewedRow, viewedRows, viewedPositions, viewedNormals, viewedIndices}
 use Rattle.stitch.specs.TriangleViews.{flag, PointsFrom, NamesFrom, Seen, triangle-seen, seen-count, seen-positions, seen-normals, seen-fan}
 
 -- ---- one row

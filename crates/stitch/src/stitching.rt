@@ -2,9 +2,9 @@
 
 use crate::checks::result_failing;
 use crate::copy::copy_body;
-use crate::count::count_splits;
-use crate::prepare::prepare;
-use crate::write::write_body;
+use crate::put::put_body;
+use counting::count_splits;
+use counting::prepare::prepare;
 ghost use mathlib.Core.Path.{_≡_};
 ghost use Prim.Native.Nat.{_+_, _*_};
 ghost use lib.ListN.{length};
@@ -53,7 +53,7 @@ fn stitch_open(
     let t = count_splits(rows, positions, indices, w, f);
     let vertices = v + t.placed;
     let total = n + 3 * t.placed;
-    let refusal = result_failing(
+    let failing = result_failing(
         vertices,
         total,
         m,
@@ -62,14 +62,15 @@ fn stitch_open(
         out_normals,
         out_indices,
     );
-    if refusal == 0 {
-        write_body(
+    if failing == 0 {
+        put_body(
             rows,
             positions,
             normals,
             indices,
             w,
             f,
+            t.placed,
             out_rows,
             out_positions,
             out_normals,
@@ -81,7 +82,7 @@ fn stitch_open(
             splits: t.found,
         });
     }
-    Stitched::Refused(refusal)
+    Stitched::Refused(failing)
 }
 
 // A body of v vertices and m rows is copied if it passes the checks of the result.
@@ -104,8 +105,8 @@ fn stitch_nothing(
         (now («out_indices» .entry)) (now («out_indices» .exit)) (16 * length (now (indices .entry)) + 16 * m + 4 * v) (now (w .entry)) (now (w .entry)) r ⌝ }
 {
     let n = indices.len();
-    let refusal = result_failing(v, n, m, out_rows, out_positions, out_normals, out_indices);
-    if refusal == 0 {
+    let refused = result_failing(v, n, m, out_rows, out_positions, out_normals, out_indices);
+    if refused == 0 {
         copy_body(
             rows,
             positions,
@@ -122,7 +123,7 @@ fn stitch_nothing(
             splits: 0,
         });
     }
-    Stitched::Refused(refusal)
+    Stitched::Refused(refused)
 }
 
 // A body of v vertices and m rows is stitched; a sag not above 0 splits nothing.
@@ -216,7 +217,7 @@ fn stitch_accepted(
 }
 
 // Cracks between the patches of a body are closed: points of its open edges that stand in an edge split the edge's triangle.
-// The stitched body goes to the second slices. A body that fails a check is refused with the check's number, and nothing but the work area is changed.
+// The stitched body goes to the second slices. A body that fails a check is refused with the check's number, and the second slices keep their content.
 pub fn stitch(
     rows: &[u32],
     positions: &[f32],

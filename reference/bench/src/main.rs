@@ -1,30 +1,26 @@
 //! Times the library's stages beside the unchanged Rust's, in one process, on the same bodies, in turn.
 
+mod bodies;
 mod race;
+mod stitch;
 mod turn;
 
+use bodies::{Body, closed_and_open, with_open_edges};
 use driver::command::fail;
-use driver::generate::large::torus;
-use driver::random::Random;
 use driver::sheet::Sheet;
 use race::Times;
 
-const USAGE: &str = "usage: bench [STAGE]   a table of each stage, or of one: turn, turn-new-work";
+const USAGE: &str = "usage: bench [STAGE]   a table of each stage, or of one: turn, turn-new-work, stitch, stitch-new-slices";
 
-/// A stage's name, and how both sides are timed on a body, so many rounds.
-type Stage = (&'static str, fn(&Sheet, usize) -> Times);
+/// A stage's name, the bodies it is timed on, and how both sides are timed on a body, so many rounds.
+type Stage = (&'static str, fn() -> Vec<Body>, fn(&Sheet, usize) -> Times);
 
-const STAGES: &[Stage] = &[("turn", turn::times), ("turn-new-work", turn::times_with_new_work)];
-
-/// Triangles of the closed body, and rounds.
-const SIZES: [(usize, usize); 4] = [(300, 1001), (1_000, 501), (10_000, 101), (100_000, 21)];
-
-/// Quadrilaterals on a row.
-const EVERY: usize = 20;
-
-/// What the body is: whether every fifth row is left out, and whether it stands four kilometres from the origin.
-const KINDS: [(&str, bool, bool); 4] =
-    [("closed", false, false), ("open", true, false), ("closed, 4 km away", false, true), ("open, 4 km away", true, true)];
+const STAGES: &[Stage] = &[
+    ("turn", closed_and_open, turn::times),
+    ("turn-new-work", closed_and_open, turn::times_with_new_work),
+    ("stitch", with_open_edges, stitch::times),
+    ("stitch-new-slices", with_open_edges, stitch::times_with_new_slices),
+];
 
 /// A number with a comma before every three digits.
 fn grouped(n: usize) -> String {
@@ -36,11 +32,11 @@ fn shown(time: f64) -> String {
     if time < 100.0 { format!("{time:.1}") } else { grouped(time.round() as usize) }
 }
 
-fn row(stage: &Stage, triangles: usize, rounds: usize, (name, open, far): (&str, bool, bool)) {
-    let sheet = torus(&mut Random::new(1), triangles, EVERY, open, far);
-    let Times { rust, ours } = stage.1(&sheet, rounds);
+fn row(stage: &Stage, body: Body) {
+    let sheet = (body.make)();
+    let Times { rust, ours } = stage.2(&sheet, body.rounds);
     let (triangles, rows) = (grouped(sheet.indices() / 3), grouped(sheet.rows.len()));
-    println!("| {triangles} | {rows} | {name} | {} | {} | {:.2} |", shown(rust), shown(ours), ours / rust);
+    println!("| {triangles} | {rows} | {} | {} | {} | {:.2} |", body.name, shown(rust), shown(ours), ours / rust);
 }
 
 /// Free a large block, after which the allocator keeps freed pages: otherwise the Rust's maps cost more in the first rows than later.
@@ -50,9 +46,7 @@ fn settle_allocator() {
 
 fn table(stage: &Stage) {
     println!("\n{}:\n\n| triangles | rows | body | Rust, µs | ours, µs | ratio |\n|---|---|---|---|---|---|", stage.0);
-    for (triangles, rounds) in SIZES {
-        KINDS.iter().for_each(|kind| row(stage, triangles, rounds, *kind));
-    }
+    stage.1().into_iter().for_each(|body| row(stage, body));
 }
 
 fn main() {

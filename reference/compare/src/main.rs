@@ -8,24 +8,27 @@ mod smallest;
 mod source_bodies;
 mod steps;
 mod stitching;
+mod tally;
 mod turning;
 mod work;
+mod worst;
 
 use driver::check::{MOST_INDICES, MOST_ROWS, check};
 use driver::command::fail;
-use driver::generate::{KINDS, Kind, LARGE, body_of, kind};
+use driver::generate::{KINDS, Kind, LARGE, SEAMS, body_of, kind};
 use driver::print;
 use driver::random::Random;
 use driver::sheet::{BENCH, Sheet, parse};
 use smallest::smallest;
-use std::io::IsTerminal;
-use std::time::{Duration, Instant};
+use tally::{Compared, Tally};
 
 const USAGE: &str = "usage: compare FIRST LAST [SIZE]
        compare --large FIRST LAST [TRIANGLES]
+       compare --worst POINTS
 The bodies of every kind with the seeds FIRST to LAST, small ones and some of a size that goes with the seed, or only those of SIZE
 pieces on each shape, 4096 at most. In the end, one body of every large kind with 100000 triangles and one at every limit.
-With --large only bodies of the large kinds, with TRIANGLES triangles, 262144 at most; 100000 if left out.";
+With --large only bodies of the large kinds, with TRIANGLES triangles, 262144 at most; 100000 if left out.
+With --worst the bodies that ask the most of stitching, one with POINTS loose points on one edge, and the time that this one takes.";
 
 /// Pieces on each shape, one of these for each seed besides the small body.
 const SIZES: [usize; 9] = [1, 2, 3, 5, 8, 13, 21, 34, 60];
@@ -36,6 +39,9 @@ const MANY_TRIANGLES: usize = 100_000;
 const MOST_TRIANGLES: usize = MOST_INDICES / 3;
 const STEPS_A_SEED: u64 = 1000;
 
+/// Loose points on one edge, of the body that asks the most of stitching.
+const WORST_POINTS: usize = 1500;
+
 /// How a body was made.
 struct Made<'a> {
     kind: &'a Kind,
@@ -43,50 +49,14 @@ struct Made<'a> {
     size: usize,
 }
 
-/// What has been compared so far.
-struct Tally {
-    bodies: u64,
-    rows: u64,
-    refusals: u64,
-    steps: u64,
-    triangles: usize,
-    shown: Instant,
-}
-
-impl Tally {
-    fn new() -> Tally {
-        Tally { bodies: 0, rows: 0, refusals: 0, steps: 0, triangles: 0, shown: Instant::now() }
-    }
-
-    fn add(&mut self, sheet: &Sheet, refusals: u64) {
-        self.bodies += 1;
-        self.rows += sheet.rows.len() as u64;
-        self.refusals += refusals;
-        self.triangles = self.triangles.max(sheet.indices() / 3);
-    }
-
-    /// One line on a terminal, written over and over.
-    fn show(&mut self, made: &Made) {
-        if self.shown.elapsed() > Duration::from_millis(200) && std::io::stderr().is_terminal() {
-            self.shown = Instant::now();
-            eprint!("\r\x1b[Kcompare: {} bodies, {} refusals, now {} of seed {}", self.bodies, self.refusals, made.kind.name, made.seed);
-        }
-    }
-
-    fn end_line() {
-        if std::io::stderr().is_terminal() {
-            eprint!("\r\x1b[K");
-        }
-    }
-}
-
-/// How many refusals of a body were compared, or where it differs. The random numbers are those of the seed, so that it can be asked again.
-fn compared(sheet: &Sheet, seed: u64) -> Result<u64, String> {
+/// What was compared of a body, or where it differs. The random numbers are those of the seed, so that it can be asked again.
+fn compared(sheet: &Sheet, seed: u64) -> Result<Compared, String> {
     let r = &mut Random::new(seed);
-    match turning::differs(sheet, r).or_else(|| stitching::differs(sheet, r)).or_else(|| patches::differ(sheet, r)) {
-        Some(what) => Err(what),
-        None => refusals::refusals(sheet, r),
-    }
+    turning::differs(sheet, r).map_or(Ok(()), Err)?;
+    let stitched = stitching::compared(sheet, r)?;
+    patches::differ(sheet, r).map_or(Ok(()), Err)?;
+    let refusals = refusals::refusals(sheet, r)?;
+    Ok(Compared { stitched, refusals })
 }
 
 /// Say where a body differs, with the smallest such body as a sheet if it is one, and end.
@@ -105,9 +75,9 @@ fn report(made: &Made, sheet: &Sheet, what: &str) -> ! {
 
 fn compare_body(made: &Made, tally: &mut Tally) {
     let Some(sheet) = body_of(made.kind, made.seed, made.size).filter(|s| check(s).is_ok()) else { return };
-    tally.show(made);
+    tally.show(made.kind.name, made.seed);
     match compared(&sheet, made.seed) {
-        Ok(refusals) => tally.add(&sheet, refusals),
+        Ok(compared) => tally.add(&sheet, compared),
         Err(what) => report(made, &sheet, &what),
     }
 }
@@ -133,12 +103,21 @@ fn compare_steps(seed: u64, tally: &mut Tally) {
     }
 }
 
+fn compare_worst(points: usize, tally: &mut Tally) {
+    match worst::compared(points) {
+        Ok(bodies) => tally.worst += bodies,
+        Err(what) => fail(&format!("compare: {what}")),
+    }
+}
+
 /// The bodies of a run without --large.
 fn compare_all(first: u64, last: u64, size: Option<usize>, tally: &mut Tally) {
+    compare_worst(WORST_POINTS, tally);
     for seed in first..=last {
         let sizes = size.map_or(vec![0, SIZES[(seed % SIZES.len() as u64) as usize]], |s| vec![s]);
         for size in sizes {
             compare_kinds(KINDS, seed, size, tally);
+            compare_kinds(SEAMS, seed, size, tally);
         }
         for size in NOTHING {
             compare_body(&Made { kind: named("large-nothing"), seed, size }, tally);
@@ -161,12 +140,21 @@ fn numbers(words: &[String], most: usize) -> (u64, u64, Option<usize>) {
 
 fn main() {
     let words: Vec<String> = std::env::args().skip(1).collect();
-    let tally = &mut Tally::new();
+    let tally = &mut Tally::default();
     match words.split_first() {
         Some((word, _)) if word == "--help" => return println!("{USAGE}"),
         Some((word, rest)) if word == "--large" => {
             let (first, last, size) = numbers(rest, MOST_TRIANGLES);
             (first..=last).for_each(|seed| compare_kinds(LARGE, seed, size.unwrap_or(MANY_TRIANGLES), tally));
+        }
+        Some((word, [points])) if word == "--worst" => {
+            let Ok(points) = points.parse() else { fail(USAGE) };
+            compare_worst(points, tally);
+            let seconds = worst::seconds(points);
+            return println!(
+                "compare: {} bodies made by hand: no difference; {points} loose points on one edge: {seconds:.2} s",
+                tally.worst
+            );
         }
         _ => {
             let (first, last, size) = numbers(&words, MOST_ROWS);
@@ -174,8 +162,5 @@ fn main() {
         }
     }
     Tally::end_line();
-    let Tally { bodies, rows, refusals, steps, triangles, .. } = tally;
-    println!(
-        "compare: {bodies} bodies of up to {triangles} triangles, {rows} rows, {refusals} refusals, {steps} float steps: no difference"
-    );
+    println!("compare: {}: no difference", tally.said());
 }

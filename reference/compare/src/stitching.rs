@@ -18,13 +18,13 @@ const NOT_ABOVE: [f64; 5] = [0.0, -0.0, -1.0, f64::NAN, f64::NEG_INFINITY];
 const MOST_OPEN: usize = 1000;
 
 /// A body turned by the Rust, as it is stitched by it, and the splits.
-struct Case {
-    before: Flat,
-    after: Flat,
-    splits: usize,
+pub struct Case {
+    pub before: Flat,
+    pub after: Flat,
+    pub splits: usize,
 }
 
-fn case(sheet: &Sheet, sag: f64) -> Case {
+pub fn case(sheet: &Sheet, sag: f64) -> Case {
     let mut faces = faces_of(sheet);
     probe::orient_shell(&mut faces);
     let before = flat_of(&faces, sheet);
@@ -47,7 +47,7 @@ fn outputs(body: &Flat, r: &mut Random) -> Flat {
 }
 
 /// A body written over the front of outputs.
-fn written(body: &Flat, outputs: &Flat) -> Flat {
+pub fn written(body: &Flat, outputs: &Flat) -> Flat {
     fn over<T: Copy>(front: &[T], all: &[T]) -> Vec<T> {
         [front, &all[front.len()..]].concat()
     }
@@ -60,7 +60,7 @@ fn written(body: &Flat, outputs: &Flat) -> Flat {
 }
 
 /// What is wrong with a call: its answer, the outputs it leaves, or the work area of which it should clear some words.
-fn wrong(before: &Flat, sag: f64, outputs: &Flat, work: &mut Work, want: Stitched, left: &Flat, cleared: usize) -> Option<String> {
+pub fn wrong(before: &Flat, sag: f64, outputs: &Flat, work: &mut Work, want: Stitched, left: &Flat, cleared: usize) -> Option<String> {
     let mut out = outputs.clone();
     let got = library::stitch(before, sag, &mut out, &mut work.words);
     if got != want {
@@ -69,52 +69,78 @@ fn wrong(before: &Flat, sag: f64, outputs: &Flat, work: &mut Work, want: Stitche
     unlike(left, &out).or_else(|| work.wrong(cleared)).map(|what| format!("stitch, sag {sag:?}: {what}"))
 }
 
-fn refusal(number: u32) -> Stitched {
+pub fn refusal(number: u32) -> Stitched {
     Stitched { refusal: number, vertices: 0, indices: 0, splits: 0 }
 }
 
-/// The outputs with one slice a number shorter than a body needs, the first that is not empty from one at random on.
-fn short(after: &Flat, outputs: &Flat, r: &mut Random) -> Option<Flat> {
+/// The outputs with slice k a number shorter than a body needs, if it needs one at all.
+pub fn shortened(after: &Flat, outputs: &Flat, k: usize) -> Option<Flat> {
     let mut out = outputs.clone();
-    let lengths = [after.rows.len(), after.positions.len(), after.normals.len(), after.indices.len()];
-    let first = r.size(0, 3);
-    let k = (first..first + 4).map(|k| k % 4).find(|k| lengths[*k] > 0)?;
     match k {
-        0 => out.rows.truncate(lengths[0] - 1),
-        1 => out.positions.truncate(lengths[1] - 1),
-        2 => out.normals.truncate(lengths[2] - 1),
-        _ => out.indices.truncate(lengths[3] - 1),
+        0 => out.rows.truncate(after.rows.len().checked_sub(1)?),
+        1 => out.positions.truncate(after.positions.len().checked_sub(1)?),
+        2 => out.normals.truncate(after.normals.len().checked_sub(1)?),
+        _ => out.indices.truncate(after.indices.len().checked_sub(1)?),
     }
     Some(out)
 }
 
-/// Where a body is stitched in another way than by the Rust with one sag, or the result is not refused as it should be.
-fn differs_with(sheet: &Sheet, sag: f64, r: &mut Random) -> Option<String> {
-    let Case { before, after, splits } = case(sheet, sag);
+/// One slice so, the first that can be from one at random on.
+fn short(after: &Flat, outputs: &Flat, r: &mut Random) -> Option<Flat> {
+    let first = r.size(0, 3);
+    (first..first + 4).find_map(|k| shortened(after, outputs, k % 4))
+}
+
+/// What is wrong with a call that stitches, or with the refusals of its result.
+pub fn differs(case: &Case, sag: f64, r: &mut Random) -> Option<String> {
+    let Case { before, after, splits } = case;
     let needed = before.words();
     let work = || Work::new(needed + 3, 0x5a5a);
     let (vertices, indices) = (after.positions.len() / 3, after.indices.len());
-    let outputs = outputs(&after, r);
+    let outputs = outputs(after, r);
     if vertices > MOST_VERTICES || indices > MOST_INDICES {
-        return wrong(&before, sag, &outputs, &mut work(), refusal(33), &outputs, needed);
+        return wrong(before, sag, &outputs, &mut work(), refusal(33), &outputs, needed);
     }
-    let want = Stitched { refusal: 0, vertices: vertices as u32, indices: indices as u32, splits: splits as u64 };
-    wrong(&before, sag, &outputs, &mut work(), want, &written(&after, &outputs), needed).or_else(|| {
-        let short = short(&after, &outputs, r)?;
-        wrong(&before, sag, &short, &mut work(), refusal(32), &short, needed)
+    let want = Stitched { refusal: 0, vertices: vertices as u32, indices: indices as u32, splits: *splits as u64 };
+    wrong(before, sag, &outputs, &mut work(), want, &written(after, &outputs), needed).or_else(|| {
+        let short = short(after, &outputs, r)?;
+        wrong(before, sag, &short, &mut work(), refusal(32), &short, needed)
     })
 }
 
-/// Where a body is stitched in another way than by the Rust, if it is; only bodies that meet 01's condition are held against it.
-pub fn differs(sheet: &Sheet, r: &mut Random) -> Option<String> {
+/// How a body was held against the Rust beyond being copied.
+#[derive(Debug)]
+pub enum Held {
+    /// Its sag is not above 0.
+    NoSag,
+    /// More triangles with an open edge than `MOST_OPEN`: not stitched.
+    TooOpen,
+    /// It breaks document 01's condition for an exact match: not stitched.
+    Outside,
+    /// Stitched with its own sag, with so many splits by the Rust.
+    Stitched(usize),
+}
+
+/// The number of splits with one sag, or where a body is stitched in another way than by the Rust.
+fn splits_with(sheet: &Sheet, sag: f64, r: &mut Random) -> Result<usize, String> {
+    let case = case(sheet, sag);
+    differs(&case, sag, r).map_or(Ok(case.splits), Err)
+}
+
+/// How a body was held against the Rust, or where it is stitched in another way. A sag that splits nothing is tried on every body.
+pub fn compared(sheet: &Sheet, r: &mut Random) -> Result<Held, String> {
     let none = *r.pick(&NOT_ABOVE);
-    if let Some(what) = differs_with(sheet, none, r) {
-        return Some(what);
+    splits_with(sheet, none, r)?;
+    let sag = f64::from_bits(sheet.sag);
+    if !(sag > 0.0) {
+        splits_with(sheet, sag, r).map(|_| Held::NoSag)
+    } else if open_triangles(sheet) > MOST_OPEN {
+        Ok(Held::TooOpen)
+    } else if condition(sheet) != Condition::Exact {
+        Ok(Held::Outside)
+    } else {
+        splits_with(sheet, sag, r).map(Held::Stitched)
     }
-    if open_triangles(sheet) > MOST_OPEN || condition(sheet) != Condition::Exact {
-        return None;
-    }
-    differs_with(sheet, f64::from_bits(sheet.sag), r)
 }
 
 /// What is wrong with the refusal of a body that a check up to 31 refuses.

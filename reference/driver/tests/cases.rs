@@ -5,7 +5,7 @@ use driver::check::{check, refusal};
 use driver::command::answer;
 use driver::finish::outcome_of;
 use driver::flat::Flat;
-use driver::generate::{KINDS, LARGE, body_of, generate, kind};
+use driver::generate::{KINDS, LARGE, SEAMS, body_of, generate, kind};
 use driver::print;
 use driver::sheet::{BENCH, parse};
 use driver::source::{cell, key};
@@ -73,7 +73,7 @@ fn cells_of_k1_and_k2() {
 
 #[test]
 fn what_is_generated_reads_back_and_is_the_same_every_time() {
-    for k in KINDS {
+    for k in KINDS.iter().chain(SEAMS) {
         for seed in 0..20 {
             let text = generate(k, seed, 0);
             assert_eq!(text, generate(k, seed, 0), "{} {seed}", k.name);

@@ -5,7 +5,7 @@ use crate::random::Random;
 use crate::sheet::{Row, Sheet};
 
 /// A row of triangles, each with three vertices of its own.
-fn row_of(triangles: &[[Point; 3]], shell: u32, face: u32) -> Row {
+pub fn row_of(triangles: &[[Point; 3]], shell: u32, face: u32) -> Row {
     let mut row = Row { shell, face, ..Row::default() };
     for t in triangles {
         let n = normal(t[0], t[1], t[2]);

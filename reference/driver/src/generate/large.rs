@@ -1,6 +1,6 @@
 //! Bodies of a given number of triangles, up to the limits of document 01.
 
-use super::shapes::{Point, Shape, band, bits, rows, sheet, shuffle, torus as torus_shape, turn, wound_rows};
+use super::shapes::{Point, Shape, band, bits, row, rows, sheet, shuffle, torus as torus_shape, turn, wound_rows};
 use crate::check::{MOST_INDICES, MOST_ROWS, MOST_VERTICES};
 use crate::random::Random;
 use crate::sheet::{Row, Sheet};
@@ -46,6 +46,36 @@ pub fn torus(r: &mut Random, triangles: usize, every: usize, open: bool, far: bo
     let shape = grid_of(triangles).moved(if far { FOUR_KILOMETRES } else { [0.0; 3] }).merged(every);
     let all = wound_rows(r, &shape, 0, 0, 50);
     sheet(if open { without_fifths(all) } else { all }, SAG)
+}
+
+/// A torus in rows of so many quadrilaterals, of which some single ones, apart from each other, are left out: each leaves four open edges.
+/// Or each has a patch of its own in their place that cuts one of its edges in three: these are four open edges as well, and two splits.
+pub fn torus_with_holes(triangles: usize, every: usize, holes: usize, patched: bool) -> Sheet {
+    let (m, n) = sides(quads(triangles));
+    let all = torus_shape(m, n, MAJOR, MINOR);
+    // No two of these share a corner: from one to the next of them it is ten along, or one across and three along.
+    let apart = |k: usize| (3 * (k / n) + k % n).is_multiple_of(10) && k % n < n / 10 * 10 && k / n < m / 10 * 10;
+    let places: Vec<usize> = (0..m * n).filter(|k| apart(*k)).collect();
+    assert!(places.len() >= holes, "room for {holes} holes");
+    let chosen: Vec<usize> = (0..holes).map(|k| places[k * places.len() / holes]).collect();
+    let quad = |k: &usize| all.faces[*k].clone();
+    let mut shape = Shape { points: all.points.clone(), faces: Vec::new() };
+    shape.faces = (0..m * n).filter(|k| !chosen.contains(k)).map(|k| quad(&k)).collect();
+    shape = shape.merged(every);
+    if patched {
+        chosen.iter().for_each(|k| patch_with_cut(&mut shape, &quad(k)));
+    }
+    sheet(shape.faces.iter().enumerate().map(|(k, face)| row(&shape, face, 0, k as u32)).collect(), SAG)
+}
+
+/// A face in the place of a quadrilateral that cuts its first edge at a third and two thirds.
+fn patch_with_cut(shape: &mut Shape, quad: &[[usize; 3]]) {
+    let [[a, b, c], [_, _, d]] = quad[..] else { unreachable!("two triangles") };
+    let at = |t: f64| [0, 1, 2].map(|k| shape.points[a][k] * (1.0 - t) + shape.points[b][k] * t);
+    let cut = [at(1.0 / 3.0), at(2.0 / 3.0)];
+    let p = shape.points.len();
+    shape.points.extend(cut);
+    shape.faces.push(vec![[d, a, p], [d, p, p + 1], [d, p + 1, b], [d, b, c]]);
 }
 
 fn some_torus(r: &mut Random, triangles: usize, open: bool, by: Point) -> Sheet {

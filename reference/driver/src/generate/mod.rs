@@ -3,6 +3,7 @@
 mod bodies;
 mod edges;
 pub mod large;
+mod seams;
 mod shapes;
 mod texts;
 
@@ -65,6 +66,18 @@ pub const KINDS: &[Kind] = &[
     text("malformed", "texts that are no sheet: 51", texts::malformed),
 ];
 
+/// Kinds that stitching splits: patches that cut a seam differently.
+pub const SEAMS: &[Kind] = &[
+    body("seam-line", "a straight edge that both sides cut, each with points of its own, at and off it", seams::line),
+    body("seam-arc", "a circle that one band cuts into more parts than the next", seams::arc),
+    body("seam-corner", "points near a corner of a triangle, by two of its edges or all three", seams::corner),
+    body("seam-sliver", "triangles whose third corner stands on the opposite edge or near it", seams::sliver),
+    body("seam-thicket", "triangles anywhere, some with a shared corner or edge", seams::thicket),
+    body("seam-close", "points within 1e-9 of each other along an edge, and at 1e-6 from its ends", seams::close),
+    body("seam-ends", "corners at the ends of f32's range and where cells clamp", seams::ends),
+    body("seam-cells", "points around a cell apart, subnormal coordinates among them", seams::cells),
+];
+
 /// Kinds whose size is a number of triangles, for bodies up to the limits of document 01.
 pub const LARGE: &[Kind] = &[
     body("large-torus", "a closed torus in up to 4,096 rows, wound at random", large::closed),
@@ -98,7 +111,7 @@ pub fn body_of(kind: &Kind, seed: u64, size: usize) -> Option<Sheet> {
 }
 
 pub fn kind(name: &str) -> Option<&'static Kind> {
-    KINDS.iter().chain(LARGE).find(|k| k.name == name)
+    KINDS.iter().chain(SEAMS).chain(LARGE).find(|k| k.name == name)
 }
 
 /// Each kind has random numbers of its own.

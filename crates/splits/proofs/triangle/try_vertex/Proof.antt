@@ -28,8 +28,8 @@ place-on-requires c κs = search needs
 enum-told : tie.Need-enum-told
 enum-told c = search needs
 
-add-t27 : tie.Need-add-t27
-add-t27 c = search needs
+add-t21 : tie.Need-add-t21
+add-t21 c = search needs
 
 same-length : tie.Need-same-length
 same-length c = search needs
@@ -55,11 +55,15 @@ insert-entry-requires c κs =
     let l = v .before in
     entry-room (l .before .before .before .before .pre) (l .listed .ensures) _ (v .vertex .ensures) (f .found-on .ensures) (i .if1 .taken) (p .place-on .ensures) (c .before .before .p .given .1)
 
-add-t31 : tie.Need-add-t31
-add-t31 c = search needs
+add-t25 : tie.Need-add-t25
+add-t25 c = search needs
 
-add-t32 : tie.Need-add-t32
-add-t32 c = search needs
+add-t26 : tie.Need-add-t26
+add-t26 c =
+    let s = c .before .before .before .before .before .before .before .before .before .before .before .before .before .before in
+    let k = s .slice-known .given in
+    let r = s .before .before .pre .room in
+    search needs
 
 same-length-2 : tie.Need-same-length-2
 same-length-2 c = search needs
@@ -97,13 +101,13 @@ try-vertex-spec =
     found-on-requires
     place-on-requires
     enum-told
-    add-t27
+    add-t21
     same-length
     returns
     enum-known-p
     insert-entry-requires
-    add-t31
-    add-t32
+    add-t25
+    add-t26
     same-length-2
     returns-2
     same-length-3

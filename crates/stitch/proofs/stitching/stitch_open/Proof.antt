@@ -1,5 +1,5 @@
 -- `stitch_open` meets its contract. Assumes nothing.
-use Rattle.stitch.proofs.StitchLaws.{rows-few, preparable, open-refused, sizes-fit, open-writable, open-done}
+use Rattle.stitch.proofs.StitchLaws.{rows-few, preparable, open-refused, sizes-fit, open-puttable, open-done}
 use native.Mathlib.Omega.{arith}
 use borrow.Author.Needs.{needs}
 use Rattle.stitch.proofs.stitching.stitch_open.Statement.{statement}
@@ -25,13 +25,13 @@ result-failing-requires c κs =
     let q = c .before .before .before .before .before .before .before .before .before .before .before .before in
     rows-few (q .before .before .before .before .before .before .before .before .before .before .before .pre)
 
-write-body-requires : tie.Need-write-body-requires
-write-body-requires c κs =
+put-body-requires : tie.Need-put-body-requires
+put-body-requires c κs =
     let i = c .before .before .before .before .before in
     let k = i .before .before .before .before .before .before .before .before .before .before in
     let p = k .before .before .before .before in
     let g = p .before .before .before .before .before .before .before .before .before .before .before .pre in
-    open-writable g (p .prepare .ensures) (k .count-splits .ensures) _ _ _ _ (i .before .result-failing .ensures) (omega arith) (i .if1 .taken)
+    open-puttable g (p .prepare .ensures) (k .count-splits .ensures) _ _ _ _ (i .before .result-failing .ensures) (omega arith) (i .if1 .taken)
 
 cast-t44 : tie.Need-cast-t44
 cast-t44 c =
@@ -58,7 +58,11 @@ same-length-4 : tie.Need-same-length-4
 same-length-4 c = search needs
 
 same-length-5 : tie.Need-same-length-5
-same-length-5 c = search needs
+same-length-5 c =
+    let k = c .before .before .before .before .before .before .before .before .before in
+    let t = k .before .before .before .before .before .before .before .before .before .before .before .before .before .before .before .before in
+    let p = t .before .before .before .before in
+    omega (arith, k .w3 .given, t .w2 .given, p .w .given)
 
 returns : tie.Need-returns
 returns c =
@@ -66,7 +70,7 @@ returns c =
     let k = i .before .before .before .before .before .before .before .before .before .before in
     let p = k .before .before .before .before in
     let g = p .before .before .before .before .before .before .before .before .before .before .before .pre in
-    open-done g (p .prepare .ensures) (k .count-splits .ensures) _ _ _ _ (i .before .result-failing .ensures) (omega arith) (i .if1 .taken) (c .before .before .before .before .before .before .before .before .before .before .write-body .ensures)
+    open-done g (p .prepare .ensures) (k .count-splits .ensures) _ _ _ _ (i .before .result-failing .ensures) (omega arith) (i .if1 .taken) (c .before .before .before .before .before .before .before .before .before .before .put-body .ensures)
 
 same-length-6 : tie.Need-same-length-6
 same-length-6 c = search needs
@@ -101,7 +105,7 @@ stitch-open-spec =
     mul-total
     add-total
     result-failing-requires
-    write-body-requires
+    put-body-requires
     cast-t44
     cast-t45
     same-length

@@ -1,0 +1,6 @@
+-- What is written to the second slices, and how long it is.
+pub mod Append
+pub mod Lengths
+pub mod KeptVertices
+pub mod BodyLengths
+pub mod Writing

@@ -1,0 +1,50 @@
+//! The bodies that stages are timed on.
+
+use driver::generate::large::{torus, torus_with_holes};
+use driver::random::Random;
+use driver::sheet::Sheet;
+
+/// What a body is, how it is made, and how many rounds it is timed.
+pub struct Body {
+    pub name: &'static str,
+    pub make: Box<dyn Fn() -> Sheet>,
+    pub rounds: usize,
+}
+
+/// Triangles of the closed body, and rounds.
+const SIZES: [(usize, usize); 4] = [(300, 1001), (1_000, 501), (10_000, 101), (100_000, 21)];
+
+/// Quadrilaterals on a row.
+const EVERY: usize = 20;
+
+/// What the body is: whether every fifth row is left out, and whether it stands four kilometres from the origin.
+const KINDS: [(&str, bool, bool); 4] =
+    [("closed", false, false), ("open", true, false), ("closed, 4 km away", false, true), ("open, 4 km away", true, true)];
+
+fn torus_body(name: &'static str, triangles: usize, rounds: usize, open: bool, far: bool) -> Body {
+    Body { name, make: Box::new(move || torus(&mut Random::new(1), triangles, EVERY, open, far)), rounds }
+}
+
+/// Closed and open bodies of every size.
+pub fn closed_and_open() -> Vec<Body> {
+    let kinds = |(triangles, rounds)| KINDS.iter().map(move |(name, open, far)| torus_body(name, triangles, rounds, *open, *far));
+    SIZES.into_iter().flat_map(kinds).collect()
+}
+
+fn holes(name: &'static str, triangles: usize, rounds: usize, holes: usize, patched: bool) -> Body {
+    Body { name, make: Box::new(move || torus_with_holes(triangles, EVERY, holes, patched)), rounds }
+}
+
+/// Closed bodies, and bodies with 20 and 2,000 open edges, without and with points that split them.
+pub fn with_open_edges() -> Vec<Body> {
+    let mut all: Vec<Body> = SIZES.iter().map(|(triangles, rounds)| torus_body("closed", *triangles, *rounds, false, false)).collect();
+    for (triangles, rounds) in [(1_000, 501), (10_000, 101), (100_000, 21)] {
+        all.push(holes("20 open edges", triangles, rounds, 5, false));
+        all.push(holes("20 open edges, 10 splits", triangles, rounds, 5, true));
+    }
+    for (triangles, rounds) in [(20_000, 21), (100_000, 21)] {
+        all.push(holes("2,000 open edges", triangles, rounds, 500, false));
+        all.push(holes("2,000 open edges, 1,000 splits", triangles, rounds, 500, true));
+    }
+    all
+}

@@ -1,0 +1,74 @@
+//! What has been compared so far.
+
+use crate::stitching::Held;
+use driver::sheet::Sheet;
+use std::io::IsTerminal;
+use std::time::{Duration, Instant};
+
+/// What was compared of one body.
+#[derive(Debug)]
+pub struct Compared {
+    pub stitched: Held,
+    pub refusals: u64,
+}
+
+#[derive(Default)]
+pub struct Tally {
+    bodies: u64,
+    rows: u64,
+    refusals: u64,
+    pub steps: u64,
+    triangles: usize,
+    /// Bodies stitched with their own sag, those of them that split, and the splits.
+    stitched: u64,
+    split: u64,
+    splits: u64,
+    /// Bodies with a sag that were only copied: too open, and outside document 01's condition.
+    open: u64,
+    outside: u64,
+    /// Bodies made by hand.
+    pub worst: u64,
+    shown: Option<Instant>,
+}
+
+impl Tally {
+    pub fn add(&mut self, sheet: &Sheet, compared: Compared) {
+        self.bodies += 1;
+        self.rows += sheet.rows.len() as u64;
+        self.refusals += compared.refusals;
+        self.triangles = self.triangles.max(sheet.indices() / 3);
+        match compared.stitched {
+            Held::NoSag => {}
+            Held::TooOpen => self.open += 1,
+            Held::Outside => self.outside += 1,
+            Held::Stitched(splits) => {
+                self.stitched += 1;
+                self.split += (splits > 0) as u64;
+                self.splits += splits as u64;
+            }
+        }
+    }
+
+    /// One line on a terminal, written over and over.
+    pub fn show(&mut self, kind: &str, seed: u64) {
+        if self.shown.is_none_or(|t| t.elapsed() > Duration::from_millis(200)) && std::io::stderr().is_terminal() {
+            self.shown = Some(Instant::now());
+            eprint!("\r\x1b[Kcompare: {} bodies, {} refusals, now {kind} of seed {seed}", self.bodies, self.refusals);
+        }
+    }
+
+    pub fn end_line() {
+        if std::io::stderr().is_terminal() {
+            eprint!("\r\x1b[K");
+        }
+    }
+
+    /// All counts in one line.
+    pub fn said(&self) -> String {
+        let Tally { bodies, rows, refusals, steps, triangles, stitched, split, splits, open, outside, worst, .. } = self;
+        format!(
+            "{worst} bodies made by hand, {bodies} of up to {triangles} triangles, {rows} rows; {stitched} stitched with their own sag, {split} of them split, \
+             {splits} splits ({outside} more outside the condition, {open} too open); {refusals} refusals, {steps} float steps"
+        )
+    }
+}
