@@ -7,7 +7,7 @@ use lib.Dec.{T}
 use Rattle.lists.specs.Lists.{all}
 use Rattle.lists.specs.Table.{Case, case, agrees}
 use Rattle.finish.specs.Finish.{Sheet}
-use Rattle.sheet.specs.Bytes.{bytes, lines}
+use Rattle.digits.specs.Bytes.{bytes, lines}
 use Rattle.sheet.specs.Reading.{State, sheetOf}
 use Rattle.sheet.specs.Bench.{bench}
 use Rattle.sheet.specs.Evaluation.{evaluation}

@@ -8,8 +8,8 @@ use Rattle.floats.specs.Floats.{bits32}
 use Rattle.orient.specs.Orient.{AfterTurn}
 use Rattle.stitch.specs.Stitch.{AfterStitch}
 use Rattle.assemble.specs.Assemble.{partWidth, rangeWidth, failureWidth, Vertices, AfterAssemble}
-use Rattle.sheet.specs.Bytes.{bytes}
-use Rattle.sheet.specs.Forms.{Piece, Word, Bits, Number, print, numbers, vertexForm, triangleForm}
+use Rattle.digits.specs.Bytes.{bytes}
+use Rattle.lines.specs.Forms.{Piece, Word, Bits, Number, line, numbers, vertexForm, triangleForm}
 
 -- ---- the forms that are printed only
 
@@ -72,10 +72,6 @@ upstreamForm = Word (bytes "(failed") ∷ Number ∷ Word (bytes " (upstream") �
 -- an escape: its face, the bits of reach and span
 abbrev pub escapeForm : List Piece
 escapeForm = Word (bytes "(failed") ∷ Number ∷ Word (bytes " (escape") ∷ Bits 16 ∷ Bits 16 ∷ Word (bytes "))") ∷ []
-
--- a line with its LF
-unfoldable pub line : List Piece → List ℕ → List ℕ
-line form ns = print form ns ++ 10 ∷ []
 
 -- a line for every three numbers
 unfoldable pub threes : List Piece → List ℕ → List ℕ

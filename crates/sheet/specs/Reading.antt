@@ -12,7 +12,9 @@ use Rattle.geometry.specs.declared.Vec3.{Vec3}
 use Rattle.geometry.specs.declared.Aabb.{Aabb}
 use Rattle.geometry.specs.Geometry.{zero64}
 use Rattle.finish.specs.Finish.{Sheet}
-use Rattle.sheet.specs.Forms.{Kind, Box, Sag, NoDefault, Default, Material, Face, Vertex, Triangle, Fail, Line, lineOf}
+use Rattle.lines.specs.Forms.{Line, lineOf}
+use Rattle.lines.specs.declared.Kind.{Kind}
+use Rattle.lines.specs.declared.Kind.the-variants.{Box, Sag, NoDefault, Default, Material, Face, Vertex, Triangle, Fail}
 
 -- ---- the order of lines
 

@@ -1,11 +1,13 @@
 -- The forms of the lines, of the sheet and of what is printed: one description serves reading and printing. Assumes nothing.
-use mathlib.Core.Bool.{Bool, true, false, cond}
+use mathlib.Core.Bool.{true, false}
 use mathlib.Core.List.{List, [], _∷_, _++_}
 use mathlib.Core.Option.{Option, none, some}
 use Prim.Native.Nat.{ℕ, zero, suc}
 use lib.Dec.{eqb}
-use Rattle.sheet.specs.Bytes.{bytes}
-use Rattle.sheet.specs.Digits.{Found, hex, decimal, readHex, readDecimal}
+use Rattle.lines.specs.declared.Kind.{Kind}
+use Rattle.lines.specs.declared.Kind.the-variants.{Box, Sag, NoDefault, Default, Material, Face, Vertex, Triangle, Fail}
+use Rattle.digits.specs.Bytes.{bytes}
+use Rattle.digits.specs.Digits.{Found, hex, decimal, readHex, readDecimal}
 
 -- a piece of a line: bytes that stand as they are; a space and bits of so many hex digits; a space and a decimal number
 pub data Piece : Type 0 where
@@ -21,6 +23,10 @@ print (Bits k ∷ ps) [] = []
 print (Bits k ∷ ps) (n ∷ ns) = 32 ∷ (hex k n ++ print ps ns)
 print (Number ∷ ps) [] = []
 print (Number ∷ ps) (n ∷ ns) = 32 ∷ (decimal n ++ print ps ns)
+
+-- a line with its LF
+unfoldable pub line : List Piece → List ℕ → List ℕ
+line form ns = print form ns ++ 10 ∷ []
 
 -- what follows a word, if the text begins with it
 unfoldable pub afterWord : List ℕ → List ℕ → Option (List ℕ)
@@ -48,10 +54,6 @@ read (Number ∷ ps) xs = elim (spaced readDecimal xs) [
 ]
 
 -- ---- the lines of the sheet
-
--- the kinds of lines, in their order
-pub data Kind : Type 0 where
-  Box Sag NoDefault Default Material Face Vertex Triangle Fail : Kind
 
 -- a vertex: the bits of its position and normal; printed too
 abbrev pub vertexForm : List Piece

@@ -1,13 +1,13 @@
 -- A form's reading has as many numbers as the form says. Assumes nothing.
-use mathlib.Core.Bool.{Bool, true, false}
 use mathlib.Core.List.{List, [], _∷_}
 use mathlib.Core.Option.{Option, none, some}
 use mathlib.Core.Path.{_≡_, refl, sym, ap, _∙_}
-use Prim.Native.Nat.{ℕ, zero, suc}
+use Prim.Native.Nat.{ℕ, suc}
 use native.Mathlib.Omega.{arith}
 use lib.ListN.{length}
-use Rattle.sheet.specs.Digits.{Found, readHex, readDecimal}
-use Rattle.sheet.specs.Forms.{Piece, Word, Bits, Number, Kind, Line, afterWord, spaced, read, form, lineAmong, lineOf}
+use Rattle.digits.specs.Digits.{Found, readHex, readDecimal}
+use Rattle.lines.specs.Forms.{Piece, Word, Bits, Number, Line, afterWord, spaced, read, form, lineAmong, lineOf}
+use Rattle.lines.specs.declared.Kind.{Kind}
 
 -- how many numbers a line of a form has
 unfoldable pub countIn : List Piece → ℕ
