@@ -1,7 +1,6 @@
-pub mod Reading
+pub mod Meaning
 pub mod Printing
 pub mod Parts
 pub mod Bench
-pub mod Laws
 pub mod Evaluation
 pub mod Claims

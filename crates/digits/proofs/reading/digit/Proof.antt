@@ -1,4 +1,4 @@
--- `digit` meets its contract.  Assumes nothing.
+-- `digit` meets its contract. Assumes nothing.
 use Rattle.digits.proofs.ReadLaws.{digit-low, digit-decimal, digit-between, digit-letter, digit-high}
 use borrow.Author.Needs.{needs}
 use Rattle.digits.proofs.reading.digit.Statement.{statement}

@@ -1,4 +1,4 @@
--- `more_digits` meets its contract.  Assumes nothing.
+-- `more_digits` meets its contract. Assumes nothing.
 use Prim.Native.Nat.{_-_}
 use native.Mathlib.Omega.{arith}
 use lib.ListN.{length}

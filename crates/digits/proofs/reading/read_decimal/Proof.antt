@@ -1,4 +1,4 @@
--- `read_decimal` meets its contract.  Assumes nothing.
+-- `read_decimal` meets its contract. Assumes nothing.
 use Rattle.digits.proofs.ReadLaws.{number-end, number-other, number-zero, number-more}
 use borrow.Author.Needs.{needs}
 use Rattle.digits.proofs.reading.read_decimal.Statement.{statement}

@@ -1,4 +1,4 @@
--- `read_hex` meets its contract.  Assumes nothing.
+-- `read_hex` meets its contract. Assumes nothing.
 use Prim.Native.Nat.{_-_}
 use native.Mathlib.Omega.{arith}
 use Rattle.digits.proofs.ReadLaws.{Hexed, hexed-none, hexed-room, hexed-short, hexed-other, hexed-more, hexed-all, no-hex}

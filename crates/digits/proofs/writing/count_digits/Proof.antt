@@ -1,4 +1,4 @@
--- `count_digits` meets its contract.  Assumes nothing.
+-- `count_digits` meets its contract. Assumes nothing.
 use Rattle.digits.proofs.WriteLaws.{Counted, counted-none, counted-more, counted-all}
 use borrow.Author.Needs.{needs}
 use Rattle.digits.proofs.writing.count_digits.Statement.{statement}

@@ -1,4 +1,4 @@
--- `digit_byte` meets its contract.  Assumes nothing.
+-- `digit_byte` meets its contract. Assumes nothing.
 use Rattle.digits.proofs.WriteLaws.{byte-decimal, byte-letter}
 use borrow.Author.Needs.{needs}
 use Rattle.digits.proofs.writing.digit_byte.Statement.{statement}

@@ -1,4 +1,4 @@
--- `fill_digits` meets its contract.  Assumes nothing.
+-- `fill_digits` meets its contract. Assumes nothing.
 use Prim.Native.Nat.{_-_}
 use Rattle.digits.proofs.WriteLaws.{Filled, filled-none, filled-more, filled-all, small-digit}
 use borrow.Author.Needs.{needs}

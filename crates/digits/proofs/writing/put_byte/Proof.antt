@@ -1,4 +1,4 @@
--- `put_byte` meets its contract.  Assumes nothing.
+-- `put_byte` meets its contract. Assumes nothing.
 use Rattle.digits.proofs.WriteLaws.{wrote-byte, wrote-full}
 use borrow.Author.Needs.{needs}
 use Rattle.digits.proofs.writing.put_byte.Statement.{statement}

@@ -1,4 +1,4 @@
--- `put_decimal` meets its contract.  Assumes nothing.
+-- `put_decimal` meets its contract. Assumes nothing.
 use Rattle.digits.proofs.WriteLaws.{wrote-decimal}
 use borrow.Author.Needs.{needs}
 use Rattle.digits.proofs.writing.put_decimal.Statement.{statement}

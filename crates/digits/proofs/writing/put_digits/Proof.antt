@@ -1,4 +1,4 @@
--- `put_digits` meets its contract.  Assumes nothing.
+-- `put_digits` meets its contract. Assumes nothing.
 use Rattle.digits.proofs.WriteLaws.{wrote-digits}
 use borrow.Author.Needs.{needs}
 use Rattle.digits.proofs.writing.put_digits.Statement.{statement}

@@ -1,4 +1,4 @@
--- `put_text` meets its contract.  Assumes nothing.
+-- `put_text` meets its contract. Assumes nothing.
 use Prim.Native.Nat.{_-_}
 use lib.ListN.{length}
 use Rattle.digits.proofs.WriteLaws.{Texted, texted-none, texted-room, texted-more, texted-all}

@@ -1,4 +1,4 @@
--- `later_line_of` meets its contract.  Assumes nothing.
+-- `later_line_of` meets its contract. Assumes nothing.
 use Rattle.lines.specs.Pattern.{later}
 use Rattle.lines.specs.declared.Kind.the-variants.{Material, Face, Vertex, Triangle, Fail}
 use Rattle.lines.proofs.KindLaws.{past-all, past-here, past-more, past-none, room-for}

@@ -1,4 +1,4 @@
--- `line_of` meets its contract.  Assumes nothing.
+-- `line_of` meets its contract. Assumes nothing.
 use Rattle.lines.specs.Pattern.{later}
 use Rattle.lines.specs.declared.Kind.the-variants.{Box, Sag, NoDefault, Default}
 use Rattle.lines.proofs.KindLaws.{kinds, of-any, past-here, past-more, past-none, past-rest, room-for}

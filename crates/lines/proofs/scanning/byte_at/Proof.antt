@@ -1,4 +1,4 @@
--- `byte_at` meets its contract.  Assumes nothing.
+-- `byte_at` meets its contract. Assumes nothing.
 use Rattle.lines.proofs.PieceLaws.{byte-end, byte-other, byte-there, no-piece}
 use borrow.Author.Needs.{needs}
 use Rattle.lines.proofs.scanning.byte_at.Statement.{statement}

@@ -1,4 +1,4 @@
--- `decimal_at` meets its contract.  Assumes nothing.
+-- `decimal_at` meets its contract. Assumes nothing.
 use Rattle.lines.proofs.PieceLaws.{no-piece, spaced-end, spaced-number, spaced-other}
 use borrow.Author.Needs.{needs}
 use Rattle.lines.proofs.scanning.decimal_at.Statement.{statement}

@@ -1,4 +1,4 @@
--- `hex_at` meets its contract.  Assumes nothing.
+-- `hex_at` meets its contract. Assumes nothing.
 use Rattle.lines.proofs.PieceLaws.{no-piece, spaced-end, spaced-number, spaced-other}
 use borrow.Author.Needs.{needs}
 use Rattle.lines.proofs.scanning.hex_at.Statement.{statement}

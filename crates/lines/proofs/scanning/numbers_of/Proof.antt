@@ -1,4 +1,4 @@
--- `numbers_of` meets its contract.  Assumes nothing.
+-- `numbers_of` meets its contract. Assumes nothing.
 use Rattle.lines.proofs.PieceLaws.{count-byte, count-long, count-number, count-short}
 use borrow.Author.Needs.{needs}
 use Rattle.lines.proofs.scanning.numbers_of.Statement.{statement}

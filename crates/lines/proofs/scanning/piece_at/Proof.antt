@@ -1,4 +1,4 @@
--- `piece_at` meets its contract.  Assumes nothing.
+-- `piece_at` meets its contract. Assumes nothing.
 use Rattle.lines.proofs.PieceLaws.{taken-byte, taken-long, taken-number, taken-short}
 use borrow.Author.Needs.{needs}
 use Rattle.lines.proofs.scanning.piece_at.Statement.{statement}

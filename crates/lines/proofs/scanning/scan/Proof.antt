@@ -1,4 +1,4 @@
--- `scan` meets its contract.  Assumes nothing.
+-- `scan` meets its contract. Assumes nothing.
 use Prim.Native.Nat.{_-_}
 use lib.ListN.{length}
 use Rattle.lines.proofs.ScanLaws.{Scanning, scanning-all, scanning-more, scanning-none, scanning-other, scanning-place, scanning-room}

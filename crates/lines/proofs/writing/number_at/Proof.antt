@@ -1,4 +1,4 @@
--- `number_at` meets its contract.  Assumes nothing.
+-- `number_at` meets its contract. Assumes nothing.
 use Rattle.lines.proofs.WriteLaws.{past-end}
 use borrow.Author.Needs.{needs}
 use Rattle.lines.proofs.writing.number_at.Statement.{statement}

@@ -1,4 +1,4 @@
--- `put_form` meets its contract.  Assumes nothing.
+-- `put_form` meets its contract. Assumes nothing.
 use Prim.Native.Nat.{_-_}
 use lib.ListN.{length}
 use Rattle.lines.proofs.WriteLaws.{Formed, formed-all, formed-counted, formed-more, formed-none, formed-room, formed-short}

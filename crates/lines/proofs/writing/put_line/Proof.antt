@@ -1,4 +1,4 @@
--- `put_line` meets its contract.  Assumes nothing.
+-- `put_line` meets its contract. Assumes nothing.
 use Rattle.lines.proofs.WriteLaws.{line-ended}
 use borrow.Author.Needs.{needs}
 use Rattle.lines.proofs.writing.put_line.Statement.{statement}

@@ -1,4 +1,4 @@
--- `put_piece` meets its contract.  Assumes nothing.
+-- `put_piece` meets its contract. Assumes nothing.
 use Rattle.lines.proofs.WriteLaws.{put-long, put-number, put-one, put-short}
 use borrow.Author.Needs.{needs}
 use Rattle.lines.proofs.writing.put_piece.Statement.{statement}

@@ -1,20 +1,25 @@
 -- Reading the sheet: its lines, their order, what each means, and the refusals 51 and 52. Assumes nothing.
 use mathlib.Core.Bool.{Bool, true, false, not, _&&_, _||_, cond}
 use mathlib.Core.List.{List, [], _∷_, _++_}
-use mathlib.Core.Option.{Option, none, some}
-use Prim.Native.Nat.{ℕ, zero, suc, _+_, _-_, _*_}
+use mathlib.Core.Option.{none, some}
+use Prim.Native.Nat.{ℕ, _+_, _-_, _*_}
 use lib.ListN.{length, getD, take, drop, set, replicate}
 use lib.Dec.{leb, ltb, eqb}
-use lib.Ieee.{Float}
-use Rattle.floats.specs.Floats.{f64}
-use Rattle.body.specs.Body.{rowWidth, Check, check, firstFailing}
-use Rattle.geometry.specs.declared.Vec3.{Vec3}
-use Rattle.geometry.specs.declared.Aabb.{Aabb}
-use Rattle.geometry.specs.Geometry.{zero64}
-use Rattle.finish.specs.Finish.{Sheet}
+use Rattle.body.specs.Body.{rowWidth, check, firstFailing}
 use Rattle.lines.specs.Forms.{Line, lineOf}
 use Rattle.lines.specs.declared.Kind.{Kind}
 use Rattle.lines.specs.declared.Kind.the-variants.{Box, Sag, NoDefault, Default, Material, Face, Vertex, Triangle, Fail}
+
+-- the sheet as its lines give it: floats are bits, the box's minimum and maximum three each; of default and materials 0 is none, n + 1 is material n
+pub record Patterns : Type 0 where
+  pub box : List ℕ
+  pub sag : ℕ
+  pub default : ℕ
+  pub materials : List ℕ
+  pub table : List ℕ
+  pub positions : List ℕ
+  pub normals : List ℕ
+  pub indices : List ℕ
 
 -- ---- the order of lines
 
@@ -30,7 +35,7 @@ abbrev pub order : ℕ → ℕ → ℕ → Order
 order a b c = record { first = a; last = b; then = c }
 
 -- Lines come in this order: box, sag, default, any materials, then each face with its vertices, then its triangles, or fail.
-unfoldable pub orderOf : Kind → Order
+abbrev pub orderOf : Kind → Order
 orderOf Box = order 0 0 1
 orderOf Sag = order 1 1 2
 orderOf NoDefault = order 2 2 3
@@ -42,7 +47,7 @@ orderOf Triangle = order 4 5 5
 orderOf Fail = order 3 6 6
 
 -- whether a kind may stand at a place
-unfoldable pub inOrder : ℕ → Kind → Bool
+abbrev pub inOrder : ℕ → Kind → Bool
 inOrder place k = leb (orderOf k .first) place && leb place (orderOf k .last)
 
 -- ---- what a line means
@@ -51,42 +56,34 @@ inOrder place k = leb (orderOf k .first) place && leb place (orderOf k .last)
 abbrev pub at : List ℕ → ℕ → ℕ
 at ns i = getD ns i 0
 
--- box (minimum, maximum)
-unfoldable pub boxOf : List ℕ → Aabb
-boxOf ns =
-    record {
-      min = record { x = f64 (at ns 0); y = f64 (at ns 1); z = f64 (at ns 2) };
-      max = record { x = f64 (at ns 3); y = f64 (at ns 4); z = f64 (at ns 5) };
-    }
-
 -- the table with n more in the last row's count that stands `back` from the end: 2 for vertices, 1 for indices
 unfoldable pub raised : ℕ → ℕ → List ℕ → List ℕ
 raised back n table = let i = length table - back in set table i (at table i + n)
 
 -- a sheet from its parts
-abbrev pub sheet : Aabb → Float → ℕ → List ℕ → List ℕ → List ℕ → List ℕ → List ℕ → Sheet
-sheet box sag default materials table ps ns is =
+abbrev pub patterns : List ℕ → ℕ → ℕ → List ℕ → List ℕ → List ℕ → List ℕ → List ℕ → Patterns
+patterns box sag default materials table ps ns is =
     record { box = box; sag = sag; default = default; materials = materials; table = table; positions = ps; normals = ns; indices = is }
 
--- What each line means; a later material line replaces. Of default and materials 0 is none, n + 1 is material n.
-unfoldable pub withLine : Kind → List ℕ → Sheet → Sheet
-withLine Box ns x = sheet (boxOf ns) (x .sag) (x .default) (x .materials) (x .table) (x .positions) (x .normals) (x .indices)
-withLine Sag ns x = sheet (x .box) (f64 (at ns 0)) (x .default) (x .materials) (x .table) (x .positions) (x .normals) (x .indices)
-withLine NoDefault ns x = sheet (x .box) (x .sag) 0 (x .materials) (x .table) (x .positions) (x .normals) (x .indices)
-withLine Default ns x = sheet (x .box) (x .sag) (at ns 0 + 1) (x .materials) (x .table) (x .positions) (x .normals) (x .indices)
+-- What each line means; a later material line replaces.
+unfoldable pub withLine : Kind → List ℕ → Patterns → Patterns
+withLine Box ns x = patterns ns (x .sag) (x .default) (x .materials) (x .table) (x .positions) (x .normals) (x .indices)
+withLine Sag ns x = patterns (x .box) (at ns 0) (x .default) (x .materials) (x .table) (x .positions) (x .normals) (x .indices)
+withLine NoDefault ns x = patterns (x .box) (x .sag) 0 (x .materials) (x .table) (x .positions) (x .normals) (x .indices)
+withLine Default ns x = patterns (x .box) (x .sag) (at ns 0 + 1) (x .materials) (x .table) (x .positions) (x .normals) (x .indices)
 withLine Material ns x =
-    sheet (x .box) (x .sag) (x .default) (set (x .materials) (at ns 0) (at ns 1 + 1)) (x .table) (x .positions) (x .normals) (x .indices)
+    patterns (x .box) (x .sag) (x .default) (set (x .materials) (at ns 0) (at ns 1 + 1)) (x .table) (x .positions) (x .normals) (x .indices)
 withLine Face ns x =
-    sheet (x .box) (x .sag) (x .default) (x .materials) (x .table ++ at ns 0 ∷ at ns 1 ∷ 0 ∷ 0 ∷ 0 ∷ []) (x .positions) (x .normals) (x .indices)
+    patterns (x .box) (x .sag) (x .default) (x .materials) (x .table ++ at ns 0 ∷ at ns 1 ∷ 0 ∷ 0 ∷ 0 ∷ []) (x .positions) (x .normals) (x .indices)
 withLine Vertex ns x =
-    sheet (x .box) (x .sag) (x .default) (x .materials) (raised 2 1 (x .table)) (x .positions ++ take 3 ns) (x .normals ++ drop 3 ns) (x .indices)
+    patterns (x .box) (x .sag) (x .default) (x .materials) (raised 2 1 (x .table)) (x .positions ++ take 3 ns) (x .normals ++ drop 3 ns) (x .indices)
 withLine Triangle ns x =
-    sheet (x .box) (x .sag) (x .default) (x .materials) (raised 1 3 (x .table)) (x .positions) (x .normals) (x .indices ++ ns)
+    patterns (x .box) (x .sag) (x .default) (x .materials) (raised 1 3 (x .table)) (x .positions) (x .normals) (x .indices ++ ns)
 withLine Fail ns x =
-    sheet (x .box) (x .sag) (x .default) (x .materials) (x .table ++ at ns 0 ∷ at ns 1 ∷ at ns 2 ∷ 0 ∷ 0 ∷ []) (x .positions) (x .normals) (x .indices)
+    patterns (x .box) (x .sag) (x .default) (x .materials) (x .table ++ at ns 0 ∷ at ns 1 ∷ at ns 2 ∷ 0 ∷ 0 ∷ []) (x .positions) (x .normals) (x .indices)
 
 -- 52: it passes a program limit: face numbers to 63, 16 rows, 96 vertices, 96 indices
-unfoldable pub passesLimit : Kind → List ℕ → Sheet → Bool
+unfoldable pub passesLimit : Kind → List ℕ → Patterns → Bool
 passesLimit Box ns x = false
 passesLimit Sag ns x = false
 passesLimit NoDefault ns x = false
@@ -115,13 +112,11 @@ failsWithZero Fail ns = eqb (at ns 2) 0
 pub record State : Type 0 where
   pub refusal : ℕ
   pub place : ℕ
-  pub sheet : Sheet
+  pub sheet : Patterns
 
 -- before the first line; 64 faces have no material of their own
 unfoldable pub start : State
-start =
-    let zeros : Vec3 = record { x = zero64; y = zero64; z = zero64 } in
-    record { refusal = 0; place = 0; sheet = sheet (record { min = zeros; max = zeros }) zero64 0 (replicate 64 0) [] [] [] [] }
+start = record { refusal = 0; place = 0; sheet = patterns (replicate 6 0) 0 0 (replicate 64 0) [] [] [] [] }
 
 -- the refusal's number kept, and nothing else changed
 unfoldable pub refuse : ℕ → State → State
@@ -135,14 +130,13 @@ lineRefusal l s =
     ∷ check 52 (passesLimit (l .kind) (l .numbers) (s .sheet))
     ∷ [])
 
+-- a line that is taken up
+unfoldable pub takeUp : State → Line → State
+takeUp s l = record { refusal = 0; place = orderOf (l .kind) .then; sheet = withLine (l .kind) (l .numbers) (s .sheet) }
+
 -- a line that is some form: refused, or taken up
 unfoldable pub withForm : State → Line → State
-withForm s l =
-    let n = lineRefusal l s in
-    elim (eqb n 0) [
-      | true ↦ record { refusal = 0; place = orderOf (l .kind) .then; sheet = withLine (l .kind) (l .numbers) (s .sheet) }
-      | false ↦ refuse n s
-    ]
+withForm s l = let n = lineRefusal l s in elim (eqb n 0) [ true ↦ takeUp s l | false ↦ refuse n s ]
 
 -- A line, its LF left off: 51 if it is no such form. The earlier line decides.
 unfoldable pub readLine : State → List ℕ → State

@@ -1,0 +1,6 @@
+pub mod Reading
+pub mod Slices
+pub mod Added
+pub mod Laws
+pub mod Evaluation
+pub mod Claims
