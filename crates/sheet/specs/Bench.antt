@@ -6,7 +6,8 @@ use lib.Dec.{eqb}
 use Rattle.finish.specs.Finish.{Outcome, Refused, Finished, finish}
 use Rattle.reader.specs.Reading.{sheetOf}
 use Rattle.sheet.specs.Meaning.{meant}
-use Rattle.sheet.specs.Printing.{meshLines, countLines, refusalLine}
+use Rattle.sheet.specs.Printing.{meshLines, countLines}
+use Rattle.answer.specs.Answer.{refusalLine}
 
 -- what is printed of the three calls: a refusal prints only its number
 unfoldable pub printed : Outcome → List ℕ

@@ -2,12 +2,13 @@
 use Prim.Native.Nat.{ℕ}
 use Rattle.finish.specs.Evaluation as Finish
 use Rattle.reader.specs.Evaluation as Reader
+use Rattle.answer.specs.Evaluation as Answer
 use Rattle.sheet.specs.Meaning.{boxOf, meant}
-use Rattle.sheet.specs.Printing.{threes, vertexLines, failureLine, failureLines, meshLines, countLines, refusalLine}
+use Rattle.sheet.specs.Printing.{meshLines, countLines}
 use Rattle.sheet.specs.Parts.{corner, stateNumbers}
 use Rattle.sheet.specs.Bench.{printed, bench}
 
 -- every definition that computes
 unfoldable pub evaluation : ℕ
-unfolding Finish.evaluation Reader.evaluation boxOf meant threes vertexLines failureLine failureLines meshLines countLines refusalLine corner stateNumbers printed bench
+unfolding Finish.evaluation Reader.evaluation Answer.evaluation boxOf meant meshLines countLines corner stateNumbers printed bench
 evaluation = 0
