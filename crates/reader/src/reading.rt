@@ -120,7 +120,8 @@ pub fn read_line(
 ) -> Reader
     ensures { λ r. ⌜ lent r (now (table .exit)) (now (positions .exit)) (now (normals .exit)) (now (indices .exit)) (now (materials .exit)) ≡ readInto (lent s (now (table .entry)) (now (positions .entry)) (now (normals .entry)) (now (indices .entry)) (now (materials .entry))) (now (line .entry)) ⌝ }
 {
-    if s.refusal != 0 {
+    let before = s.refusal;
+    if before != 0 {
         return s;
     }
     if !fits(
