@@ -16,8 +16,9 @@ use Rattle.lines.specs.declared.Kind.{Kind}
 use Rattle.lines.specs.declared.kinds.Given.{Given}
 use Rattle.lines.specs.declared.kinds.Given.the-variants as Given
 use Rattle.reader.specs.declared.Reader.{Reader}
-use Rattle.reader.specs.Reading.{State, lineRefusal, readLine, refuse, start, takeUp, withForm}
-use Rattle.reader.specs.Slices.{Begun, Lent, Refusal, ended, fits, lent, lineFrom, over, patternsOf, readForm, readInto, readRoomy, readerOf, refuseIn, refused, stateOf, takenUp}
+use Rattle.line_order.specs.Reading.{State, lineRefusal, readLine, refuse, start, takeUp, withForm}
+use Rattle.line_order.specs.Refusals.{Refusal}
+use Rattle.reader.specs.Slices.{Begun, Lent, ended, fits, lent, lineFrom, over, patternsOf, readForm, readInto, readRoomy, readerOf, refuseIn, refused, stateOf, takenUp}
 use Rattle.reader.specs.Added.{Fitting, Ready, Roomy}
 use Rattle.reader.proofs.RoomLaws.{Held, counts-of, held-of}
 use Rattle.reader.proofs.TakeLaws.{over-same}
@@ -74,12 +75,12 @@ module _ (s : Reader) (T P N I M : List ℕ) where
   unfolding refuse
   over-refused n h = ap (refuseIn n) (over-same s T P N I M h)
 
-  module _ (k : Kind) (ns : List ℕ) (v : Fitting here k ns) (n : ℕ) (u : Refusal s k (lineFrom k ns .numbers) n) where
+  module _ (k : Kind) (ns : List ℕ) (v : Fitting here k ns) (n : ℕ) (u : Refusal (s .place) (s .rows) (s .vertices) (s .indices) k (lineFrom k ns .numbers) n) where
     held : Held s T P N I M
     held = held-of s T P N I M (v .roomy .held)
 
     refusal-is : n ≡ lineRefusal (lineFrom k ns) (stateOf here)
-    refusal-is = u .is (patternsOf here) (counts-of s T P N I M held)
+    refusal-is = u .is (s .refusal) (patternsOf here) (counts-of s T P N I M held)
 
     pub form-refused : (r : Reader) → (n ≡ 0 → ⊥) → r ≡ refused n s → lent r T P N I M ≡ readForm here k ns
     unfolding readForm withForm

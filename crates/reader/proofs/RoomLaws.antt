@@ -9,8 +9,9 @@ use lib.Dec.{leb, ltb, eqb}
 use lib.ListN.{length, getD}
 use lib.Seq.{length-take-le}
 use Rattle.reader.specs.declared.Reader.{Reader}
-use Rattle.reader.specs.Reading.{at}
-use Rattle.reader.specs.Slices.{Counts, fits, fitsIn, lastFits, lent, patternsOf}
+use Rattle.line_order.specs.Reading.{at}
+use Rattle.line_order.specs.Refusals.{Counts}
+use Rattle.reader.specs.Slices.{fits, fitsIn, lastFits, lent, patternsOf}
 
 -- ---- the last row
 module _ (place rows : ℕ) (table : List ℕ) where
@@ -141,7 +142,7 @@ module _ (s : Reader) (T P N I M : List ℕ) (h : Held s T P N I M) where
   pub last-index : 0 < s .rows → at T (5 * s .rows - 1) ≤ 96
   last-index l = leb-true (at T (5 * s .rows - 1)) 96 (both-right (leb (at T (5 * s .rows - 2)) 96) (leb (at T (5 * s .rows - 1)) 96) (both l))
 
-  pub counts-of : Counts s (patternsOf (lent s T P N I M))
+  pub counts-of : Counts (s .rows) (s .vertices) (s .indices) (patternsOf (lent s T P N I M))
   counts-of = record {
     table = length-take-le (5 * s .rows) T (omega (arith, h .table, h .rows));
     positions = length-take-le (3 * s .vertices) P (omega (arith, h .positions, h .vertices));

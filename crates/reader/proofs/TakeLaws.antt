@@ -16,10 +16,10 @@ use Rattle.lines.specs.Forms.{form, numbers}
 use Rattle.lines.specs.declared.Kind.{Kind}
 use Rattle.lines.specs.declared.Kind.the-variants.{Box, Sag, NoDefault, Default, Material, Face, Vertex, Triangle, Fail}
 use Rattle.reader.specs.declared.Reader.{Reader}
-use Rattle.reader.specs.Reading.{State, at, passesLimit, raised, takeUp, withLine}
+use Rattle.line_order.specs.Reading.{State, at, passesLimit, raised, takeUp, withLine}
 use Rattle.reader.specs.Slices.{Lent, boxed, defaulted, lent, lineFrom, lowThree, moved, onto, over, patternsOf, placed, readerOf, sagged, stateOf, takenUp}
 use Rattle.reader.specs.Added.{Ready, RowAdded, RowRoom, TriangleAdded, TriangleRoom, VertexAdded, VertexRoom}
-use Rattle.reader.proofs.OrderLaws.{Passed, passed}
+use Rattle.line_order.specs.Refusals.{Passed, passed}
 use Rattle.reader.proofs.RoomLaws.{Held, both-left, both-right, counts-of, held-of, last-index, last-vertex, some-row}
 use Rattle.reader.proofs.StoreLaws.{changed, grown, kept}
 

@@ -9,7 +9,7 @@ use Rattle.lines.specs.ReadBack.{fits}
 use Rattle.lines.specs.Forms.{form}
 use Rattle.lines.specs.declared.Kind.{Kind}
 use Rattle.reader.specs.declared.Reader.{Reader}
-use Rattle.reader.specs.Reading.{at, lineRefusal}
+use Rattle.line_order.specs.Reading.{at, lineRefusal}
 use Rattle.reader.specs.Slices as Slices
 use Rattle.reader.specs.Slices.{Lent, lineFrom, lowThree, moved, placed, stateOf}
 

@@ -9,13 +9,13 @@ use borrow.Author.Tests.{eq-eqb, ne-eqb, le-leb, leb-true, leb-false, eqb-true, 
 use lib.Dec.{leb, ltb, eqb}
 use lib.ListN.{List·getD-append, length, take, drop, set, replicate, length-append, length-set, length-drop}
 use lib.Seq.{getD-append-add, length-take-le, take-at, getD-set-same, getD-set-other}
-use Rattle.body.specs.Body.{firstFailing}
 use Rattle.lines.specs.Counted.{countIn, line-count}
 use Rattle.lines.specs.Forms.{Line, form, lineOf, numbers}
 use Rattle.lines.specs.declared.Kind.{Kind}
 use Rattle.lines.specs.declared.Kind.the-variants.{Box, Sag, NoDefault, Default, Material, Face, Vertex, Triangle, Fail}
 use Rattle.reader.specs.declared.Reader.{Reader}
-use Rattle.reader.specs.Reading.{Patterns, State, at, failsWithZero, finished, inOrder, lineRefusal, orderOf, passesLimit, raised, readLine, refuse, start, takeUp, withForm, withLine}
+use Rattle.line_order.specs.Reading.{Patterns, State, at, finished, lineRefusal, orderOf, passesLimit, raised, readLine, refuse, start, takeUp, withForm, withLine}
+use Rattle.line_order.specs.Refusals.{Passed, passed}
 use Rattle.reader.specs.Slices.{Lent, ended, fits, fitsIn, lastFits, lent, onto, over, readInto, readerOf, refused, stateOf}
 
 -- the slices have room for the program's limits
@@ -87,28 +87,6 @@ sized-refuse n s v =
       last-vertices = v .last-vertices;
       last-indices = v .last-indices;
     }
-
--- what a line that isn't refused has passed
-record Passed (l : Line) (s : State) : Type 0 where
-  order : inOrder (s .place) (l .kind) ≡ true
-  limit : passesLimit (l .kind) (l .numbers) (s .sheet) ≡ false
-
--- the refusal by its two tests
-of-tests : Bool → Bool → ℕ
-of-tests bad limit = cond bad 51 (cond limit 52 0)
-
-bad-line : (a b c : Bool) → of-tests (not a || b) c ≡ 0 → (a ≡ true) × (c ≡ false)
-unfolding of-tests
-bad-line true false false e = (refl, refl)
-bad-line true false true e = absurd (omega arith)
-bad-line true true c e = absurd (omega arith)
-bad-line false b c e = absurd (omega arith)
-
-passed : (l : Line) (s : State) → lineRefusal l s ≡ 0 → Passed l s
-unfolding lineRefusal firstFailing of-tests
-passed l s e =
-    let r = bad-line (inOrder (s .place) (l .kind)) (failsWithZero (l .kind) (l .numbers)) (passesLimit (l .kind) (l .numbers) (s .sheet)) e in
-    record { order = r .0; limit = r .1 }
 
 both-left : (a b : Bool) → a && b ≡ true → a ≡ true
 both-left true b e = refl

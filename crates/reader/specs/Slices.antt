@@ -1,7 +1,7 @@
 -- A reader and the slices that it is lent: what has been read, whether the slices have room, and what a line leaves. Assumes nothing.
 use mathlib.Core.Bool.{Bool, true, false, not, _&&_, cond}
 use mathlib.Core.List.{List, [], _∷_, _++_}
-use mathlib.Core.Option.{none, some}
+use mathlib.Core.Option.{some}
 use mathlib.Core.Path.{_≡_}
 use Prim.Native.Nat.{ℕ, _+_, _-_, _*_, _/_, _%_, _^_}
 use lib.ListN.{length, take, drop, replicate}
@@ -10,7 +10,7 @@ use Rattle.lines.specs.Counted.{countIn}
 use Rattle.lines.specs.Forms.{Line, form}
 use Rattle.lines.specs.declared.Kind.{Kind}
 use Rattle.reader.specs.declared.Reader.{Reader}
-use Rattle.reader.specs.Reading.{Patterns, State, at, lineRefusal, passesLimit, patterns, readLine, start, takeUp, withForm}
+use Rattle.line_order.specs.Reading.{Patterns, State, at, patterns, readLine, start, takeUp, withForm}
 
 -- a reader and the lent slices
 pub record Lent : Type 0 where
@@ -203,19 +203,3 @@ placed xs i vs = take i xs ++ (vs ++ drop (i + length vs) xs)
 -- three numbers from a place on, their low 32 bits
 abbrev pub lowThree : List ℕ → ℕ → List ℕ
 lowThree ns i = at ns i % 2 ^ 32 ∷ at ns (i + 1) % 2 ^ 32 ∷ at ns (i + 2) % 2 ^ 32 ∷ []
-
--- ---- refusals by what the reader counts
-
--- a sheet of as many numbers as a reader counts
-pub record Counts (r : Reader) (x : Patterns) : Type 0 where
-  pub table : length (x .table) ≡ 5 * r .rows
-  pub positions : length (x .positions) ≡ 3 * r .vertices
-  pub indices : length (x .indices) ≡ r .indices
-
--- b says whether a line passes a limit
-pub record Limit (r : Reader) (k : Kind) (ns : List ℕ) (b : Bool) : Type 0 where
-  pub is : (x : Patterns) → Counts r x → b ≡ passesLimit k ns x
-
--- n is the refusal of a line, 0 for none
-pub record Refusal (r : Reader) (k : Kind) (ns : List ℕ) (n : ℕ) : Type 0 where
-  pub is : (x : Patterns) → Counts r x → n ≡ lineRefusal (record { kind = k; numbers = ns }) (record { refusal = r .refusal; place = r .place; sheet = x })

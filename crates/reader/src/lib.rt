@@ -3,7 +3,6 @@
 // Floats are kept as their bits. The table has five numbers a row, positions and normals three a vertex; 64 faces have a material each, 0 for none
 // and n + 1 for material n.
 
-pub mod order;
 pub mod reading;
 pub mod room;
 pub mod storing;

@@ -1,10 +1,10 @@
 // The sheet line by line.
 
 use crate::Reader;
-use crate::order::line_refusal;
 use crate::room::fits;
 use crate::taking::take_up;
 use body::clear;
+use line_order::line_refusal;
 use lines::Given;
 use lines::Kind;
 use lines::line_of;
@@ -12,7 +12,7 @@ ghost use mathlib.Core.Path.{_≡_};
 ghost use Prim.Native.Nat.{_<_};
 ghost use lib.ListN.{length};
 ghost use Rattle.reader.specs.Slices.{Begun, ended, lent, readForm, readInto, readRoomy, readerOf, refused};
-ghost use Rattle.reader.specs.Reading.{start};
+ghost use Rattle.line_order.specs.Reading.{start};
 ghost use Rattle.reader.specs.Added.{Fitting, Roomy};
 
 // The reader before the first line.
@@ -71,7 +71,7 @@ fn with_form(
     requires { ⌜ Fitting (lent s (now table) (now positions) (now normals) (now indices) (now materials)) k (now numbers) ⌝ }
     ensures { λ r. ⌜ lent r (now (table .exit)) (now (positions .exit)) (now (normals .exit)) (now (indices .exit)) (now (materials .exit)) ≡ readForm (lent s (now (table .entry)) (now (positions .entry)) (now (normals .entry)) (now (indices .entry)) (now (materials .entry))) k (now (numbers .entry)) ⌝ }
 {
-    let n = line_refusal(s, k, numbers);
+    let n = line_refusal(s.place, s.rows, s.vertices, s.indices, k, numbers);
     if n != 0 {
         return refuse(s, n);
     }

@@ -4,7 +4,7 @@ use mathlib.Core.List.{List, _++_}
 use Prim.Native.Nat.{ℕ}
 use lib.Dec.{eqb}
 use Rattle.finish.specs.Finish.{Outcome, Refused, Finished, finish}
-use Rattle.reader.specs.Reading.{sheetOf}
+use Rattle.line_order.specs.Reading.{sheetOf}
 use Rattle.sheet.specs.Meaning.{meant}
 use Rattle.sheet.specs.Printing.{meshLines, countLines}
 use Rattle.answer.specs.Answer.{refusalLine}

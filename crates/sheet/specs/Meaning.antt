@@ -5,7 +5,7 @@ use Rattle.floats.specs.Floats.{f64}
 use Rattle.geometry.specs.declared.Vec3.{Vec3}
 use Rattle.geometry.specs.declared.Aabb.{Aabb}
 use Rattle.finish.specs.Finish.{Sheet}
-use Rattle.reader.specs.Reading.{Patterns, at}
+use Rattle.line_order.specs.Reading.{Patterns, at}
 
 -- box (minimum, maximum)
 unfoldable pub boxOf : List ℕ → Aabb

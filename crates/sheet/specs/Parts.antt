@@ -3,7 +3,7 @@ use mathlib.Core.List.{List, [], _∷_, _++_}
 use Prim.Native.Nat.{ℕ}
 use Rattle.floats.specs.Floats.{bits64}
 use Rattle.geometry.specs.declared.Vec3.{Vec3}
-use Rattle.reader.specs.Reading.{State}
+use Rattle.line_order.specs.Reading.{State}
 use Rattle.sheet.specs.Meaning.{meant}
 
 -- the corner of a box, as bits

@@ -1,6 +1,5 @@
-// The order of lines, and when a line is refused.
+// The order of the sheet's lines, and when a line is refused.
 
-use crate::Reader;
 use lines::Kind;
 ghost use mathlib.Core.Path.{_≡_};
 ghost use Prim.Native.Nat.{_<_};
@@ -9,8 +8,8 @@ ghost use lib.Dec.{leb, ltb};
 ghost use lib.ListN.{length, take};
 ghost use Rattle.lines.specs.Counted.{countIn};
 ghost use Rattle.lines.specs.Forms.{form};
-ghost use Rattle.reader.specs.Reading.{failsWithZero, inOrder, orderOf};
-ghost use Rattle.reader.specs.Slices.{Limit, Refusal};
+ghost use Rattle.line_order.specs.Reading.{failsWithZero, inOrder, orderOf};
+ghost use Rattle.line_order.specs.Refusals.{Limit, Refusal};
 
 // The first place at which a kind may stand.
 fn first_place(k: Kind) -> u32
@@ -85,9 +84,9 @@ fn row_passes(rows: usize, face: u64) -> bool
 }
 
 // Whether a line passes a program limit.
-fn passes_limit(s: Reader, k: Kind, numbers: &[u64]) -> bool
+fn passes_limit(rows: usize, vertices: usize, indices: usize, k: Kind, numbers: &[u64]) -> bool
     requires { ⌜ 6 < length (now numbers) ⌝ }
-    ensures { λ r. ⌜ Limit s k (take (countIn (form k)) (now (numbers .entry))) r ⌝ }
+    ensures { λ r. ⌜ Limit rows vertices indices k (take (countIn (form k)) (now (numbers .entry))) r ⌝ }
 {
     match k {
         Kind::Box => false,
@@ -95,25 +94,32 @@ fn passes_limit(s: Reader, k: Kind, numbers: &[u64]) -> bool
         Kind::NoDefault => false,
         Kind::Default => false,
         Kind::Material => 63 < numbers[0],
-        Kind::Face => row_passes(s.rows, numbers[1]),
-        Kind::Vertex => 96 <= s.vertices,
-        Kind::Triangle => 96 <= s.indices,
-        Kind::Fail => row_passes(s.rows, numbers[1]),
+        Kind::Face => row_passes(rows, numbers[1]),
+        Kind::Vertex => 96 <= vertices,
+        Kind::Triangle => 96 <= indices,
+        Kind::Fail => row_passes(rows, numbers[1]),
     }
 }
 
 // The refusal of a line that has a form, 0 if it is taken: 51 before 52.
-pub fn line_refusal(s: Reader, k: Kind, numbers: &[u64]) -> u32
+pub fn line_refusal(
+    place: u32,
+    rows: usize,
+    vertices: usize,
+    indices: usize,
+    k: Kind,
+    numbers: &[u64],
+) -> u32
     requires { ⌜ 6 < length (now numbers) ⌝ }
-    ensures { λ r. ⌜ Refusal s k (take (countIn (form k)) (now (numbers .entry))) r ⌝ }
+    ensures { λ r. ⌜ Refusal place rows vertices indices k (take (countIn (form k)) (now (numbers .entry))) r ⌝ }
 {
-    if !in_order(s.place, k) {
+    if !in_order(place, k) {
         return 51;
     }
     if fails_with_zero(k, numbers) {
         return 51;
     }
-    if passes_limit(s, k, numbers) {
+    if passes_limit(rows, vertices, indices, k, numbers) {
         return 52;
     }
     0

@@ -2,7 +2,7 @@
 use Prim.Native.Nat.{ℕ}
 use Rattle.body.specs.Evaluation as Body
 use Rattle.lines.specs.Evaluation as Lines
-use Rattle.reader.specs.Reading.{raised, withLine, passesLimit, failsWithZero, start, refuse, lineRefusal, takeUp, withForm, readLine, finished, intoFirst, cut, readFrom, sheetOf}
+use Rattle.line_order.specs.Reading.{raised, withLine, passesLimit, failsWithZero, start, refuse, lineRefusal, takeUp, withForm, readLine, finished, intoFirst, cut, readFrom, sheetOf}
 
 -- every definition that computes
 unfoldable pub evaluation : ℕ

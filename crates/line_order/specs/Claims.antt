@@ -6,8 +6,8 @@ use lib.Dec.{T}
 use Rattle.lists.specs.Lists.{all}
 use Rattle.lists.specs.Table.{Case, case, agrees}
 use Rattle.digits.specs.Bytes.{bytes, lines}
-use Rattle.reader.specs.Reading.{sheetOf}
-use Rattle.reader.specs.Evaluation.{evaluation}
+use Rattle.line_order.specs.Reading.{sheetOf}
+use Rattle.line_order.specs.Evaluation.{evaluation}
 
 -- box, sag and default, then lines
 sheet : List (List ℕ) → List ℕ

@@ -11,12 +11,11 @@ use lib.ListN.{getD, take}
 use lib.Seq.{getD-take}
 use Rattle.body.specs.Body.{firstFailing}
 use Rattle.lines.specs.Counted.{countIn}
-use Rattle.lines.specs.Forms.{Line, form, numbers}
+use Rattle.lines.specs.Forms.{form, numbers}
 use Rattle.lines.specs.declared.Kind.{Kind}
 use Rattle.lines.specs.declared.Kind.the-variants.{Box, Sag, NoDefault, Default, Material, Face, Vertex, Triangle, Fail}
-use Rattle.reader.specs.declared.Reader.{Reader}
-use Rattle.reader.specs.Reading.{Patterns, State, failsWithZero, inOrder, lineRefusal, orderOf, passesLimit}
-use Rattle.reader.specs.Slices.{Limit, Refusal}
+use Rattle.line_order.specs.Reading.{Patterns, State, failsWithZero, inOrder, lineRefusal, orderOf, passesLimit}
+use Rattle.line_order.specs.Refusals.{Limit, Refusal}
 
 -- ---- order
 pub order-before : (place : ℕ) (k : Kind) (f : ℕ) → f ≡ orderOf k .first → place < f → false ≡ inOrder place k
@@ -80,57 +79,57 @@ row-face rows face h = rw (lt-ltb 63 face h)
 pub row-rows : (rows face : ℕ) → face ≤ 63 → leb 16 rows ≡ ltb 63 face || leb 16 rows
 row-rows rows face h = rw (le-ltb 63 face h)
 
-module _ (s : Reader) (k : Kind) (N : List ℕ) where
-  limit-as : (j : Kind) (b : Bool) → k ≡ j → Limit s j (take (countIn (form j)) N) b → Limit s k (take (countIn (form k)) N) b
-  limit-as j b e v = subst (λ (i : Kind). Limit s i (take (countIn (form i)) N) b) (sym e) v
+module _ (rows vertices indices : ℕ) (k : Kind) (N : List ℕ) where
+  limit-as : (j : Kind) (b : Bool) → k ≡ j → Limit rows vertices indices j (take (countIn (form j)) N) b → Limit rows vertices indices k (take (countIn (form k)) N) b
+  limit-as j b e v = subst (λ (i : Kind). Limit rows vertices indices i (take (countIn (form i)) N) b) (sym e) v
 
-  pub limit-box : k ≡ Box → Limit s k (take (countIn (form k)) N) false
+  pub limit-box : k ≡ Box → Limit rows vertices indices k (take (countIn (form k)) N) false
   unfolding passesLimit
   limit-box e = limit-as Box false e (record { is = λ x c. refl })
 
-  pub limit-sag : k ≡ Sag → Limit s k (take (countIn (form k)) N) false
+  pub limit-sag : k ≡ Sag → Limit rows vertices indices k (take (countIn (form k)) N) false
   unfolding passesLimit
   limit-sag e = limit-as Sag false e (record { is = λ x c. refl })
 
-  pub limit-nodefault : k ≡ NoDefault → Limit s k (take (countIn (form k)) N) false
+  pub limit-nodefault : k ≡ NoDefault → Limit rows vertices indices k (take (countIn (form k)) N) false
   unfolding passesLimit
   limit-nodefault e = limit-as NoDefault false e (record { is = λ x c. refl })
 
-  pub limit-default : k ≡ Default → Limit s k (take (countIn (form k)) N) false
+  pub limit-default : k ≡ Default → Limit rows vertices indices k (take (countIn (form k)) N) false
   unfolding passesLimit
   limit-default e = limit-as Default false e (record { is = λ x c. refl })
 
-  pub limit-material : k ≡ Material → Limit s k (take (countIn (form k)) N) (ltb 63 (getD N 0 0))
+  pub limit-material : k ≡ Material → Limit rows vertices indices k (take (countIn (form k)) N) (ltb 63 (getD N 0 0))
   unfolding passesLimit form numbers countIn
   limit-material e = limit-as Material (ltb 63 (getD N 0 0)) e (record { is = λ x c. ap (ltb 63) (sym (getD-take 2 N 0 0 (omega arith))) })
 
-  pub limit-face : (b : Bool) → k ≡ Face → b ≡ ltb 63 (getD N 1 0) || leb 16 (s .rows) → Limit s k (take (countIn (form k)) N) b
+  pub limit-face : (b : Bool) → k ≡ Face → b ≡ ltb 63 (getD N 1 0) || leb 16 rows → Limit rows vertices indices k (take (countIn (form k)) N) b
   unfolding passesLimit form numbers countIn
   limit-face b e q =
       limit-as Face b e
       (record {
         is = λ x c.
-            q ∙ ap (λ (n : ℕ). ltb 63 n || leb 16 (s .rows)) (sym (getD-take 2 N 1 0 (omega arith)))
-            ∙ ap (λ (t : Bool). ltb 63 (getD (take 2 N) 1 0) || t) (times 5 16 (s .rows) (omega arith) ∙ ap (leb 80) (sym (c .table)));
+            q ∙ ap (λ (n : ℕ). ltb 63 n || leb 16 rows) (sym (getD-take 2 N 1 0 (omega arith)))
+            ∙ ap (λ (t : Bool). ltb 63 (getD (take 2 N) 1 0) || t) (times 5 16 rows (omega arith) ∙ ap (leb 80) (sym (c .table)));
       })
 
-  pub limit-fail : (b : Bool) → k ≡ Fail → b ≡ ltb 63 (getD N 1 0) || leb 16 (s .rows) → Limit s k (take (countIn (form k)) N) b
+  pub limit-fail : (b : Bool) → k ≡ Fail → b ≡ ltb 63 (getD N 1 0) || leb 16 rows → Limit rows vertices indices k (take (countIn (form k)) N) b
   unfolding passesLimit form numbers countIn
   limit-fail b e q =
       limit-as Fail b e
       (record {
         is = λ x c.
-            q ∙ ap (λ (n : ℕ). ltb 63 n || leb 16 (s .rows)) (sym (getD-take 3 N 1 0 (omega arith)))
-            ∙ ap (λ (t : Bool). ltb 63 (getD (take 3 N) 1 0) || t) (times 5 16 (s .rows) (omega arith) ∙ ap (leb 80) (sym (c .table)));
+            q ∙ ap (λ (n : ℕ). ltb 63 n || leb 16 rows) (sym (getD-take 3 N 1 0 (omega arith)))
+            ∙ ap (λ (t : Bool). ltb 63 (getD (take 3 N) 1 0) || t) (times 5 16 rows (omega arith) ∙ ap (leb 80) (sym (c .table)));
       })
 
-  pub limit-vertex : k ≡ Vertex → Limit s k (take (countIn (form k)) N) (leb 96 (s .vertices))
+  pub limit-vertex : k ≡ Vertex → Limit rows vertices indices k (take (countIn (form k)) N) (leb 96 vertices)
   unfolding passesLimit
-  limit-vertex e = limit-as Vertex (leb 96 (s .vertices)) e (record { is = λ x c. times 3 96 (s .vertices) (omega arith) ∙ ap (leb 288) (sym (c .positions)) })
+  limit-vertex e = limit-as Vertex (leb 96 vertices) e (record { is = λ x c. times 3 96 vertices (omega arith) ∙ ap (leb 288) (sym (c .positions)) })
 
-  pub limit-triangle : k ≡ Triangle → Limit s k (take (countIn (form k)) N) (leb 96 (s .indices))
+  pub limit-triangle : k ≡ Triangle → Limit rows vertices indices k (take (countIn (form k)) N) (leb 96 indices)
   unfolding passesLimit
-  limit-triangle e = limit-as Triangle (leb 96 (s .indices)) e (record { is = λ x c. ap (leb 96) (sym (c .indices)) })
+  limit-triangle e = limit-as Triangle (leb 96 indices) e (record { is = λ x c. ap (leb 96) (sym (c .indices)) })
 
 -- ---- the refusal
 
@@ -146,46 +145,31 @@ refusal-is s k ns a b c p q r =
     ∙ ap (λ (x : Bool). of-tests a x (passesLimit k ns (s .sheet))) (sym q)
     ∙ ap (λ (x : Bool). of-tests a b x) (sym r)
 
-module _ (s : Reader) (k : Kind) (ns : List ℕ) (a : Bool) (p : a ≡ inOrder (s .place) k) where
-  pub refused-order : not a ≡ true → Refusal s k ns 51
+module _ (place rows vertices indices : ℕ) (k : Kind) (ns : List ℕ) (a : Bool) (p : a ≡ inOrder place k) where
+  pub refused-order : not a ≡ true → Refusal place rows vertices indices k ns 51
   unfolding of-tests
   refused-order e =
       record {
-        is = λ x c.
-            let y : State = record { refusal = s .refusal; place = s .place; sheet = x } in
+        is = λ n x c.
+            let y : State = record { refusal = n; place = place; sheet = x } in
             sym (refusal-is y k ns a (failsWithZero k ns) (passesLimit k ns x) p refl refl ∙ ap (λ (b : Bool). of-tests b (failsWithZero k ns) (passesLimit k ns x)) (not-true a e));
       }
 
   module _ (o : not a ≡ false) (b : Bool) (q : b ≡ failsWithZero k ns) where
-    tests : (x : Patterns) (c : Bool) → c ≡ passesLimit k ns x → lineRefusal (record { kind = k; numbers = ns }) (record { refusal = s .refusal; place = s .place; sheet = x }) ≡ of-tests true b c
-    tests x c r =
-        let y : State = record { refusal = s .refusal; place = s .place; sheet = x } in
+    tests : (n : ℕ) (x : Patterns) (c : Bool) → c ≡ passesLimit k ns x → lineRefusal (record { kind = k; numbers = ns }) (record { refusal = n; place = place; sheet = x }) ≡ of-tests true b c
+    tests n x c r =
+        let y : State = record { refusal = n; place = place; sheet = x } in
         refusal-is y k ns a b c p q r ∙ ap (λ (z : Bool). of-tests z b c) (not-false a o)
 
-    pub refused-zero : b ≡ true → Refusal s k ns 51
+    pub refused-zero : b ≡ true → Refusal place rows vertices indices k ns 51
     unfolding of-tests
-    refused-zero e = record { is = λ x c. sym (tests x (passesLimit k ns x) refl ∙ ap (λ (z : Bool). of-tests true z (passesLimit k ns x)) e) }
+    refused-zero e = record { is = λ n x c. sym (tests n x (passesLimit k ns x) refl ∙ ap (λ (z : Bool). of-tests true z (passesLimit k ns x)) e) }
 
-    module _ (z : b ≡ false) (c : Bool) (v : Limit s k ns c) where
-      pub refused-limit : c ≡ true → Refusal s k ns 52
+    module _ (z : b ≡ false) (c : Bool) (v : Limit rows vertices indices k ns c) where
+      pub refused-limit : c ≡ true → Refusal place rows vertices indices k ns 52
       unfolding of-tests
-      refused-limit e = record { is = λ x h. sym (tests x c (v .is x h) ∙ ap (λ (y : Bool). of-tests true y c) z ∙ ap (λ (y : Bool). of-tests true false y) e) }
+      refused-limit e = record { is = λ n x h. sym (tests n x c (v .is x h) ∙ ap (λ (y : Bool). of-tests true y c) z ∙ ap (λ (y : Bool). of-tests true false y) e) }
 
-      pub not-refused : c ≡ false → Refusal s k ns 0
+      pub not-refused : c ≡ false → Refusal place rows vertices indices k ns 0
       unfolding of-tests
-      not-refused e = record { is = λ x h. sym (tests x c (v .is x h) ∙ ap (λ (y : Bool). of-tests true y c) z ∙ ap (λ (y : Bool). of-tests true false y) e) }
-
--- what a line that isn't refused has passed
-pub record Passed (l : Line) (s : State) : Type 0 where
-  pub order : inOrder (s .place) (l .kind) ≡ true
-  pub limit : passesLimit (l .kind) (l .numbers) (s .sheet) ≡ false
-
-pub passed : (l : Line) (s : State) → lineRefusal l s ≡ 0 → Passed l s
-unfolding of-tests
-passed l s e = go (inOrder (s .place) (l .kind)) refl (failsWithZero (l .kind) (l .numbers)) refl (passesLimit (l .kind) (l .numbers) (s .sheet)) refl
-  where
-    go : (a : Bool) → inOrder (s .place) (l .kind) ≡ a → (b : Bool) → failsWithZero (l .kind) (l .numbers) ≡ b → (c : Bool) → passesLimit (l .kind) (l .numbers) (s .sheet) ≡ c → Passed l s
-    go true p false q false r = record { order = p; limit = r }
-    go true p false q true r = absurd (omega (arith, sym (refusal-is s (l .kind) (l .numbers) true false true (sym p) (sym q) (sym r)) ∙ e))
-    go true p true q c r = absurd (omega (arith, sym (refusal-is s (l .kind) (l .numbers) true true c (sym p) (sym q) (sym r)) ∙ e))
-    go false p b q c r = absurd (omega (arith, sym (refusal-is s (l .kind) (l .numbers) false b c (sym p) (sym q) (sym r)) ∙ e))
+      not-refused e = record { is = λ n x h. sym (tests n x c (v .is x h) ∙ ap (λ (y : Bool). of-tests true y c) z ∙ ap (λ (y : Bool). of-tests true false y) e) }

@@ -11,7 +11,7 @@ use Rattle.digits.specs.ReadBack.{and-left, and-right}
 use lib.ListN.{length}
 use Rattle.lines.specs.Lengths.{line-length}
 use Rattle.lines.specs.Forms.{Line, lineOf}
-use Rattle.reader.specs.Reading.{State, refuse, readLine, finished, intoFirst, cut, readFrom}
+use Rattle.line_order.specs.Reading.{State, refuse, readLine, finished, intoFirst, cut, readFrom}
 
 -- ---- the text
 
