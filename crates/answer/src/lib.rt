@@ -1,8 +1,8 @@
 // What the program prints, written into a lent slice; what passes its end is left off.
 
-pub mod rows;
-pub mod text;
-pub mod whole;
+mod rows;
+mod text;
+mod whole;
 
 pub use whole::write_answer;
 pub use whole::write_refusal;

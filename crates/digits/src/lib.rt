@@ -1,7 +1,7 @@
 // Numbers as text: hex of a fixed length and decimal, read from and written into slices of bytes.
 
-pub mod reading;
-pub mod writing;
+mod reading;
+mod writing;
 
 pub use reading::Taken;
 pub use reading::missing;

@@ -3,9 +3,9 @@
 // A form is given as a text: `#` stands for a space and a decimal number, `*` for a space and 8 digits of hex, `$` for a space and 16, and any other
 // byte for itself.
 
-pub mod kinds;
-pub mod scanning;
-pub mod writing;
+mod kinds;
+mod scanning;
+mod writing;
 
 pub use kinds::Given;
 pub use kinds::line_of;

@@ -3,10 +3,10 @@
 // Floats are kept as their bits. The table has five numbers a row, positions and normals three a vertex; 64 faces have a material each, 0 for none
 // and n + 1 for material n.
 
-pub mod reading;
-pub mod room;
-pub mod storing;
-pub mod taking;
+mod reading;
+mod room;
+mod storing;
+mod taking;
 
 pub use reading::begin;
 pub use reading::end_sheet;
