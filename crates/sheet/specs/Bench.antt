@@ -1,11 +1,13 @@
 -- The bench program: text in, text out. Assumes nothing.
-use mathlib.Core.Bool.{Bool, true, false}
-use mathlib.Core.List.{List, [], _∷_, _++_}
+use mathlib.Core.Bool.{true, false}
+use mathlib.Core.List.{List, _++_}
 use Prim.Native.Nat.{ℕ}
 use lib.Dec.{eqb}
 use Rattle.finish.specs.Finish.{Outcome, Refused, Finished, finish}
-use Rattle.sheet.specs.Reading.{State, sheetOf}
-use Rattle.sheet.specs.Printing.{meshLines, countLines, refusalLine}
+use Rattle.line_order.specs.Reading.{sheetOf}
+use Rattle.sheet.specs.Meaning.{meant}
+use Rattle.sheet.specs.Printing.{meshLines, countLines}
+use Rattle.answer.specs.Answer.{refusalLine}
 
 -- what is printed of the three calls: a refusal prints only its number
 unfoldable pub printed : Outcome → List ℕ
@@ -14,4 +16,4 @@ printed (Finished t s a) = meshLines a ++ countLines t s a
 
 -- the bench program: standard input's text to standard output's
 unfoldable pub bench : List ℕ → List ℕ
-bench text = let s = sheetOf text in elim (eqb (s .refusal) 0) [ true ↦ printed (finish (s .sheet)) | false ↦ refusalLine (s .refusal) ]
+bench text = let s = sheetOf text in elim (eqb (s .refusal) 0) [ true ↦ printed (finish (meant (s .sheet))) | false ↦ refusalLine (s .refusal) ]

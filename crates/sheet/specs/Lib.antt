@@ -1,13 +1,6 @@
-pub mod Bytes
-pub mod Digits
-pub mod Forms
-pub mod Reading
+pub mod Meaning
 pub mod Printing
 pub mod Parts
 pub mod Bench
-pub mod Laws
-pub mod Lengths
-pub mod Exact
-pub mod Counted
 pub mod Evaluation
 pub mod Claims

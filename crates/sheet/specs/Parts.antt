@@ -3,9 +3,8 @@ use mathlib.Core.List.{List, [], _∷_, _++_}
 use Prim.Native.Nat.{ℕ}
 use Rattle.floats.specs.Floats.{bits64}
 use Rattle.geometry.specs.declared.Vec3.{Vec3}
-use Rattle.geometry.specs.declared.Aabb.{Aabb}
-use Rattle.finish.specs.Finish.{Sheet}
-use Rattle.sheet.specs.Reading.{State}
+use Rattle.line_order.specs.Reading.{State}
+use Rattle.sheet.specs.Meaning.{meant}
 
 -- the corner of a box, as bits
 unfoldable pub corner : Vec3 → List ℕ
@@ -14,7 +13,7 @@ corner p = bits64 (p .x) ∷ bits64 (p .y) ∷ bits64 (p .z) ∷ []
 -- refusal and place; box, sag and default; materials, table, positions, normals, indices
 unfoldable pub stateNumbers : State → List ℕ
 stateNumbers s =
-    let x = s .sheet in
+    let x = meant (s .sheet) in
     (s .refusal ∷ s .place ∷ [])
     ++ corner (x .box .min)
     ++ corner (x .box .max)

@@ -1,142 +1,38 @@
--- What the program prints: the mesh, or only the refusal. Assumes nothing.
-use mathlib.Core.Bool.{Bool, true, false, cond}
-use mathlib.Core.List.{List, [], _∷_, _++_, map}
-use Prim.Native.Nat.{ℕ, zero, suc, _+_, _*_}
-use lib.ListN.{take}
-use lib.Dec.{ltb, eqb}
-use Rattle.floats.specs.Floats.{bits32}
+-- What the program prints of what the calls give. Assumes nothing.
+use mathlib.Core.List.{List}
+use Prim.Native.Nat.{ℕ}
+use Rattle.answer.specs.declared.Sizes.{Sizes}
+use Rattle.answer.specs.declared.Tallies.{Tallies}
+use Rattle.answer.specs.Answer.{countText, meshText}
 use Rattle.orient.specs.Orient.{AfterTurn}
 use Rattle.stitch.specs.Stitch.{AfterStitch}
-use Rattle.acceptance.specs.Acceptance.{failureWidth}
-use Rattle.mesh.specs.Mesh.{partWidth, rangeWidth, Vertices}
+use Rattle.mesh.specs.Mesh.{Vertices}
 use Rattle.assemble.specs.Assemble.{AfterAssemble}
-use Rattle.sheet.specs.Bytes.{bytes}
-use Rattle.sheet.specs.Forms.{Piece, Word, Bits, Number, print, numbers, vertexForm, triangleForm}
 
--- ---- the forms that are printed only
+-- how much assemble wrote
+abbrev pub sizesOf : AfterAssemble → Sizes
+sizesOf a = record { vertices = a .vertices; indices = a .indices; parts = a .parts; ranges = a .ranges; failures = a .failures }
 
--- mesh: vertices, indices
-abbrev pub meshForm : List Piece
-meshForm = Word (bytes "(mesh") ∷ numbers 2
-
--- part: material, start, count
-abbrev pub partForm : List Piece
-partForm = Word (bytes "(part") ∷ numbers 3
-
--- range: face, first index, one past the last
-abbrev pub rangeForm : List Piece
-rangeForm = Word (bytes "(range") ∷ numbers 3
-
--- turned rows
-abbrev pub turnedForm : List Piece
-turnedForm = Word (bytes "(turned") ∷ numbers 1
-
--- how often a contradicting pair was met
-abbrev pub againstForm : List Piece
-againstForm = Word (bytes "(against") ∷ numbers 1
-
--- splits
-abbrev pub splitForm : List Piece
-splitForm = Word (bytes "(split") ∷ numbers 1
-
--- accepted rows
-abbrev pub okForm : List Piece
-okForm = Word (bytes "(ok") ∷ numbers 1
-
--- edges of the mesh
-abbrev pub edgesForm : List Piece
-edgesForm = Word (bytes "(edges") ∷ numbers 1
-
--- edges of one use
-abbrev pub openForm : List Piece
-openForm = Word (bytes "(open") ∷ numbers 1
-
--- edges of more than two uses
-abbrev pub overForm : List Piece
-overForm = Word (bytes "(over") ∷ numbers 1
-
--- 1 if closed, else 0
-abbrev pub closedForm : List Piece
-closedForm = Word (bytes "(closed") ∷ numbers 1
-
--- the number of a refusal
-abbrev pub refusedForm : List Piece
-refusedForm = Word (bytes "(refused") ∷ numbers 1
-
--- a failure without triangles: its face
-abbrev pub emptyForm : List Piece
-emptyForm = Word (bytes "(failed") ∷ Number ∷ Word (bytes " (empty))") ∷ []
-
--- an upstream failure: its face and number
-abbrev pub upstreamForm : List Piece
-upstreamForm = Word (bytes "(failed") ∷ Number ∷ Word (bytes " (upstream") ∷ Number ∷ Word (bytes "))") ∷ []
-
--- an escape: its face, the bits of reach and span
-abbrev pub escapeForm : List Piece
-escapeForm = Word (bytes "(failed") ∷ Number ∷ Word (bytes " (escape") ∷ Bits 16 ∷ Bits 16 ∷ Word (bytes "))") ∷ []
-
--- a line with its LF
-unfoldable pub line : List Piece → List ℕ → List ℕ
-line form ns = print form ns ++ 10 ∷ []
-
--- a line for every three numbers
-unfoldable pub threes : List Piece → List ℕ → List ℕ
-threes form [] = []
-threes form (a ∷ []) = []
-threes form (a ∷ b ∷ []) = []
-threes form (a ∷ b ∷ c ∷ ns) = line form (a ∷ b ∷ c ∷ []) ++ threes form ns
-
--- a line for every vertex: three bit patterns of its position, three of its normal
-unfoldable pub vertexLines : List ℕ → List ℕ → List ℕ
-vertexLines [] ns = []
-vertexLines (x ∷ []) ns = []
-vertexLines (x ∷ y ∷ []) ns = []
-vertexLines (x ∷ y ∷ z ∷ ps) [] = []
-vertexLines (x ∷ y ∷ z ∷ ps) (a ∷ []) = []
-vertexLines (x ∷ y ∷ z ∷ ps) (a ∷ b ∷ []) = []
-vertexLines (x ∷ y ∷ z ∷ ps) (a ∷ b ∷ c ∷ ns) = line vertexForm (x ∷ y ∷ z ∷ a ∷ b ∷ c ∷ []) ++ vertexLines ps ns
-
--- a failure: its face; its case, 0 for empty, 256 for an escape, else upstream; the bits of reach and span
-unfoldable pub failureLine : ℕ → ℕ → ℕ → ℕ → List ℕ
-failureLine face n reach span = elim (eqb n 0) [
-  | true ↦ line emptyForm (face ∷ [])
-  | false ↦ elim (eqb n 256) [
-    | true ↦ line escapeForm (face ∷ reach ∷ span ∷ [])
-    | false ↦ line upstreamForm (face ∷ n ∷ [])
-  ]
-]
-
--- a line for every failure
-unfoldable pub failureLines : List ℕ → List ℕ
-failureLines [] = []
-failureLines (f ∷ []) = []
-failureLines (f ∷ n ∷ []) = []
-failureLines (f ∷ n ∷ r ∷ []) = []
-failureLines (f ∷ n ∷ r ∷ s ∷ rest) = failureLine f n r s ++ failureLines rest
-
--- the mesh: its size, vertices, parts, triangles, ranges, and failures after the ranges
+-- the mesh
 unfoldable pub meshLines : AfterAssemble → List ℕ
 meshLines a =
     let out = a .slices in
-    line meshForm (a .vertices ∷ a .indices ∷ [])
-    ++ vertexLines (map bits32 (take (3 * a .vertices) (out .vertices .positions))) (map bits32 (take (3 * a .vertices) (out .vertices .normals)))
-    ++ threes partForm (take (partWidth * a .parts) (out .parts))
-    ++ threes triangleForm (take (a .indices) (out .indices))
-    ++ threes rangeForm (take (rangeWidth * a .ranges) (out .ranges))
-    ++ failureLines (take (failureWidth * a .failures) (out .failures))
+    meshText (sizesOf a) (out .vertices .positions) (out .vertices .normals) (out .indices) (out .parts) (out .ranges) (out .failures)
 
--- the counts, in the order of the paper's example; ok is the number of accepted rows
+-- what was counted; ok is the number of accepted rows, each of which has a range
+abbrev pub talliesOf : AfterTurn → AfterStitch → AfterAssemble → Tallies
+talliesOf t s a =
+    record {
+      turned = t .turned;
+      against = t .against;
+      split = s .splits;
+      ok = a .ranges;
+      edges = a .counts .edges;
+      single = a .counts .openEdges;
+      over = a .counts .overEdges;
+      closed = a .closed;
+    }
+
+-- the counts
 unfoldable pub countLines : AfterTurn → AfterStitch → AfterAssemble → List ℕ
-countLines t s a =
-    line turnedForm (t .turned ∷ [])
-    ++ line againstForm (t .against ∷ [])
-    ++ line splitForm (s .splits ∷ [])
-    ++ line okForm (a .ranges ∷ [])
-    ++ line edgesForm (a .counts .edges ∷ [])
-    ++ line openForm (a .counts .openEdges ∷ [])
-    ++ line overForm (a .counts .overEdges ∷ [])
-    ++ line closedForm (cond (a .closed) 1 0 ∷ [])
-
--- A refusal prints only `(refused n)`.
-unfoldable pub refusalLine : ℕ → List ℕ
-refusalLine n = line refusedForm (n ∷ [])
+countLines t s a = countText (talliesOf t s a)

@@ -2,7 +2,7 @@
 use mathlib.Core.List.{List, [], _∷_, _++_}
 use mathlib.Core.Path.{_≡_, refl}
 use Prim.Native.Nat.{ℕ}
-use Rattle.sheet.specs.Bytes.{bytes, lines}
+use Rattle.digits.specs.Bytes.{bytes, lines}
 use Rattle.sheet.specs.Bench.{bench}
 use Rattle.sheet.specs.Evaluation.{evaluation}
 

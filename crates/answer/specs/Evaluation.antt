@@ -1,0 +1,10 @@
+-- A claim that says `unfolding evaluation` has every definition of this crate and of those below it computed. Assumes nothing.
+use Prim.Native.Nat.{ℕ}
+use Rattle.floats.specs.Evaluation as Floats
+use Rattle.lines.specs.Evaluation as Lines
+use Rattle.answer.specs.Answer.{threes, vertexLines, failureLine, failureLines, meshText, countText, refusalLine}
+
+-- every definition that computes
+unfoldable pub evaluation : ℕ
+unfolding Floats.evaluation Lines.evaluation threes vertexLines failureLine failureLines meshText countText refusalLine
+evaluation = 0

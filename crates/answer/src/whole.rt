@@ -1,0 +1,45 @@
+// All that is printed.
+
+use crate::Sizes;
+use crate::Tallies;
+use crate::text::put_count;
+use crate::text::put_counts;
+use crate::text::put_mesh;
+ghost use mathlib.Core.List.{_++_};
+ghost use mathlib.Core.Path.{_≡_};
+ghost use Rattle.answer.specs.Answer.{Written, countText, meshText, refusalLine};
+
+// The mesh and the counts, cut off where `out` ends; answers how many bytes were written.
+pub fn write_answer(
+    out: &mut [u8],
+    z: Sizes,
+    t: Tallies,
+    positions: &[f32],
+    normals: &[f32],
+    indices: &[u32],
+    parts: &[u32],
+    ranges: &[u32],
+    failures: &[u64],
+) -> usize
+    ensures { λ r. ⌜ Written (now (out .entry)) (meshText z (now (positions .entry)) (now (normals .entry)) (now (indices .entry)) (now (parts .entry)) (now (ranges .entry)) (now (failures .entry)) ++ countText t) (now (out .exit)) r ⌝ }
+{
+    let next = put_mesh(
+        out,
+        0,
+        z,
+        positions,
+        normals,
+        indices,
+        parts,
+        ranges,
+        failures,
+    );
+    put_counts(out, next, t)
+}
+
+// The line of a refusal, cut off where `out` ends; answers how many bytes were written.
+pub fn write_refusal(out: &mut [u8], n: u32) -> usize
+    ensures { λ r. ⌜ Written (now (out .entry)) (refusalLine n) (now (out .exit)) r ⌝ }
+{
+    put_count(out, 0, b"(refused#)", n as u64)
+}

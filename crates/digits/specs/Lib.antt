@@ -1,0 +1,8 @@
+pub mod Bytes
+pub mod Digits
+pub mod ReadBack
+pub mod Lengths
+pub mod Exact
+pub mod Given
+pub mod Wrote
+pub mod Evaluation

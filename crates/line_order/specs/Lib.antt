@@ -1,0 +1,5 @@
+pub mod Reading
+pub mod Refusals
+pub mod Laws
+pub mod Evaluation
+pub mod Claims

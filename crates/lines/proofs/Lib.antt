@@ -1,0 +1,5 @@
+-- The laws that the proofs of this crate cite.
+mod PieceLaws
+mod ScanLaws
+mod KindLaws
+mod WriteLaws

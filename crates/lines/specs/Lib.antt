@@ -1,0 +1,8 @@
+pub mod Forms
+pub mod Counted
+pub mod Pattern
+pub mod Scan
+pub mod ReadBack
+pub mod Lengths
+pub mod Exact
+pub mod Evaluation

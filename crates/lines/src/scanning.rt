@@ -1,0 +1,117 @@
+// A line read by a form.
+
+use digits::Taken;
+use digits::missing;
+use digits::read_decimal;
+use digits::read_hex;
+ghost use mathlib.Core.Path.{_≡_};
+ghost use Prim.Native.Nat.{_+_, _<_, _≤_};
+ghost use lib.ListN.{length, drop};
+ghost use Rattle.digits.specs.Digits.{readDecimal, readHex};
+ghost use Rattle.lines.specs.Forms.{spaced};
+ghost use Rattle.lines.specs.Counted.{countIn};
+ghost use Rattle.lines.specs.Pattern.{piece, pieces, readByte, readPiece};
+ghost use Rattle.lines.specs.Scan.{Numbers, PieceTaken, Scanned};
+
+// How many numbers a byte of a form stands for.
+pub fn numbers_of(p: u8) -> usize
+    ensures { λ r. ⌜ Numbers p r ⌝ }
+{
+    if p == 35 {
+        return 1;
+    }
+    if p == 36 {
+        return 1;
+    }
+    if p == 42 {
+        return 1;
+    }
+    0
+}
+
+// The byte p at a place.
+fn byte_at(line: &[u8], at: usize, p: u8) -> Taken
+    requires { ⌜ at ≤ length (now line) ⌝ }
+    ensures { λ r. ⌜ PieceTaken (now (line .entry)) (readByte p (drop at (now (line .entry)))) r ⌝ }
+{
+    if line.len() <= at {
+        return missing(at);
+    }
+    if line[at] != p {
+        return missing(at);
+    }
+    Taken {
+        ok: true,
+        value: 0,
+        next: at + 1,
+    }
+}
+
+// A space and a decimal number at a place.
+fn decimal_at(line: &[u8], at: usize) -> Taken
+    requires { ⌜ at ≤ length (now line) ⌝ }
+    ensures { λ r. ⌜ PieceTaken (now (line .entry)) (spaced readDecimal (drop at (now (line .entry)))) r ⌝ }
+{
+    if line.len() <= at {
+        return missing(at);
+    }
+    if line[at] != 32 {
+        return missing(at);
+    }
+    read_decimal(line, at + 1)
+}
+
+// A space and k digits of hex at a place.
+fn hex_at(line: &[u8], at: usize, k: usize) -> Taken
+    requires { ⌜ at ≤ length (now line) ⌝ }
+    requires { ⌜ k ≤ 16 ⌝ }
+    ensures { λ r. ⌜ PieceTaken (now (line .entry)) (spaced (readHex k) (drop at (now (line .entry)))) r ⌝ }
+{
+    if line.len() <= at {
+        return missing(at);
+    }
+    if line[at] != 32 {
+        return missing(at);
+    }
+    read_hex(line, at + 1, k)
+}
+
+// What a byte of a form stands for, at a place.
+fn piece_at(line: &[u8], at: usize, p: u8) -> Taken
+    requires { ⌜ at ≤ length (now line) ⌝ }
+    ensures { λ r. ⌜ PieceTaken (now (line .entry)) (readPiece (piece p) (drop at (now (line .entry)))) r ⌝ }
+{
+    if p == 35 {
+        return decimal_at(line, at);
+    }
+    if p == 36 {
+        return hex_at(line, at, 16);
+    }
+    if p == 42 {
+        return hex_at(line, at, 8);
+    }
+    byte_at(line, at, p)
+}
+
+// Whether a line has a form, and its numbers in front of `numbers`, which is longer than there are.
+pub fn scan(line: &[u8], form: &[u8], numbers: &mut [u64]) -> bool
+    requires { ⌜ countIn (pieces (now form)) < length (now numbers) ⌝ }
+    ensures { λ r. ⌜ Scanned (pieces (now (form .entry))) (now (line .entry)) (now (numbers .exit)) r ⌝ }
+{
+    let mut at: usize = 0;
+    let mut count: usize = 0;
+    let mut i: usize = 0;
+    while i < form.len() {
+        let p = form[i];
+        let t = piece_at(line, at, p);
+        if !t.ok {
+            return false;
+        }
+        let n = numbers_of(p);
+        numbers[count] = t.value;
+        count += n;
+        at = t.next;
+        i += 1;
+    }
+    at == line.len()
+}

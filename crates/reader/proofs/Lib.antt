@@ -1,0 +1,5 @@
+-- The laws that the proofs of this crate cite.
+mod RoomLaws
+mod StoreLaws
+mod TakeLaws
+mod LineLaws
