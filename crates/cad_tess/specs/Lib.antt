@@ -1,3 +1,4 @@
 pub mod Answers
 pub mod Turning
 pub mod Stitching
+pub mod Assembling

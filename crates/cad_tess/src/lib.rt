@@ -1,11 +1,13 @@
 // The library's calls for C: each is a proved function under its C name, its answer a struct with the refusal first.
 
+mod assembling;
 mod keys;
 mod patch;
 mod steps;
 mod stitching;
 mod turning;
 
+pub use assembling::cad_assemble;
 pub use keys::cad_cell;
 pub use keys::cad_key;
 pub use patch::cad_escapes_body;

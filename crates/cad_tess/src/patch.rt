@@ -24,7 +24,7 @@ pub struct CadJudged {
 }
 
 // The box with these corners.
-fn box_of(x0: f64, y0: f64, z0: f64, x1: f64, y1: f64, z1: f64) -> Aabb
+pub fn box_of(x0: f64, y0: f64, z0: f64, x1: f64, y1: f64, z1: f64) -> Aabb
     ensures { λ r. ⌜ r ≡ boxOf x0 y0 z0 x1 y1 z1 ⌝ }
 {
     Aabb {

@@ -1,5 +1,6 @@
 //! Times the library's stages beside the unchanged Rust's, in one process, on the same bodies, in turn.
 
+mod assemble;
 mod bodies;
 mod race;
 mod stitch;
@@ -10,7 +11,8 @@ use driver::command::fail;
 use driver::sheet::Sheet;
 use race::Times;
 
-const USAGE: &str = "usage: bench [STAGE]   a table of each stage, or of one: turn, turn-new-work, stitch, stitch-new-slices";
+const USAGE: &str = "usage: bench [STAGE]   a table of each stage, or of one: turn, turn-new-work, stitch, stitch-new-slices,
+       assemble, assemble-new-slices, assemble-materials, assemble-materials-new-slices";
 
 /// A stage's name, the bodies it is timed on, and how both sides are timed on a body, so many rounds.
 type Stage = (&'static str, fn() -> Vec<Body>, fn(&Sheet, usize) -> Times);
@@ -20,6 +22,10 @@ const STAGES: &[Stage] = &[
     ("turn-new-work", closed_and_open, turn::times_with_new_work),
     ("stitch", with_open_edges, stitch::times),
     ("stitch-new-slices", with_open_edges, stitch::times_with_new_slices),
+    ("assemble", closed_and_open, assemble::times),
+    ("assemble-new-slices", closed_and_open, assemble::times_with_new_slices),
+    ("assemble-materials", closed_and_open, assemble::times_with_materials),
+    ("assemble-materials-new-slices", closed_and_open, assemble::times_with_materials_and_new_slices),
 ];
 
 /// A number with a comma before every three digits.

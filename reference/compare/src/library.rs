@@ -34,8 +34,23 @@ pub struct Stitched {
     pub splits: u64,
 }
 
+#[repr(C)]
+#[derive(Debug, Clone, Copy, PartialEq, Default)]
+pub struct Assembled {
+    pub refusal: u32,
+    pub vertices: u32,
+    pub indices: u32,
+    pub parts: u32,
+    pub ranges: u32,
+    pub failures: u32,
+    pub edges: u64,
+    pub opens: u64,
+    pub overs: u64,
+    pub closed: u32,
+}
+
 mod raw {
-    use super::{Judged, Measured, Stitched, Turned};
+    use super::{Assembled, Judged, Measured, Stitched, Turned};
 
     #[rustfmt::skip]
     unsafe extern "C" {
@@ -51,6 +66,7 @@ mod raw {
         pub fn cad_escapes_body(p: *const f32, pn: usize, n: *const f32, nn: usize, i: *const u32, ni: usize, x0: f64, y0: f64, z0: f64, x1: f64, y1: f64, z1: f64) -> Judged;
         pub fn cad_turn(rows: *const u32, rows_len: usize, p: *const f32, pn: usize, n: *mut f32, nn: usize, i: *mut u32, ni: usize, work: *mut u64, work_len: usize) -> Turned;
         pub fn cad_stitch(rows: *const u32, rows_len: usize, p: *const f32, pn: usize, n: *const f32, nn: usize, i: *const u32, ni: usize, sag: f64, out_rows: *mut u32, out_rows_len: usize, op: *mut f32, opn: usize, on: *mut f32, onn: usize, oi: *mut u32, oin: usize, work: *mut u64, work_len: usize) -> Stitched;
+        pub fn cad_assemble(rows: *const u32, rows_len: usize, p: *const f32, pn: usize, n: *const f32, nn: usize, i: *const u32, ni: usize, x0: f64, y0: f64, z0: f64, x1: f64, y1: f64, z1: f64, materials: *const u64, materials_len: usize, default: u64, mp: *mut f32, mpn: usize, mn: *mut f32, mnn: usize, mi: *mut u32, min: usize, parts: *mut u32, parts_len: usize, ranges: *mut u32, ranges_len: usize, failures: *mut u64, failures_len: usize, work: *mut u64, work_len: usize) -> Assembled;
     }
 }
 
@@ -151,6 +167,66 @@ pub fn stitch(body: &Flat, sag: f64, out: &mut Flat, work: &mut [u64]) -> Stitch
             out.normals.len(),
             out.indices.as_mut_ptr(),
             out.indices.len(),
+            work.as_mut_ptr(),
+            work.len(),
+        )
+    }
+}
+
+/// The slices that assembling writes: three numbers a vertex, a part and a range, four a failure.
+#[derive(Debug, Clone, Default)]
+pub struct Mesh {
+    pub positions: Vec<f32>,
+    pub normals: Vec<f32>,
+    pub indices: Vec<u32>,
+    pub parts: Vec<u32>,
+    pub ranges: Vec<u32>,
+    pub failures: Vec<u64>,
+}
+
+/// What assembling takes besides a body: the box, an entry for each face number, and the default; 0 is none, n + 1 is material n.
+#[derive(Debug, Clone)]
+pub struct Setting {
+    pub reference: Aabb,
+    pub materials: Vec<u64>,
+    pub default: u64,
+}
+
+/// A body laid into a mesh, with its edges counted.
+pub fn assemble(body: &Flat, setting: &Setting, mesh: &mut Mesh, work: &mut [u64]) -> Assembled {
+    let (rows, p, n, i) = (&body.rows, &body.positions, &body.normals, &body.indices);
+    let (a, c) = (setting.reference.min, setting.reference.max);
+    unsafe {
+        raw::cad_assemble(
+            rows.as_ptr(),
+            rows.len(),
+            p.as_ptr(),
+            p.len(),
+            n.as_ptr(),
+            n.len(),
+            i.as_ptr(),
+            i.len(),
+            a.x,
+            a.y,
+            a.z,
+            c.x,
+            c.y,
+            c.z,
+            setting.materials.as_ptr(),
+            setting.materials.len(),
+            setting.default,
+            mesh.positions.as_mut_ptr(),
+            mesh.positions.len(),
+            mesh.normals.as_mut_ptr(),
+            mesh.normals.len(),
+            mesh.indices.as_mut_ptr(),
+            mesh.indices.len(),
+            mesh.parts.as_mut_ptr(),
+            mesh.parts.len(),
+            mesh.ranges.as_mut_ptr(),
+            mesh.ranges.len(),
+            mesh.failures.as_mut_ptr(),
+            mesh.failures.len(),
             work.as_mut_ptr(),
             work.len(),
         )

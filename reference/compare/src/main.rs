@@ -1,6 +1,7 @@
-//! Holds the proved library against the unchanged Rust on generated bodies: turning and stitching with their refusals, each patch
-//! alone, and the float steps against the processor's own.
+//! Holds the proved library against the unchanged Rust on generated bodies: turning, stitching and assembling with their refusals,
+//! each patch alone, and the float steps against the processor's own.
 
+mod assembling;
 mod faults;
 mod patches;
 mod refusals;
@@ -56,7 +57,8 @@ fn compared(sheet: &Sheet, seed: u64) -> Result<Compared, String> {
     let stitched = stitching::compared(sheet, r)?;
     patches::differ(sheet, r).map_or(Ok(()), Err)?;
     let refusals = refusals::refusals(sheet, r)?;
-    Ok(Compared { stitched, refusals })
+    let assembled = assembling::compared(sheet, seed)?;
+    Ok(Compared { stitched, assembled, refusals })
 }
 
 /// Say where a body differs, with the smallest such body as a sheet if it is one, and end.

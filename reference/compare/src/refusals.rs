@@ -1,7 +1,7 @@
 //! Broken bodies, which every call refuses with the number of the first check that fails.
 
 use crate::faults::{FAULTS, Fault, broken};
-use crate::{stitching, turning};
+use crate::{assembling, stitching, turning};
 use driver::check::refusal;
 use driver::flat::Flat;
 use driver::random::Random;
@@ -13,7 +13,9 @@ fn refused(body: &Flat, faults: &[&Fault], r: &mut Random) -> Result<bool, Strin
     let number = refusal(&before, words);
     let first = faults.iter().map(|f| f.number).min();
     assert_eq!(Some(number), first, "the first check that faults fail decides: {}", names(faults));
-    let what = turning::refused(&before, words, number, r).or_else(|| stitching::refused(&before, words, number, r));
+    let what = turning::refused(&before, words, number, r)
+        .or_else(|| stitching::refused(&before, words, number, r))
+        .or_else(|| assembling::refused(&before, words, number, r));
     what.map_or(Ok(true), |what| Err(format!("{}: {what}", names(faults))))
 }
 

@@ -22,7 +22,8 @@ pub fn flat_of(faces: &Faces, sheet: &Sheet) -> Flat {
     body
 }
 
-fn unlike_at<T: std::fmt::LowerHex>(name: &str, want: impl Iterator<Item = T>, got: impl Iterator<Item = T>) -> Option<String>
+/// The first place where two lists of one length differ, the right one first.
+pub fn unlike_at<T: std::fmt::LowerHex>(name: &str, want: impl Iterator<Item = T>, got: impl Iterator<Item = T>) -> Option<String>
 where
     T: PartialEq,
 {

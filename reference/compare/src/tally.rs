@@ -1,5 +1,6 @@
 //! What has been compared so far.
 
+use crate::assembling;
 use crate::stitching::Held;
 use driver::sheet::Sheet;
 use std::io::IsTerminal;
@@ -9,6 +10,7 @@ use std::time::{Duration, Instant};
 #[derive(Debug)]
 pub struct Compared {
     pub stitched: Held,
+    pub assembled: assembling::Tally,
     pub refusals: u64,
 }
 
@@ -26,6 +28,7 @@ pub struct Tally {
     /// Bodies with a sag that were only copied: too open, and outside document 01's condition.
     open: u64,
     outside: u64,
+    assembled: assembling::Tally,
     /// Bodies made by hand.
     pub worst: u64,
     shown: Option<Instant>,
@@ -36,6 +39,7 @@ impl Tally {
         self.bodies += 1;
         self.rows += sheet.rows.len() as u64;
         self.refusals += compared.refusals;
+        self.assembled.add(&compared.assembled);
         self.triangles = self.triangles.max(sheet.indices() / 3);
         match compared.stitched {
             Held::NoSag => {}
@@ -66,9 +70,10 @@ impl Tally {
     /// All counts in one line.
     pub fn said(&self) -> String {
         let Tally { bodies, rows, refusals, steps, triangles, stitched, split, splits, open, outside, worst, .. } = self;
+        let assembled = self.assembled.said();
         format!(
             "{worst} bodies made by hand, {bodies} of up to {triangles} triangles, {rows} rows; {stitched} stitched with their own sag, {split} of them split, \
-             {splits} splits ({outside} more outside the condition, {open} too open); {refusals} refusals, {steps} float steps"
+             {splits} splits ({outside} more outside the condition, {open} too open); {assembled}; {refusals} refusals, {steps} float steps"
         )
     }
 }

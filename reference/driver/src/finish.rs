@@ -6,6 +6,7 @@ use cad_ir::brep::{FaceId, Outcome, Solid};
 use cad_ir::math::{Aabb, Vec3};
 use cad_ir::record;
 use cad_ir::scene::MaterialId;
+use cad_tess::Report;
 use cad_tess::edge::take_printed;
 use cad_tess::face::{Patch, patch_of, probe};
 use cad_tess::options::Resolved;
@@ -83,7 +84,7 @@ pub fn faces_of(sheet: &Sheet) -> Vec<(usize, FaceId, Result<Patch, String>)> {
 }
 
 /// The materials by face that the source takes; a later line replaces.
-fn face_materials(sheet: &Sheet) -> Vec<Option<MaterialId>> {
+pub fn face_materials(sheet: &Sheet) -> Vec<Option<MaterialId>> {
     let mut materials = Vec::new();
     for (face, material) in &sheet.materials {
         let face = *face as usize;
@@ -134,6 +135,16 @@ fn is_reported(failure: &Failure, reason: &str) -> bool {
     }
 }
 
+/// The failures with their floats, held to the words of the source's report.
+pub fn reported_failures(faces: &[(usize, FaceId, Result<Patch, String>)], reference: &Aabb, report: &Report) -> Vec<(u32, Failure)> {
+    let failures = failures(faces, reference);
+    assert_eq!(failures.len(), report.failed.len(), "each reported failure is known");
+    for ((face, failure), reported) in failures.iter().zip(&report.failed) {
+        assert!(*face == reported.face.0 && is_reported(failure, &reported.reason), "row failures are the reported ones");
+    }
+    failures
+}
+
 /// The body finished, or refusal 33 where the stitched body passes the limits.
 pub fn finish(sheet: &Sheet) -> Result<Finished, Refusal> {
     watch();
@@ -159,11 +170,7 @@ pub fn finish(sheet: &Sheet) -> Result<Finished, Refusal> {
     let wind = numbers(&printed, "[wind] body: ", "flipped");
     assert_eq!(wind, [turned, against, splits], "the steps alone and the whole agree");
     let cracks = numbers(&printed, "[cracks] body: ", "open");
-    let failures = failures(&faces, &reference);
-    assert_eq!(failures.len(), report.failed.len(), "each reported failure is known");
-    for ((face, failure), reported) in failures.iter().zip(&report.failed) {
-        assert!(*face == reported.face.0 && is_reported(failure, &reported.reason), "row failures are the reported ones");
-    }
+    let failures = reported_failures(&faces, &reference, &report);
     assert_eq!(ranges.len(), report.faces_ok, "a range for each accepted row");
 
     Ok(Finished {

@@ -9,6 +9,7 @@ pub mod generate;
 pub mod print;
 pub mod random;
 pub mod sheet;
+pub mod tail;
 
 /// The source's own key and cell, cut out of it at build time.
 pub mod source {

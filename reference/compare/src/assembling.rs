@@ -1,0 +1,76 @@
+//! Assembling against the end of the unchanged Rust's `tessellate_solid`, and its refusals.
+
+mod cases;
+mod refusals;
+mod settings;
+mod slices;
+mod tally;
+
+use crate::work::Work;
+use cases::{Case, as_given, finished, outputs};
+use compare::library::{self, Assembled, Mesh, Setting};
+use driver::condition::open_triangles;
+use driver::flat::{Flat, ROW};
+use driver::random::Random;
+use driver::sheet::Sheet;
+use refusals::{is_small, refusals};
+use settings::varied;
+use slices::{unlike, written};
+
+pub use refusals::refused;
+pub use tally::Tally;
+
+/// Triangles with an open edge, at most, of a body that is stitched with its own sag: the time goes with their square.
+const MOST_OPEN: usize = 1000;
+
+/// What is wrong with a call: its answer, the outputs it leaves, or the work area of which it should clear some words.
+fn wrong(body: &Flat, setting: &Setting, outputs: &Mesh, mut work: Work, want: Assembled, left: &Mesh, cleared: usize) -> Option<String> {
+    let mut out = outputs.clone();
+    let got = library::assemble(body, setting, &mut out, &mut work.words);
+    let what = if got != want { Some(format!("{want:?}, not {got:?}")) } else { unlike(left, &out).or_else(|| work.wrong(cleared)) };
+    what.map(|what| format!("assemble: {what}; {}", shown(body, setting)))
+}
+
+/// A body's table and what it was assembled with, long lists cut short.
+fn shown(body: &Flat, setting: &Setting) -> String {
+    let (b, list) = (&setting.reference, &setting.materials);
+    let corners = [b.min.x, b.min.y, b.min.z, b.max.x, b.max.y, b.max.z].map(|c| format!("{:016X}", c.to_bits())).join(" ");
+    let (table, entries) = (&body.rows[..body.rows.len().min(8 * ROW)], &list[..list.len().min(8)]);
+    format!("table {table:?}, box {corners}, default {}, {} entries: {entries:?}", setting.default, list.len())
+}
+
+/// What is wrong with a body's mesh.
+fn differs(case: &Case, r: &mut Random) -> Option<String> {
+    let (outputs, cleared) = (outputs(case, r), case.body.words());
+    let work = Work::new(cleared + r.size(0, 5), r.next());
+    wrong(&case.body, &case.setting, &outputs, work, case.answer, &written(&case.mesh, &outputs), cleared)
+}
+
+/// The sheet, or one that splits nothing where stitching it would take long.
+fn stitchable(sheet: &Sheet) -> Sheet {
+    let long = f64::from_bits(sheet.sag) > 0.0 && open_triangles(sheet) > MOST_OPEN;
+    Sheet { sag: if long { 0 } else { sheet.sag }, ..sheet.clone() }
+}
+
+/// What was assembled of a body, or where it differs: finished by the Rust with its own box and materials and with others, and as it
+/// is given with others still; 41 and 42 are asked of a large body once. The random numbers are this part's own.
+pub fn compared(sheet: &Sheet, seed: u64) -> Result<Tally, String> {
+    let r = &mut Random::new(seed ^ 0xa55e_3b1e);
+    let sheet = &stitchable(sheet);
+    let (one, other) = (varied(sheet, r), varied(sheet, r));
+    let cases = [
+        finished("finished", sheet, r),
+        finished("finished, with rows and materials varied", &one, r),
+        Some(as_given("as given, with rows and materials varied", &other, r)),
+    ];
+    let mut tally = Tally::default();
+    for case in cases.into_iter().flatten() {
+        let named = |what| format!("{}: {what}", case.name);
+        differs(&case, r).map_or(Ok(()), Err).map_err(named)?;
+        tally.count(&case.answer);
+        if is_small(&case.body) || tally.refusals == 0 {
+            tally.refusals += refusals(&case, r).map_err(named)?;
+        }
+    }
+    Ok(tally)
+}
