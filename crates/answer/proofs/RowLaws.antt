@@ -7,21 +7,13 @@ use native.Mathlib.Omega.{arith}
 use borrow.Author.Tests.{eq-eqb, ne-eqb}
 use lib.Ieee.{Float, nan}
 use lib.ListN.{length, getD, take, drop, length-drop, length-map}
-use lib.Seq.{drop-cons, length-take-le, take-all}
+use lib.Seq.{drop-cons}
 use Rattle.floats.specs.Floats.{bits32}
 use Rattle.digits.specs.Given.{Wrote}
 use Rattle.digits.specs.Wrote.{wrote-none, wrote-then}
 use Rattle.lines.specs.Forms.{Piece, line, vertexForm}
 use Rattle.lines.specs.Pattern.{pieces}
 use Rattle.answer.specs.Answer.{cornerAt, threeAt, emptyForm, escapeForm, failureLine, failureLines, threes, upstreamForm, vertexLines}
-
--- ---- fronts
-module _ {A : Type 0} (n : ℕ) (s : List A) where
-  pub front-count : n ≤ length s → n ≡ length (take n s)
-  front-count h = sym (length-take-le n s h)
-
-  pub front-all : length s < n → s ≡ take n s
-  front-all h = sym (take-all n s (omega arith))
 
 -- ---- three and four items from a place on
 module _ {A : Type 0} (d : A) where

@@ -1,3 +1,4 @@
 pub mod Answer
 pub mod ReadBack
+pub mod Longest
 pub mod Evaluation

@@ -12,27 +12,6 @@ ghost use Rattle.lines.specs.Forms.{line, vertexForm};
 ghost use Rattle.lines.specs.Pattern.{pieces};
 ghost use Rattle.answer.specs.Answer.{cornerAt, failureLine, failureLines, threeAt, threes, vertexLines};
 
-// The first n numbers, or all there are.
-pub fn front(s: &[u32], n: usize) -> &[u32]
-    ensures { λ r. ⌜ now r ≡ take n (now (s .entry)) ⌝ }
-{
-    if n <= s.len() { &s[..n] } else { s }
-}
-
-// The first n long numbers, or all there are.
-pub fn front_long(s: &[u64], n: usize) -> &[u64]
-    ensures { λ r. ⌜ now r ≡ take n (now (s .entry)) ⌝ }
-{
-    if n <= s.len() { &s[..n] } else { s }
-}
-
-// The first n floats, or all there are.
-pub fn front_floats(s: &[f32], n: usize) -> &[f32]
-    ensures { λ r. ⌜ now r ≡ take n (now (s .entry)) ⌝ }
-{
-    if n <= s.len() { &s[..n] } else { s }
-}
-
 // The same number in 64 bits.
 fn wide(n: u32) -> u64
     ensures { λ r. ⌜ r ≡ n ⌝ }

@@ -2,12 +2,12 @@
 
 use crate::Sizes;
 use crate::Tallies;
-use crate::rows::front;
-use crate::rows::front_floats;
-use crate::rows::front_long;
 use crate::rows::put_failures;
 use crate::rows::put_threes;
 use crate::rows::put_vertices;
+use fronts::front;
+use fronts::front_floats;
+use fronts::front_long;
 use lines::put_line;
 ghost use mathlib.Core.Bool.{cond};
 ghost use mathlib.Core.List.{_++_, _∷_, []};

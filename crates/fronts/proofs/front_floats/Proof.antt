@@ -1,8 +1,8 @@
 -- `front_floats` meets its contract. Assumes nothing.
-use Rattle.answer.proofs.RowLaws.{front-all, front-count}
+use Rattle.fronts.specs.FrontLaws.{front-all, front-count}
 use borrow.Author.Needs.{needs}
-use Rattle.answer.proofs.rows.front_floats.Statement.{statement}
-use Rattle.answer.proofs.rows.front_floats.Tie as tie
+use Rattle.fronts.proofs.front_floats.Statement.{statement}
+use Rattle.fronts.proofs.front_floats.Tie as tie
 
 slice-aggregate-result : tie.Need-slice-aggregate-result
 slice-aggregate-result c = search (needs, front-count)

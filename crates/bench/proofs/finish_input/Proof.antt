@@ -1,0 +1,90 @@
+-- `finish_input` writes what the program is to print of what was fed. Assumes nothing.
+use Prim.Native.Nat.{ℕ}
+use native.Mathlib.Omega.{arith}
+use lib.ListN.{replicate, length-replicate}
+use Rattle.feeding.specs.FeedingLaws.{fed-answered, fed-begin}
+use Rattle.finisher.specs.Whole.{told-count}
+use borrow.Author.Needs.{needs}
+use Rattle.bench.proofs.finish_input.Statement.{statement}
+use Rattle.bench.proofs.finish_input.Tie as tie
+
+slice-aggregate-begin : tie.Need-slice-aggregate-begin
+slice-aggregate-begin c = search needs
+
+begin-requires : tie.Need-begin-requires
+begin-requires c κs = search needs
+
+slice-aggregate-read-all : tie.Need-slice-aggregate-read-all
+slice-aggregate-read-all c = search needs
+
+slice-aggregate-read-all-2 : tie.Need-slice-aggregate-read-all-2
+slice-aggregate-read-all-2 c = search needs
+
+slice-aggregate-read-all-3 : tie.Need-slice-aggregate-read-all-3
+slice-aggregate-read-all-3 c = search needs
+
+slice-aggregate-read-all-4 : tie.Need-slice-aggregate-read-all-4
+slice-aggregate-read-all-4 c = search needs
+
+slice-aggregate-read-all-5 : tie.Need-slice-aggregate-read-all-5
+slice-aggregate-read-all-5 c = search needs
+
+slice-aggregate-read-all-6 : tie.Need-slice-aggregate-read-all-6
+slice-aggregate-read-all-6 c = search needs
+
+read-all-requires : tie.Need-read-all-requires
+read-all-requires c κs = search needs
+
+slice-aggregate-end-text : tie.Need-slice-aggregate-end-text
+slice-aggregate-end-text c = search needs
+
+end-text-requires : tie.Need-end-text-requires
+end-text-requires c κs = search needs
+
+slice-aggregate-answer-sheet : tie.Need-slice-aggregate-answer-sheet
+slice-aggregate-answer-sheet c = search needs
+
+slice-aggregate-answer-sheet-2 : tie.Need-slice-aggregate-answer-sheet-2
+slice-aggregate-answer-sheet-2 c = search needs
+
+slice-aggregate-answer-sheet-3 : tie.Need-slice-aggregate-answer-sheet-3
+slice-aggregate-answer-sheet-3 c = search needs
+
+slice-aggregate-answer-sheet-4 : tie.Need-slice-aggregate-answer-sheet-4
+slice-aggregate-answer-sheet-4 c = search needs
+
+slice-aggregate-answer-sheet-5 : tie.Need-slice-aggregate-answer-sheet-5
+slice-aggregate-answer-sheet-5 c = search needs
+
+answer-sheet-requires : tie.Need-answer-sheet-requires
+answer-sheet-requires c κs = search needs
+
+same-length : tie.Need-same-length
+same-length c = search needs
+
+returns : tie.Need-returns
+returns c = (fed-answered _ _ _ _ _ _ _ _ _ _ _ _ _ _ _ _ _ _ (fed-begin (replicate 108 0) (replicate 80 0) (replicate 288 0) (replicate 288 0) (replicate 96 0) (replicate 64 0) _ _ (c .before .before .before .before .before .before .before .before .before .before .before .before .before .before .before .before .before .before .before .before .before .before .before .before .before .begin .ensures) (omega (arith, length-replicate {A = ℕ} 108 0)) (omega (arith, length-replicate {A = ℕ} 80 0)) (omega (arith, length-replicate {A = ℕ} 288 0)) (omega (arith, length-replicate {A = ℕ} 288 0)) (omega (arith, length-replicate {A = ℕ} 96 0)) (omega (arith, length-replicate {A = ℕ} 64 0))) (c .before .before .before .before .before .before .before .before .before .before .before .before .before .before .before .before .before .read-all .ensures) (c .before .before .before .before .before .before .before .before .before .end-text .ensures) (c .before .before .answer-sheet .ensures), told-count _ _ _ _ (c .before .before .answer-sheet .ensures))
+
+pub finish-input-spec : {M : Type 1} → statement M
+finish-input-spec =
+    tie.close
+    (tie.spec
+    slice-aggregate-begin
+    begin-requires
+    slice-aggregate-read-all
+    slice-aggregate-read-all-2
+    slice-aggregate-read-all-3
+    slice-aggregate-read-all-4
+    slice-aggregate-read-all-5
+    slice-aggregate-read-all-6
+    read-all-requires
+    slice-aggregate-end-text
+    end-text-requires
+    slice-aggregate-answer-sheet
+    slice-aggregate-answer-sheet-2
+    slice-aggregate-answer-sheet-3
+    slice-aggregate-answer-sheet-4
+    slice-aggregate-answer-sheet-5
+    answer-sheet-requires
+    same-length
+    returns)

@@ -1,0 +1,250 @@
+-- The laws of a text fed byte by byte: a byte is kept, a line feed has the line read, and the end is the text's. Assumes nothing.
+use mathlib.Core.Bool.{Bool, true, false, not, _&&_, cond}
+use mathlib.Core.List.{List, [], _∷_, _++_, append-assoc, append-nil}
+use mathlib.Core.Path.{_≡_, refl, sym, _∙_, ap, subst}
+use Prim.Native.Nat.{ℕ, zero, suc, _+_, _%_, _≤_, _<_}
+use native.Mathlib.Numerals.{add-one}
+use native.Mathlib.Omega.{arith}
+use borrow.Author.Tests.{eqb-true, leb-true, leb-false, eq-eqb, ne-eqb}
+use lib.Dec.{T, leb, eqb}
+use lib.ListN.{length, getD, take, drop, set, replicate, length-append, length-set, length-take, length-replicate}
+use lib.Seq.{take-all, take-append-le, take-at, take-nil, take-suc, take-suc-set}
+use Rattle.digits.specs.ReadBack.{and-left, and-right}
+use Rattle.line_order.specs.Laws.{long-line, noLF, read-end, read-line}
+use Rattle.line_order.specs.Reading.{State, cut, finished, readFrom, readLine, sheetOf, start}
+use Rattle.reader.specs.declared.Reader.{Reader}
+use Rattle.reader.specs.Kept.{Kept, Room, ended-state, kept-begin, kept-line}
+use Rattle.reader.specs.Slices.{Begun, Lent, ended, fits, fitsIn, lastFits, lent, readInto, readerOf, refused, stateOf}
+use Rattle.sheet.specs.Bench.{bench, printed}
+use Rattle.sheet.specs.Meaning.{meant}
+use Rattle.finish.specs.Finish.{finish}
+use Rattle.answer.specs.Answer.{refusalLine}
+use Rattle.finisher.specs.Answered.{answerIn, inLimits}
+use Rattle.feeding.specs.declared.Fed.{Fed}
+use Rattle.feeding.specs.Feeding.{Ended, Fed-on, Put, SoFar}
+
+-- ---- a byte is put behind the others
+
+pub put-room : (line : List ℕ) (k c : ℕ) → k < length line → Put line k c (set line k c) (k + 1)
+put-room line k c h = record { room = λ l. (refl, refl); full = λ l. absurd (omega arith) }
+
+pub put-full : (line : List ℕ) (k c : ℕ) → length line ≤ k → Put line k c line k
+put-full line k c h = record { room = λ l. absurd (omega arith); full = λ l. (refl, refl) }
+
+-- the buffer holds the tail, as far as it has room
+record Holds (line tail : List ℕ) (k : ℕ) : Type 0 where
+  buffer : take k line ≡ take (length line) tail
+  count : k ≡ length (take (length line) tail)
+
+module _ (line tail : List ℕ) (k c : ℕ) (h : Holds line tail k) where
+  abbrev L : ℕ
+  L = length line
+
+  holds-room : k < L → Holds (set line k c) (tail ++ c ∷ []) (k + 1)
+  holds-room l =
+      let long : length (tail ++ c ∷ []) ≡ length tail + 1 = length-append tail (c ∷ []) in
+      let short : length tail < L = omega (arith, h .count, length-take L tail) in
+      let same : length (set line k c) ≡ L = length-set line k c in
+      let all : take (length (set line k c)) (tail ++ c ∷ []) ≡ tail ++ c ∷ [] = take-all (length (set line k c)) (tail ++ c ∷ []) (omega arith) in
+      record {
+        buffer =
+            ap (λ (m : ℕ). take m (set line k c)) (add-one k)
+            ∙ take-suc-set line k c l
+            ∙ ap (λ (xs : List ℕ). xs ++ c ∷ []) (h .buffer ∙ take-all L tail (omega arith))
+            ∙ sym all;
+        count = omega (arith, h .count, ap length all, ap length (take-all L tail (omega arith)));
+      }
+
+  holds-full : L ≤ k → Holds line (tail ++ c ∷ []) k
+  holds-full l =
+      let long : L ≤ length tail = omega (arith, h .count, length-take L tail) in
+      let same : take L (tail ++ c ∷ []) ≡ take L tail = take-append-le L tail (c ∷ []) long in
+      record { buffer = h .buffer ∙ sym same; count = h .count ∙ ap length (sym same) }
+
+  holds-put : (line' : List ℕ) (n : ℕ) → Put line k c line' n → Holds line' (tail ++ c ∷ []) n
+  holds-put line' n p = go (leb L k) refl
+    where
+      go : (b : Bool) → leb L k ≡ b → Holds line' (tail ++ c ∷ []) n
+      go true q =
+          let e = p .full (leb-true L k q) in
+          subst (λ (xs : List ℕ). Holds xs (tail ++ c ∷ []) n) (sym (e .0)) (subst (λ (m : ℕ). Holds line (tail ++ c ∷ []) m) (sym (e .1)) (holds-full (leb-true L k q)))
+      go false q =
+          let e = p .room (leb-false L k q) in
+          subst (λ (xs : List ℕ). Holds xs (tail ++ c ∷ []) n) (sym (e .0)) (subst (λ (m : ℕ). Holds (set line k c) (tail ++ c ∷ []) m) (sym (e .1)) (holds-room (leb-false L k q)))
+
+  put-long : (line' : List ℕ) (n : ℕ) → Put line k c line' n → length line' ≡ L
+  put-long line' n p = go (leb L k) refl
+    where
+      go : (b : Bool) → leb L k ≡ b → length line' ≡ L
+      go true q = ap length (p .full (leb-true L k q) .0)
+      go false q = ap length (p .room (leb-false L k q) .0) ∙ length-set line k c
+
+-- ---- no line feed
+both : (a b : Bool) → T a → T b → T (a && b)
+both true b s t = t
+both false b s t = absurd s
+
+plain-more : (xs : List ℕ) (c : ℕ) → T (noLF xs) → eqb c 10 ≡ false → T (noLF (xs ++ c ∷ []))
+plain-more [] c t q = both (not (eqb c 10)) true (subst (λ (b : Bool). T (not b)) (sym q) tt) tt
+plain-more (x ∷ xs) c t q =
+    both (not (eqb x 10)) (noLF (xs ++ c ∷ [])) (and-left (not (eqb x 10)) (noLF xs) t) (plain-more xs c (and-right (not (eqb x 10)) (noLF xs) t) q)
+
+-- ---- a line that was cut off at the buffer's end is refused as the whole line is
+same-line : (s : State) (tail : List ℕ) (L : ℕ) → 108 ≤ L → readLine s (take L tail) ≡ readLine s tail
+unfolding readLine
+same-line s tail L h = go (leb (length tail) L) refl (eqb (s .refusal) 0) refl
+  where
+    go : (b : Bool) → leb (length tail) L ≡ b → (d : Bool) → eqb (s .refusal) 0 ≡ d → readLine s (take L tail) ≡ readLine s tail
+    go true q d z = ap (readLine s) (take-all L tail (leb-true (length tail) L q))
+    go false q true z =
+        let far : L < length tail = leb-false (length tail) L q in
+        let clean : s .refusal ≡ 0 = eqb-true (s .refusal) 0 z in
+        long-line s (take L tail) clean (omega (arith, length-take L tail)) ∙ sym (long-line s tail clean (omega arith))
+    go false q false z = rw (z, readLine)
+
+-- ---- the text, byte by byte
+module _ (text : List ℕ) (f : Fed) (line table positions normals indices materials : List ℕ) (v : SoFar text f line table positions normals indices materials) where
+  held : Holds line (v .tail) (f .length)
+  held = record { buffer = v .buffer; count = v .count }
+
+  goes-on : (c : ℕ) (rest : List ℕ) → sheetOf (text ++ c ∷ [] ++ rest) ≡ readFrom (v .state) (cut (v .tail ++ c ∷ rest))
+  goes-on c rest = ap sheetOf (append-assoc text (c ∷ []) rest) ∙ v .means (c ∷ rest)
+
+  byte-fed : (c : ℕ) (line' : List ℕ) (n : ℕ) → eqb c 10 ≡ false → Put line (f .length) c line' n
+      → SoFar (text ++ c ∷ []) (record { reader = f .reader; length = n }) line' table positions normals indices materials
+  byte-fed c line' n q p =
+      let h = holds-put line (v .tail) (f .length) c held line' n p in
+      record {
+        state = v .state;
+        tail = v .tail ++ c ∷ [];
+        plain = plain-more (v .tail) c (v .plain) q;
+        means = λ rest. goes-on c rest ∙ ap (λ (xs : List ℕ). readFrom (v .state) (cut xs)) (sym (append-assoc (v .tail) (c ∷ []) rest));
+        kept = v .kept;
+        room = omega (arith, v .room, put-long line (v .tail) (f .length) c held line' n p);
+        buffer = h .buffer;
+        count = h .count;
+      }
+
+  line-fed : (front : List ℕ) (t : Reader) (table' positions' normals' indices' materials' : List ℕ) → front ≡ take (f .length) line
+      → lent t table' positions' normals' indices' materials' ≡ readInto (lent (f .reader) table positions normals indices materials) front
+      → SoFar (text ++ 10 ∷ []) (record { reader = t; length = 0 }) line table' positions' normals' indices' materials'
+  line-fed front t table' positions' normals' indices' materials' q e =
+      let l : Lent = lent (f .reader) table positions normals indices materials in
+      let same : readLine (v .state) front ≡ readLine (v .state) (v .tail) = ap (readLine (v .state)) (q ∙ v .buffer) ∙ same-line (v .state) (v .tail) (length line) (v .room) in
+      record {
+        state = readLine (v .state) (v .tail);
+        tail = [];
+        plain = tt;
+        means = λ rest. goes-on 10 rest ∙ read-line (v .state) (v .tail) rest (v .plain);
+        kept = subst (λ (m : Lent). Kept m (readLine (v .state) (v .tail))) (sym e) (subst (λ (s : State). Kept (readInto l front) s) same (kept-line l (v .state) front (v .kept)));
+        room = v .room;
+        buffer = sym (take-nil (length line));
+        count = sym (ap length (take-nil {A = ℕ} (length line)));
+      }
+
+-- ---- the end of the text
+
+-- a line that was cut off at the buffer's end is empty as the whole line is
+same-empty : (xs front : List ℕ) (L : ℕ) → 108 ≤ L → front ≡ take L xs → eqb (length front) 0 ≡ eqb (length xs) 0
+same-empty [] front L h q = ap (λ (ys : List ℕ). eqb (length ys) 0) (q ∙ take-nil L)
+same-empty (x ∷ xs) front L h q =
+    ne-eqb (length front) 0 (λ z. omega (arith, ap length q, length-take L (x ∷ xs))) ∙ sym (ne-eqb (suc (length xs)) 0 (λ z. omega arith))
+
+same-end : (s : State) (front xs : List ℕ) → eqb (length front) 0 ≡ eqb (length xs) 0 → finished s front ≡ finished s xs
+unfolding finished
+same-end s front xs q = rw q
+
+chop : (a x y : Bool) → (x ≡ true → y ≡ true) → a && x ≡ true → a && y ≡ true
+chop true x y f e = f e
+chop false x y f e = e
+
+both-left : (a b : Bool) → a && b ≡ true → a ≡ true
+both-left true b e = refl
+both-left false b e = e
+
+-- slices with room for the next line are within the limits
+limits-fit : (r : Reader) (table : List ℕ) (p n i m : ℕ) → fitsIn r table p n i m ≡ true → inLimits r (length table) p n i m ≡ true
+unfolding fitsIn inLimits
+limits-fit r table p n i m =
+    let rest : Bool = eqb (r .indices % 3) 0 && lastFits (r .place) (r .rows) table in
+    chop (leb 80 (length table)) _ _ (chop (leb 288 p) _ _ (chop (leb 288 n) _ _ (chop (leb 96 i) _ _ (chop (leb 64 m) _ _ (chop (leb (r .rows) 16) _ _ (chop (leb (r .vertices) 96) _ _ (both-left (leb (r .indices) 96) rest)))))))
+
+limits-ended : (r : Reader) (rest : List ℕ) (t p n i m : ℕ) → inLimits (ended r rest) t p n i m ≡ inLimits r t p n i m
+unfolding ended inLimits
+limits-ended r rest t p n i m = go (eqb (r .refusal) 0 && not (eqb (length rest) 0 && leb 3 (r .place)))
+  where
+    go : (b : Bool) → inLimits (cond b (refused 51 r) r) t p n i m ≡ inLimits r t p n i m
+    go true = refl
+    go false = refl
+
+-- what is printed of a state
+abbrev said : State → List ℕ
+said s = elim (eqb (s .refusal) 0) [ true ↦ printed (finish (meant (s .sheet))) | false ↦ refusalLine (s .refusal) ]
+
+inner : (b d : Bool) (x y z : List ℕ) → d ≡ true
+    → _≡_ {A = List ℕ} (elim b as (λ o. List ℕ) [ true ↦ elim d as (λ o. List ℕ) [ true ↦ x | false ↦ y ] | false ↦ z ]) (elim b as (λ o. List ℕ) [ true ↦ x | false ↦ z ])
+inner b true x y z e = refl
+inner true false x y z e = let n : _≡_ {A = ℕ} 0 1 = cc in absurd (omega arith)
+inner false false x y z e = refl
+
+-- what is printed of a reader and its slices is what is printed of a text that says the same
+answer-same : (l : Lent) (text : List ℕ) → stateOf l ≡ sheetOf text → inLimits (l .reader) (length (l .table)) (length (l .positions)) (length (l .normals)) (length (l .indices)) (length (l .materials)) ≡ true
+    → answerIn l ≡ bench text
+unfolding answerIn bench
+answer-same l text e h =
+    let here : answerIn l ≡ said (stateOf l) = inner (eqb (l .reader .refusal) 0) _ _ _ _ h in
+    here ∙ ap said e
+
+module _ (f : Fed) (line front : List ℕ) (r : Reader) (q : front ≡ take (f .length) line) (e : r ≡ ended (f .reader) front) where
+  pub text-ended : Ended f line r
+  text-ended = record { goes = go }
+    where
+      go : (text table positions normals indices materials : List ℕ) → SoFar text f line table positions normals indices materials → answerIn (lent r table positions normals indices materials) ≡ bench text
+      go text table positions normals indices materials v =
+          let s : State = v .state in
+          let k = v .kept in
+          let empty : eqb (length front) 0 ≡ eqb (length (v .tail)) 0 = same-empty (v .tail) front (length line) (v .room) (q ∙ v .buffer) in
+          let state : stateOf (lent (ended (f .reader) front) table positions normals indices materials) ≡ finished s (v .tail) =
+          ended-state (f .reader) table positions normals indices materials front ∙ ap (λ (t : State). finished t front) (k .same) ∙ same-end s front (v .tail) empty in
+          let sheet : sheetOf text ≡ finished s (v .tail) =
+          ap sheetOf (sym (append-nil text)) ∙ v .means [] ∙ ap (λ (xs : List ℕ). readFrom s (cut xs)) (append-nil (v .tail)) ∙ read-end s (v .tail) (v .plain) in
+          let limits : inLimits (ended (f .reader) front) (length table) (length positions) (length normals) (length indices) (length materials) ≡ true =
+          limits-ended (f .reader) front (length table) (length positions) (length normals) (length indices) (length materials) ∙ limits-fit (f .reader) table (length positions) (length normals) (length indices) (length materials) (k .fit) in
+          ap (λ (t : Reader). answerIn (lent t table positions normals indices materials)) e
+          ∙ answer-same (lent (ended (f .reader) front) table positions normals indices materials) text (state ∙ sym sheet) limits
+
+-- ---- stretch by stretch
+module _ (f : Fed) (line table positions normals indices materials : List ℕ) where
+  pub fed-none : Fed-on [] f line table positions normals indices materials f line table positions normals indices materials
+  fed-none = record { goes = λ text v. subst (λ (t : List ℕ). SoFar t f line table positions normals indices materials) (sym (append-nil text)) v }
+
+  pub fed-byte : (c : ℕ) (line' : List ℕ) (n : ℕ) → (c ≡ 10 → ⊥) → Put line (f .length) c line' n
+      → Fed-on (c ∷ []) f line table positions normals indices materials (record { reader = f .reader; length = n }) line' table positions normals indices materials
+  fed-byte c line' n q p = record { goes = λ text v. byte-fed text f line table positions normals indices materials v c line' n (ne-eqb c 10 q) p }
+
+  pub fed-line : (c : ℕ) (front : List ℕ) (t : Reader) (table' positions' normals' indices' materials' : List ℕ) → c ≡ 10 → front ≡ take (f .length) line
+      → lent t table' positions' normals' indices' materials' ≡ readInto (lent (f .reader) table positions normals indices materials) front
+      → Fed-on (c ∷ []) f line table positions normals indices materials (record { reader = t; length = 0 }) line table' positions' normals' indices' materials'
+  fed-line c front t table' positions' normals' indices' materials' z q e =
+      record {
+        goes =
+            λ text v.
+            subst (λ (b : ℕ). SoFar (text ++ b ∷ []) (record { reader = t; length = 0 }) line table' positions' normals' indices' materials') (sym z)
+            (line-fed text f line table positions normals indices materials v front t table' positions' normals' indices' materials' q e);
+      }
+
+  module _ (part : List ℕ) (i : ℕ) (g : Fed) (line' table' positions' normals' indices' materials' : List ℕ) (w : Fed-on (take i part) f line table positions normals indices materials g line' table' positions' normals' indices' materials') where
+    pub fed-more : (h : Fed) (line'' table'' positions'' normals'' indices'' materials'' : List ℕ) → i < length part
+        → Fed-on (getD part i 0 ∷ []) g line' table' positions' normals' indices' materials' h line'' table'' positions'' normals'' indices'' materials''
+        → Fed-on (take (i + 1) part) f line table positions normals indices materials h line'' table'' positions'' normals'' indices'' materials''
+    fed-more h line'' table'' positions'' normals'' indices'' materials'' l x =
+        let parts : take i part ++ getD part i 0 ∷ [] ≡ take (i + 1) part = sym (ap (λ (n : ℕ). take n part) (add-one i) ∙ take-suc part i 0 l) in
+        record {
+          goes =
+              λ text v.
+              subst (λ (t : List ℕ). SoFar t h line'' table'' positions'' normals'' indices'' materials'') (append-assoc text (take i part) (getD part i 0 ∷ []) ∙ ap (λ (xs : List ℕ). text ++ xs) parts)
+              (x .goes (text ++ take i part) (w .goes text v));
+        }
+
+    pub fed-all : length part ≤ i → Fed-on part f line table positions normals indices materials g line' table' positions' normals' indices' materials'
+    fed-all l = subst (λ (xs : List ℕ). Fed-on xs f line table positions normals indices materials g line' table' positions' normals' indices' materials') (take-all i part l) w

@@ -1,0 +1,4 @@
+pub mod Answered
+pub mod Texts
+pub mod Printed
+pub mod Whole
