@@ -1,7 +1,5 @@
 // turn: the rows of a body turned to agree, where they stand.
 
-use crate::groups::walk_groups;
-use crate::reverse::reverse_rows;
 ghost use mathlib.Core.Path.{_≡_};
 ghost use lib.ListN.{length};
 ghost use Rattle.points.specs.Points.{key};
@@ -37,7 +35,7 @@ fn colour_rows(
     let at = 4 * v + 4 * m + n;
     let end = at + 5 * n + 5 * m;
     pairs::lay_uses(rows, positions, indices, w, v, m);
-    walk_groups(rows, positions, indices, &mut w[at..end], n, m)
+    groups::walk_groups(rows, positions, indices, &mut w[at..end], n, m)
 }
 
 // The rows of an accepted body are turned to agree, and the words of the work area that the body needs become 0.
@@ -57,7 +55,7 @@ fn turn_accepted(
     let n = indices.len();
     let colours = 4 * v + 6 * m + 6 * n;
     let against = colour_rows(rows, positions, indices, work, v, m);
-    let turned = reverse_rows(rows, normals, indices, work, colours);
+    let turned = reversal::reverse_rows(rows, normals, indices, work, colours);
     body::clear(work, 16 * n + 16 * m + 4 * v);
     Counts {
         turned: turned,

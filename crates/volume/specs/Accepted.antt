@@ -15,7 +15,8 @@ use lib.Ieee.Scale as Scale
 use Rattle.floats.specs.Floats as Floats
 use Rattle.lists.specs.Lists.{any, sumOf}
 use Rattle.body.specs.Body.{Row, Patch, Check, check, rowsOf, patchesOf, allVertices, allIndices, trianglesOf, firstFailing, badRow, badIndices, tooLarge, tableChecks, patchChecks, bodyChecks, workNeeded}
-use Rattle.orient.specs.Orient.{patchAt, AfterTurn, refuseTurn, turnOf, turnBody, walksOf}
+use Rattle.inversion.specs.Inversion.{patchAt}
+use Rattle.orient.specs.Orient.{AfterTurn, refuseTurn, turnOf, turnBody, walksOf}
 use Rattle.points.specs.Rule.{Rule, names}
 use Rattle.join.specs.Join.{joined}
 use Rattle.volume.specs.Exact.{Whole, wholeOf, wholeAt, largest, largestOf, largestIn, trianglesIn}

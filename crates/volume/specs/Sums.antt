@@ -19,7 +19,7 @@ use Rattle.body.specs.Body as Body
 use Rattle.body.specs.Body.{Triangle, trianglesOf}
 use Rattle.geometry.specs.Geometry as G
 use Rattle.geometry.specs.Geometry.{sumVolumes, patchVolume, triangleVolume, reversed, zero64, six64}
-use Rattle.orient.specs.Orient.{patchAt, volumeFrom}
+use Rattle.inversion.specs.Inversion.{patchAt, volumeFrom}
 use Rattle.walk.specs.Walk.{coloured, unvisited}
 use Rattle.volume.specs.Exact.{wholeAt, exactDet, exactTriangles, exactRows, trianglesIn}
 use Rattle.volume.specs.Ints.{Is, is-pos, is-add}
