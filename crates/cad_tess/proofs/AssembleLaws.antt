@@ -1,5 +1,5 @@
 -- Laws of cad_assemble. Assumes nothing.
-use mathlib.Core.Path.{_≡_, refl, sym, ap, _∙_}
+use mathlib.Core.Path.{_≡_, refl, ap, _∙_}
 use mathlib.Core.Bool.{Bool, true, false, not, cond}
 use mathlib.Core.List.{List}
 use Prim.Native.Nat.{ℕ}
@@ -9,13 +9,12 @@ use lib.Ieee.{Float}
 use Rattle.body.specs.Body.{Row, rowsOf, patchesOf, bodyChecks, firstFailing}
 use Rattle.geometry.specs.declared.Aabb.{Aabb}
 use Rattle.acceptance.specs.Acceptance.{Acceptance, acceptance}
-use Rattle.assemble.specs.declared.written.MeshCounts.{MeshCounts}
 use Rattle.assemble.specs.declared.assembling.Assembled.{Assembled}
 use Rattle.assemble.specs.declared.assembling.Assembled.the-variants.{Done, Refused}
-use Rattle.assemble.specs.Assemble.{MeshSlices, AfterAssemble, meshOf, meshChecks, writeMesh, refuseMesh, clearedMesh, assembleOrRefuse, assembleOf}
+use Rattle.assemble.specs.Assemble.{MeshSlices, AfterAssemble, meshChecks, writeMesh, refuseMesh, clearedMesh, assembleOrRefuse, assembleOf}
 use Rattle.assemble.specs.Assembled.{LeftMesh, leftMesh, countsAnswered, assembleAnswered}
-use Rattle.cad_tess.specs.declared.assembling.CadAssembled.{CadAssembled}
-use Rattle.cad_tess.specs.Assembling.{cadAssembled, leftAfterAssemble}
+use Rattle.cad_answers.specs.declared.assembling.CadAssembled.{CadAssembled}
+use Rattle.cad_answers.specs.Assembling.{cadAssembled, leftAfterAssemble}
 
 -- the struct and the slices of a call
 abbrev flat : LeftMesh → AfterAssemble
@@ -25,13 +24,6 @@ flat l = leftAfterAssemble (cadAssembled (l .answer)) (l .slices)
 flag-told : (b : Bool) → not (eqb (cond b 1 0) 0) ≡ b
 flag-told true = refl
 flag-told false = refl
-
--- the struct of a call that is done
-pub done-told : {t : Assembled} {c : MeshCounts} {f : ℕ} → t ≡ Done c → f ≡ cond (c .closed) 1 0
-    → record { refusal = 0; vertices = c .vertices; indices = c .indices; parts = c .parts; ranges = c .ranges; failures = c .failures; edges = c .edges; opens = c .opens; overs = c .overs; closed = f } ≡ cadAssembled t
-done-told {t} {c} {f} e h =
-    (λ j. record { refusal = 0; vertices = c .vertices; indices = c .indices; parts = c .parts; ranges = c .ranges; failures = c .failures; edges = c .edges; opens = c .opens; overs = c .overs; closed = h j })
-    ∙ ap cadAssembled (sym e)
 
 -- a refusal holds its number only
 refused-told : (n : ℕ) (out : MeshSlices) → eqb n 0 ≡ false → flat (assembleAnswered (refuseMesh n out)) ≡ refuseMesh n out

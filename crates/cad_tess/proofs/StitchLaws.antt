@@ -8,12 +8,14 @@ use lib.ListN.{length}
 use lib.Ieee.{Float}
 use Rattle.points.specs.Rule.{Rule, names}
 use Rattle.body.specs.Body.{rowsOf, patchesOf, bodyChecks, firstFailing}
-use Rattle.stitch.specs.declared.stitching.Stitched.{Stitched}
-use Rattle.stitch.specs.declared.stitching.Stitched.the-variants.{Done, Refused}
-use Rattle.stitch.specs.Stitch.{StitchSlices, AfterStitch, StitchedBody, stitchBody, stitchChecks, writeBody, refuseStitch, clearedSlices, stitchOrRefuse, stitchOf}
-use Rattle.stitch.specs.Stitched.{LeftStitch, leftStitch, stitchAnswered}
-use Rattle.cad_tess.specs.declared.stitching.CadStitched.{CadStitched}
-use Rattle.cad_tess.specs.Stitching.{cadStitched, leftAfterStitch}
+use Rattle.results.specs.declared.answer.Stitched.{Stitched}
+use Rattle.results.specs.declared.answer.Stitched.the-variants.{Done, Refused}
+use Rattle.results.specs.Slices.{StitchSlices, AfterStitch, stitchChecks, writeBody, refuseStitch, clearedSlices, stitchOrRefuse}
+use Rattle.stitched.specs.StitchedBody.{StitchedBody}
+use Rattle.stitch.specs.Stitch.{stitchBody, stitchOf}
+use Rattle.results.specs.Stitched.{LeftStitch, leftStitch, stitchAnswered}
+use Rattle.cad_answers.specs.declared.stitching.CadStitched.{CadStitched}
+use Rattle.cad_answers.specs.Stitching.{cadStitched, leftAfterStitch}
 
 -- the struct and the slices of a call
 abbrev flat : LeftStitch → AfterStitch

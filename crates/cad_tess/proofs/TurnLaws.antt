@@ -1,5 +1,5 @@
 -- Laws of cad_turn. Assumes nothing.
-use mathlib.Core.Path.{_≡_, refl, sym, ap, _∙_}
+use mathlib.Core.Path.{_≡_, refl, ap, _∙_}
 use mathlib.Core.Bool.{Bool, true, false}
 use mathlib.Core.List.{List}
 use Prim.Native.Nat.{ℕ}
@@ -12,9 +12,9 @@ use Rattle.body.specs.Body.{rowsOf, patchesOf, bodyChecks, firstFailing}
 use Rattle.orient.specs.declared.turning.Turned.{Turned}
 use Rattle.orient.specs.declared.turning.Turned.the-variants.{Done, Refused}
 use Rattle.orient.specs.Orient.{AfterTurn, walksOf, turnBody, refuseTurn, turnOf}
-use Rattle.orient.specs.Turned.{Left, left, answerOf, answered}
-use Rattle.cad_tess.specs.declared.turning.CadTurned.{CadTurned}
-use Rattle.cad_tess.specs.Turning.{cadTurned, leftAfterTurn}
+use Rattle.orient.specs.Turned.{Left, left, answered}
+use Rattle.cad_answers.specs.declared.turning.CadTurned.{CadTurned}
+use Rattle.cad_answers.specs.Turning.{cadTurned, leftAfterTurn}
 
 -- the struct and the slices of a call
 abbrev flat : Left → AfterTurn

@@ -16,7 +16,7 @@ use Rattle.geometry.specs.Geometry.{zero64, patchVolume, escapesBody}
 use Rattle.geometry.specs.Given.{box68, onePoint, vertex}
 use Rattle.orient.specs.Orient.{AfterTurn}
 use Rattle.orient.specs.Claims.{turnGiven}
-use Rattle.stitch.specs.Stitch.{StitchSlices, AfterStitch}
+use Rattle.results.specs.Slices.{StitchSlices, AfterStitch}
 use Rattle.stitch.specs.Claims.{roomy, stitchGiven}
 use Rattle.counts.specs.Counts.{Counts}
 use Rattle.assemble.specs.Assemble.{AfterAssemble}

@@ -14,7 +14,8 @@ use Rattle.geometry.specs.declared.Vec3.{Vec3}
 use Rattle.geometry.specs.declared.Aabb.{Aabb}
 use Rattle.geometry.specs.Geometry.{Alone, zero64, one64, volumeAlone}
 use Rattle.orient.specs.Orient.{AfterTurn, turnOf}
-use Rattle.stitch.specs.Stitch.{StitchSlices, AfterStitch, stitchOf, stitchChecks}
+use Rattle.results.specs.Slices.{StitchSlices, AfterStitch, stitchChecks}
+use Rattle.stitch.specs.Stitch.{stitchOf}
 use Rattle.mesh.specs.Mesh.{Vertices}
 use Rattle.assemble.specs.Assemble.{MeshSlices, AfterAssemble, assembleOf}
 use Rattle.finish.specs.Evaluation.{evaluation}

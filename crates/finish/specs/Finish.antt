@@ -11,7 +11,8 @@ use Rattle.body.specs.Body.{rowWidth}
 use Rattle.geometry.specs.declared.Aabb.{Aabb}
 use Rattle.geometry.specs.Geometry.{zero64}
 use Rattle.orient.specs.Orient.{AfterTurn, turnOf}
-use Rattle.stitch.specs.Stitch.{StitchSlices, AfterStitch, stitchOf}
+use Rattle.results.specs.Slices.{StitchSlices, AfterStitch}
+use Rattle.stitch.specs.Stitch.{stitchOf}
 use Rattle.acceptance.specs.Acceptance.{failureWidth}
 use Rattle.mesh.specs.Mesh.{partWidth, rangeWidth}
 use Rattle.assemble.specs.Assemble.{MeshSlices, AfterAssemble, assembleOf}
