@@ -1,9 +1,9 @@
 // assemble: a body's accepted patches as one mesh, with parts, ranges, failures and edge counts.
 
-use crate::checks::too_short;
-use crate::written::MeshCounts;
-use crate::written::write_mesh;
 use geometry::Aabb;
+use meshing::MeshCounts;
+use meshing::write_mesh;
+use room::too_short;
 ghost use mathlib.Core.Path.{_≡_};
 ghost use Prim.Native.Nat.{_+_, _*_};
 ghost use lib.ListN.{length};

@@ -2,7 +2,7 @@
 use mathlib.Core.Path.{_≡_, sym, ap, _∙_}
 use mathlib.Core.Bool.{cond}
 use Prim.Native.Nat.{ℕ}
-use Rattle.assemble.specs.declared.written.MeshCounts.{MeshCounts}
+use Rattle.meshing.specs.declared.written.MeshCounts.{MeshCounts}
 use Rattle.assemble.specs.declared.assembling.Assembled.{Assembled}
 use Rattle.assemble.specs.declared.assembling.Assembled.the-variants.{Done}
 use Rattle.cad_answers.specs.Assembling.{cadAssembled}

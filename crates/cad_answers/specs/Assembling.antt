@@ -3,7 +3,8 @@ use mathlib.Core.Bool.{not, cond}
 use lib.Dec.{eqb}
 use Rattle.assemble.specs.declared.assembling.Assembled.{Assembled}
 use Rattle.assemble.specs.declared.assembling.Assembled.the-variants.{Done, Refused}
-use Rattle.assemble.specs.Assemble.{MeshSlices, AfterAssemble}
+use Rattle.room.specs.Slices.{MeshSlices}
+use Rattle.assemble.specs.Assemble.{AfterAssemble}
 use Rattle.cad_answers.specs.declared.assembling.CadAssembled.{CadAssembled}
 
 -- 01's number and values for each answer

@@ -11,7 +11,8 @@ use Rattle.geometry.specs.declared.Aabb.{Aabb}
 use Rattle.acceptance.specs.Acceptance.{Acceptance, acceptance}
 use Rattle.assemble.specs.declared.assembling.Assembled.{Assembled}
 use Rattle.assemble.specs.declared.assembling.Assembled.the-variants.{Done, Refused}
-use Rattle.assemble.specs.Assemble.{MeshSlices, AfterAssemble, meshChecks, writeMesh, refuseMesh, clearedMesh, assembleOrRefuse, assembleOf}
+use Rattle.room.specs.Slices.{MeshSlices, meshChecks}
+use Rattle.assemble.specs.Assemble.{AfterAssemble, writeMesh, refuseMesh, clearedMesh, assembleOrRefuse, assembleOf}
 use Rattle.assemble.specs.Assembled.{LeftMesh, leftMesh, countsAnswered, assembleAnswered}
 use Rattle.cad_answers.specs.declared.assembling.CadAssembled.{CadAssembled}
 use Rattle.cad_answers.specs.Assembling.{cadAssembled, leftAfterAssemble}

@@ -17,7 +17,8 @@ use Rattle.orient.specs.Orient.{AfterTurn, turnOf}
 use Rattle.results.specs.Slices.{StitchSlices, AfterStitch, stitchChecks}
 use Rattle.stitch.specs.Stitch.{stitchOf}
 use Rattle.mesh.specs.Mesh.{Vertices}
-use Rattle.assemble.specs.Assemble.{MeshSlices, AfterAssemble, assembleOf}
+use Rattle.room.specs.Slices.{MeshSlices}
+use Rattle.assemble.specs.Assemble.{AfterAssemble, assembleOf}
 use Rattle.finish.specs.Evaluation.{evaluation}
 
 -- ---- how the calls are written

@@ -15,7 +15,8 @@ use Rattle.results.specs.Slices.{StitchSlices, AfterStitch}
 use Rattle.stitch.specs.Stitch.{stitchOf}
 use Rattle.acceptance.specs.Acceptance.{failureWidth}
 use Rattle.mesh.specs.Mesh.{partWidth, rangeWidth}
-use Rattle.assemble.specs.Assemble.{MeshSlices, AfterAssemble, assembleOf}
+use Rattle.room.specs.Slices.{MeshSlices}
+use Rattle.assemble.specs.Assemble.{AfterAssemble, assembleOf}
 
 -- a sheet that was read: box, sag, default and materials (0 is none, n + 1 is material n), and the body, whose floats are f32 bits
 pub record Sheet : Type 0 where

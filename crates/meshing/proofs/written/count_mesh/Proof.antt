@@ -1,10 +1,9 @@
 -- `count_mesh` meets its contract. The parts lent are the fronts of the slices. Assumes nothing.
-use native.Mathlib.Omega.{arith}
 use lib.Seq.{length-take-le}
-use Rattle.assemble.proofs.MeshLaws.{mesh-counted}
+use Rattle.meshing.proofs.MeshLaws.{mesh-counted}
 use borrow.Author.Needs.{needs}
-use Rattle.assemble.proofs.written.count_mesh.Statement.{statement}
-use Rattle.assemble.proofs.written.count_mesh.Tie as tie
+use Rattle.meshing.proofs.written.count_mesh.Statement.{statement}
+use Rattle.meshing.proofs.written.count_mesh.Tie as tie
 
 mul-end : tie.Need-mul-end
 mul-end c = search needs

@@ -1,8 +1,8 @@
 -- How many numbers the mesh of the accepted rows has. Assumes nothing.
 use mathlib.Core.Path.{_≡_, refl, sym, ap, _∙_}
-use mathlib.Core.List.{List, [], _∷_, _++_, map, flatMap}
+use mathlib.Core.List.{List, [], _∷_, flatMap}
 use mathlib.Core.Option.{Option, none, some}
-use Prim.Native.Nat.{ℕ, zero, suc, _+_, _*_, _%_, _≤_, _<_}
+use Prim.Native.Nat.{ℕ, zero, suc, _*_, _%_, _≤_, _<_}
 use native.Mathlib.Omega.{arith}
 use lib.ListN.{length, getD, take, drop, length-append, length-drop}
 use lib.Seq.{length-take-le}
@@ -16,7 +16,7 @@ use Rattle.acceptance.specs.declared.Failure.{Failure}
 use Rattle.acceptance.specs.Acceptance.{failureOf}
 use Rattle.acceptance.specs.Judged.{acceptedBy, acceptedRows, failedBy, failedOf}
 use Rattle.acceptance.specs.JudgedLaws.{accepted-indices}
-use Rattle.mesh.specs.Mesh.{Laid, laidFrom, materialsOf, runOf, runsOf, startOf}
+use Rattle.mesh.specs.Mesh.{Laid}
 use Rattle.mesh.specs.JudgedRows.{judgedRows, keptIf, numbersBy, laidBy}
 use Rattle.mesh.specs.LaidLaws.{laid-by, laid-total}
 

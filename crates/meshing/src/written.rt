@@ -2,7 +2,7 @@
 
 use acceptance::Totals;
 use geometry::Aabb;
-ghost use Rattle.assemble.specs.Written.{TablesReady, TablesWritten, CountReady, Counted, WriteReady, MeshWritten};
+ghost use Rattle.meshing.specs.Written.{TablesReady, TablesWritten, CountReady, Counted, WriteReady, MeshWritten};
 
 // How many vertices, indices, parts, ranges and failures were written; the mesh's edges, those used once, those used more than twice; and whether it is closed.
 pub struct MeshCounts {

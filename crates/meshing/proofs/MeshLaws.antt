@@ -1,25 +1,25 @@
 -- Laws of writing the mesh and counting its edges. Assumes nothing.
 use mathlib.Core.Path.{_≡_, refl, sym, ap, _∙_, subst}
-use mathlib.Core.Bool.{Bool, true, false, _&&_}
-use mathlib.Core.List.{List, [], _∷_, _++_, flatMap}
-use Prim.Native.Nat.{ℕ, zero, suc, _+_, _-_, _*_, _%_, _≤_, _<_}
+use mathlib.Core.Bool.{Bool, _&&_}
+use mathlib.Core.List.{List, []}
+use Prim.Native.Nat.{ℕ, _+_, _*_, _%_, _≤_}
 use native.Mathlib.Omega.{arith}
-use lib.ListN.{length, getD, take, drop, length-drop}
+use lib.ListN.{length, take, drop}
 use lib.Seq.{take-at}
 use lib.Dec.{eqb}
 use lib.Ieee.{Float}
 use Rattle.lists.specs.Lists.{sumOf, written}
 use Rattle.lists.specs.Stretches.{rest-less}
 use Rattle.points.specs.Points.{bits}
-use Rattle.body.specs.Body.{rowsOf, allVertices, allIndices, workNeeded}
+use Rattle.body.specs.Body.{rowsOf, allVertices, workNeeded}
 use Rattle.body.specs.Rows.{rowAt}
 use Rattle.body.specs.Accepted.{Passed, passed-rows}
 use Rattle.edges.specs.RowUses.{Inside}
 use Rattle.geometry.specs.declared.Aabb.{Aabb}
 use Rattle.acceptance.specs.declared.totals.Totals.{Totals}
-use Rattle.acceptance.specs.Judged.{acceptedRows, decisionsIn}
+use Rattle.acceptance.specs.Judged.{decisionsIn}
 use Rattle.acceptance.specs.JudgedLaws.{accepted-few, accepted-fewer, accepted-most}
-use Rattle.mesh.specs.Mesh.{Laid, materialsOf, runOf, runsOf, startOf}
+use Rattle.mesh.specs.Mesh.{Laid, runsOf}
 use Rattle.mesh.specs.JudgedRows.{JudgedRow, judgedIn, numbersBy}
 use Rattle.mesh.specs.RowLaws.{judged-long}
 use Rattle.mesh.specs.LaidLaws.{laid-few}
@@ -28,14 +28,13 @@ use Rattle.mesh.specs.RunsLong.{runs-long}
 use Rattle.mesh.specs.Written.{VerticesWritable, VerticesWritten}
 use Rattle.mesh.specs.Parts.{laidIn}
 use Rattle.counts.specs.declared.tally.EdgeCounts.{EdgeCounts}
-use Rattle.counts.specs.Counts.{Counts, countsOf, closedBy}
+use Rattle.counts.specs.Counts.{countsOf, closedBy}
 use Rattle.counts.specs.Tally.{countsIn}
 use Rattle.counts.specs.Mesh.{MeshReady, MeshCounted}
-use Rattle.assemble.specs.declared.written.MeshCounts.{MeshCounts}
-use Rattle.assemble.specs.declared.written.Tables.{Tables}
-use Rattle.assemble.specs.Written.{Decided, TablesReady, TablesWritten, CountReady, Counted, WriteReady, MeshWritten}
-use Rattle.assemble.proofs.SizeLaws.{numbers-long, laid-sum, accepted-threes, failed-most}
-use Rattle.assemble.proofs.BelowLaws.{runs-below, laid-below}
+use Rattle.meshing.specs.declared.written.Tables.{Tables}
+use Rattle.meshing.specs.Written.{TablesReady, TablesWritten, CountReady, Counted, WriteReady, MeshWritten}
+use Rattle.meshing.proofs.SizeLaws.{numbers-long, laid-sum, accepted-threes, failed-most}
+use Rattle.meshing.proofs.BelowLaws.{runs-below, laid-below}
 
 -- ---- counting
 

@@ -1,8 +1,7 @@
 -- Laws of writing runs, parts, ranges and failures. Assumes nothing.
 use mathlib.Core.Path.{_≡_, refl, sym, ap, _∙_, subst}
-use mathlib.Core.Bool.{Bool, true, false, cond}
+use mathlib.Core.Bool.{Bool, cond}
 use mathlib.Core.List.{List, [], _∷_, _++_, map, flatMap}
-use mathlib.Core.Option.{none}
 use Prim.Native.Nat.{ℕ, zero, suc, _+_, _-_, _*_, _≤_, _<_}
 use native.Mathlib.Omega.{arith}
 use borrow.Author.Tests.{eq-eqb}
@@ -13,23 +12,20 @@ use lib.Ieee.{Float}
 use Rattle.lists.specs.Lists.{sumOf, written}
 use Rattle.lists.specs.Any.{sum-front}
 use Rattle.lists.specs.Stretches.{front-at, stretch-kept, stretch-at}
-use Rattle.body.specs.Body.{rowsOf, allVertices, allIndices, workNeeded}
+use Rattle.body.specs.Body.{rowsOf, workNeeded}
 use Rattle.body.specs.Rows.{rowAt}
 use Rattle.body.specs.Accepted.{Passed, passed-rows}
 use Rattle.geometry.specs.declared.Aabb.{Aabb}
-use Rattle.acceptance.specs.Acceptance.{failureOf}
 use Rattle.acceptance.specs.Judged.{acceptedRows, decisionsIn, FailuresReady, FailuresWritten}
 use Rattle.mesh.specs.Mesh.{Laid, runOf, startOf, rangesFrom}
-use Rattle.mesh.specs.JudgedRows.{JudgedRow, judgedRows, judgedIn, laidBy, indicesWith, rangesWith}
+use Rattle.mesh.specs.JudgedRows.{JudgedRow, judgedRows, judgedIn, indicesWith, rangesWith}
 use Rattle.mesh.specs.RowLaws.{noJudged, judged-long, judged-at, sum-here}
-use Rattle.mesh.specs.LaidLaws.{judgedIndices, run-by, run-long, judged-indices, laid-low}
+use Rattle.mesh.specs.LaidLaws.{run-by, run-long, judged-indices, laid-low}
 use Rattle.mesh.specs.MaterialLaws.{start-next, start-low}
 use Rattle.mesh.specs.RangeLaws.{Same, Begun, ranges-are}
-use Rattle.mesh.specs.Runs.{Runnable}
 use Rattle.mesh.specs.Parts.{laidIn, RunsWritable, RunsWritten}
 use Rattle.mesh.specs.Ranges.{RangesWritable, RangesWritten}
-use Rattle.assemble.specs.declared.written.Tables.{Tables}
-use Rattle.assemble.specs.Written.{Decided, TablesReady, TablesWritten}
+use Rattle.meshing.specs.Written.{TablesReady, TablesWritten}
 
 -- item k of a list's decisions
 decision-at : (js : List JudgedRow) (k : ℕ) → getD (map (λ j. j .decision) js) k 0 ≡ getD js k noJudged .decision

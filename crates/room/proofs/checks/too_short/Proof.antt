@@ -1,9 +1,9 @@
 -- `too_short` meets its contract. Each branch is one slice that is too short. Assumes nothing.
 use native.Mathlib.Omega.{arith}
-use Rattle.assemble.proofs.RoomLaws.{short-positions, short-normals, short-indices, short-parts, short-ranges, short-failures}
+use Rattle.room.proofs.RoomLaws.{short-positions, short-normals, short-indices, short-parts, short-ranges, short-failures}
 use borrow.Author.Needs.{needs}
-use Rattle.assemble.proofs.checks.too_short.Statement.{statement}
-use Rattle.assemble.proofs.checks.too_short.Tie as tie
+use Rattle.room.proofs.checks.too_short.Statement.{statement}
+use Rattle.room.proofs.checks.too_short.Tie as tie
 
 mul-if1 : tie.Need-mul-if1
 mul-if1 c = search needs

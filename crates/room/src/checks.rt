@@ -2,7 +2,7 @@
 
 ghost use mathlib.Core.Path.{_≡_};
 ghost use lib.ListN.{length};
-ghost use Rattle.assemble.specs.Room.{RoomAsked, shortBy};
+ghost use Rattle.room.specs.Room.{RoomAsked, shortBy};
 
 // 41: whether a slice is shorter than the accepted rows need, or a table has fewer than m rows.
 pub fn too_short(

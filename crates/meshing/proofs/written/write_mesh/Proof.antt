@@ -1,10 +1,10 @@
 -- `write_mesh` meets its contract. What was written is the mesh that is counted. Assumes nothing.
 use mathlib.Core.Path.{refl}
 use native.Mathlib.Omega.{arith}
-use Rattle.assemble.proofs.MeshLaws.{vertices-low, indices-low, positions-ready, normals-ready, tables-ready, count-ready, parts-low, ranges-low, failures-low, mesh-written}
+use Rattle.meshing.proofs.MeshLaws.{vertices-low, indices-low, positions-ready, normals-ready, tables-ready, count-ready, parts-low, ranges-low, failures-low, mesh-written}
 use borrow.Author.Needs.{needs}
-use Rattle.assemble.proofs.written.write_mesh.Statement.{statement}
-use Rattle.assemble.proofs.written.write_mesh.Tie as tie
+use Rattle.meshing.proofs.written.write_mesh.Statement.{statement}
+use Rattle.meshing.proofs.written.write_mesh.Tie as tie
 
 write-vertices-requires : tie.Need-write-vertices-requires
 write-vertices-requires c κs = positions-ready (c .before .before .before .before .before .before .before .before .before .before .before .before .before .pre)

@@ -1,15 +1,14 @@
 -- The mesh's indices are of its vertices. Assumes nothing.
-use mathlib.Core.Path.{_≡_, refl, sym, ap, _∙_, subst}
 use mathlib.Core.Bool.{Bool, true, false, cond}
 use mathlib.Core.List.{List, [], _∷_, _++_, map, flatMap}
-use Prim.Native.Nat.{ℕ, zero, suc, _+_, _*_, _≤_, _<_}
+use Prim.Native.Nat.{ℕ, zero, suc, _+_, _≤_, _<_}
 use native.Mathlib.Nat.{not-suc-le-zero}
 use native.Mathlib.Omega.{arith}
-use lib.ListN.{length, getD, take, drop, length-drop}
+use lib.ListN.{length, getD, take, drop}
 use lib.Dec.{eqb}
 use Rattle.lists.specs.Lists.{sumOf}
 use Rattle.lists.specs.Any.{each-append}
-use Rattle.body.specs.Body.{Row, allVertices, allIndices}
+use Rattle.body.specs.Body.{Row, allVertices}
 use Rattle.edges.specs.RowUses.{Inside, inside-rest, inside-first}
 use Rattle.acceptance.specs.Judged.{acceptedRows}
 use Rattle.mesh.specs.Mesh.{Laid, materialsOf, runOf, runsOf}

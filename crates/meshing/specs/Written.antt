@@ -1,6 +1,5 @@
 -- What writing the mesh asks and leaves. Assumes nothing.
 use mathlib.Core.Path.{_≡_}
-use mathlib.Core.Bool.{Bool}
 use mathlib.Core.List.{List, [], flatMap}
 use mathlib.Core.Option.{none}
 use Prim.Native.Nat.{ℕ, _+_, _*_, _≤_, _<_}
@@ -22,9 +21,9 @@ use Rattle.mesh.specs.Parts.{laidIn}
 use Rattle.counts.specs.declared.tally.EdgeCounts.{EdgeCounts}
 use Rattle.counts.specs.Counts.{Counts, countsOf, closedBy}
 use Rattle.counts.specs.Tally.{countsIn}
-use Rattle.counts.specs.Mesh.{MeshReady, MeshCounted}
-use Rattle.assemble.specs.declared.written.MeshCounts.{MeshCounts}
-use Rattle.assemble.specs.declared.written.Tables.{Tables}
+use Rattle.counts.specs.Mesh.{MeshReady}
+use Rattle.meshing.specs.declared.written.MeshCounts.{MeshCounts}
+use Rattle.meshing.specs.declared.written.Tables.{Tables}
 
 -- the decisions on the m rows of an accepted body, at the front of the work area W
 pub record Decided (table : List ℕ) (ps ns : List Float) (is : List ℕ) (box : Aabb) (W : List ℕ) (m : ℕ) : Type 0 where
