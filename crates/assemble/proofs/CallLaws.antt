@@ -14,14 +14,17 @@ use Rattle.lists.specs.Lists.{written}
 use Rattle.lists.specs.Sets.{drop-sets}
 use Rattle.lists.specs.Stretches.{stretch-sets, stretch-at, rest-less}
 use Rattle.points.specs.Points.{bits}
-use Rattle.body.specs.Body.{Row, Patch, rowsOf, patchesOf, allVertices, workNeeded, cleared, bodyChecks, firstFailing}
+use Rattle.body.specs.Body.{Row, Patch, rowsOf, patchesOf, allVertices, workNeeded, cleared, firstFailing}
+use Rattle.checks.specs.BodyChecks.{bodyChecks}
 use Rattle.body.specs.Rows.{Total}
 use Rattle.body.specs.Patches.{noPatch, length-patches}
-use Rattle.body.specs.Accepted.{Passed, passed-rows}
+use Rattle.checks.specs.Accepted.{Passed, passed-rows}
 use Rattle.geometry.specs.declared.Aabb.{Aabb}
 use Rattle.acceptance.specs.declared.totals.Totals.{Totals}
-use Rattle.acceptance.specs.Acceptance.{Accepted, Failed, Acceptance, acceptance, acceptedVertices, acceptedIndices, failureNumbers, badMaterials}
-use Rattle.acceptance.specs.Judged.{SmallMaterials, decisionOf, Judgeable, acceptedBy, decisionsIn, failedOf, bare}
+use Rattle.acceptance.specs.Acceptance.{Accepted, Failed, Acceptance, acceptance, acceptedVertices, acceptedIndices, failureNumbers}
+use Rattle.materials.specs.Materials.{badMaterials}
+use Rattle.materials.specs.Small.{SmallMaterials}
+use Rattle.acceptance.specs.Judged.{decisionOf, Judgeable, acceptedBy, decisionsIn, failedOf, bare}
 use Rattle.acceptance.specs.JudgedLaws.{accepted-by, failed-by, decisions-bare, failed-bare, accepted-count, accepted-vertices, accepted-indices, accepted-few, decision-low, decision-tells, small-materials}
 use Rattle.acceptance.specs.Totals.{TotalsReady, Totalled}
 use Rattle.mesh.specs.Mesh.{Laid, verticesOf, writtenVertices, laidFrom, materialsOf, runsOf, partOf, rangesFrom}

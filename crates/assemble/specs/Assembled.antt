@@ -7,7 +7,7 @@ use lib.ListN.{length, drop}
 use lib.Dec.{eqb}
 use lib.Ieee.{Float}
 use Rattle.body.specs.Body.{rowsOf, patchesOf, workNeeded}
-use Rattle.body.specs.Accepted.{Passed}
+use Rattle.checks.specs.Accepted.{Passed}
 use Rattle.geometry.specs.declared.Aabb.{Aabb}
 use Rattle.acceptance.specs.Acceptance.{acceptance}
 use Rattle.meshing.specs.declared.written.MeshCounts.{MeshCounts}

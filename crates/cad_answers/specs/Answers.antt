@@ -2,7 +2,7 @@
 use mathlib.Core.Bool.{Bool, cond}
 use lib.Ieee.{Float}
 use Rattle.geometry.specs.declared.Aabb.{Aabb}
-use Rattle.geometry.specs.Geometry.{Alone}
+use Rattle.alone.specs.Alone.{Alone}
 use Rattle.cad_answers.specs.declared.patch.CadMeasured.{CadMeasured}
 use Rattle.cad_answers.specs.declared.patch.CadJudged.{CadJudged}
 

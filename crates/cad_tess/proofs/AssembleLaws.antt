@@ -6,7 +6,8 @@ use Prim.Native.Nat.{ℕ}
 use lib.Dec.{eqb}
 use lib.ListN.{length}
 use lib.Ieee.{Float}
-use Rattle.body.specs.Body.{Row, rowsOf, patchesOf, bodyChecks, firstFailing}
+use Rattle.body.specs.Body.{Row, rowsOf, patchesOf, firstFailing}
+use Rattle.checks.specs.BodyChecks.{bodyChecks}
 use Rattle.geometry.specs.declared.Aabb.{Aabb}
 use Rattle.acceptance.specs.Acceptance.{Acceptance, acceptance}
 use Rattle.assemble.specs.declared.assembling.Assembled.{Assembled}

@@ -7,12 +7,16 @@ use native.Mathlib.Omega.{arith}
 use lib.Dec.{eqb}
 use lib.Ieee.{Float}
 use borrow.Author.Tests.{ne-eqb}
-use Rattle.body.specs.Body.{firstFailing, loneChecks}
+use Rattle.body.specs.Body.{firstFailing}
+use Rattle.checks.specs.BodyChecks.{loneChecks}
 use Rattle.geometry.specs.declared.Aabb.{Aabb}
-use Rattle.geometry.specs.declared.alone.Measured.{Measured}
-use Rattle.geometry.specs.declared.alone.Judged.{Judged}
-use Rattle.geometry.specs.Geometry.{zero64, alone, patchVolume, farthest, escapesBody, volumeAlone, farthestAlone, escapesAlone}
-use Rattle.geometry.specs.Answers.{measuredOf, judgedOf, measuredAs, judgedAs}
+use Rattle.alone.specs.declared.alone.Measured.{Measured}
+use Rattle.alone.specs.declared.alone.Judged.{Judged}
+use Rattle.geometry.specs.Geometry.{zero64}
+use Rattle.alone.specs.Alone.{alone, volumeAlone, farthestAlone, escapesAlone}
+use Rattle.patch_volume.specs.Volume.{patchVolume}
+use Rattle.reach.specs.Reach.{farthest, escapesBody}
+use Rattle.alone.specs.Answers.{measuredOf, judgedOf, measuredAs, judgedAs}
 use Rattle.cad_answers.specs.declared.patch.CadMeasured.{CadMeasured}
 use Rattle.cad_answers.specs.declared.patch.CadJudged.{CadJudged}
 use Rattle.cad_answers.specs.Answers.{cadMeasured, cadJudged}

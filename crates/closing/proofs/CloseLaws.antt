@@ -9,7 +9,7 @@ use Rattle.lists.specs.Lists.{written}
 use Rattle.points.specs.Rule.{names}
 use Rattle.points.specs.Points.{key}
 use Rattle.body.specs.Body.{rowsOf, patchesOf, firstFailing}
-use Rattle.body.specs.Accepted.{passed-rows}
+use Rattle.checks.specs.Accepted.{passed-rows}
 use Rattle.splits.specs.declared.finder.Finder.{Finder}
 use Rattle.results.specs.declared.answer.Stitched.the-variants.{Done, Refused}
 use Rattle.stitched.specs.StitchedBody.{stitchedBody}

@@ -7,7 +7,7 @@ use lib.ListN.{length, take, drop, length-drop, take-append-drop}
 use lib.Ieee.{Float}
 use Rattle.lists.specs.Lists.{sumOf, written}
 use Rattle.body.specs.Body.{Row, rowsOf, tableOf, patchesOf, allVertices, allIndices}
-use Rattle.body.specs.Accepted.{Passed}
+use Rattle.checks.specs.Accepted.{Passed}
 use Rattle.results.specs.Slices.{StitchSlices, AfterStitch, writeBody}
 
 -- ---- what the code asks and ensures

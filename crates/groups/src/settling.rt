@@ -18,7 +18,7 @@ fn invert_if(
 {
     let inverted = inversion::inverts_group(rows, positions, indices, w, n, m, t);
     if inverted {
-        walk::invert_group(w, n, m, t);
+        colours::invert_group(w, n, m, t);
         return;
     }
 }
@@ -37,7 +37,7 @@ fn settle_group(
     requires { ⌜ Settleable (now rows) (now positions) (now indices) (now w) n m root against ⌝ }
     ensures { λ r. ⌜ Settled (now (rows .entry)) (now (positions .entry)) (now (indices .entry)) n m root against (now (w .entry)) (now (w .exit)) r ⌝ }
 {
-    let r = walk::walk_group(w, n, m, root, against);
+    let r = visiting::walk_group(w, n, m, root, against);
     let t = r.found;
     invert_if(rows, positions, indices, w, n, m, t);
     r.against
@@ -61,7 +61,7 @@ fn settle_root(
     if count == 0 {
         return against;
     }
-    let colour = walk::colour(w, n, m, k);
+    let colour = colours::colour(w, n, m, k);
     if colour == 0 {
         return settle_group(rows, positions, indices, w, n, m, k, against);
     }
@@ -113,8 +113,8 @@ pub fn walk_groups(
     requires { ⌜ Walkable (now rows) (now positions) (now indices) (now w) n m ⌝ }
     ensures { λ r. ⌜ GroupsWalked (now (rows .entry)) (now (positions .entry)) (now (indices .entry)) n m (now (w .entry)) (now (w .exit)) r ⌝ }
 {
-    walk::chain_pairs(w, n, m);
-    walk::uncolour(w, n, m);
+    chains::chain_pairs(w, n, m);
+    colours::uncolour(w, n, m);
     lay_bases(rows, w, n, m);
     settle_groups(rows, positions, indices, w, n, m)
 }

@@ -12,7 +12,8 @@ use borrow.Author.Tests.{eq-eqb, ne-eqb}
 use Rattle.lists.specs.Lists.{sumOf}
 use Rattle.body.specs.Body.{Patch, rowsOf}
 use Rattle.body.specs.Rows.{rowAt, verticesBefore, indicesBefore}
-use Rattle.geometry.specs.Geometry.{Within, add, patchVolume, zero64}
+use Rattle.patch_volume.specs.Volume.{Within, patchVolume}
+use Rattle.geometry.specs.Geometry.{add, zero64}
 use Rattle.walk.specs.Walk.{unvisited}
 use Rattle.walk.specs.Group.{queueOf, Queue}
 use Rattle.inversion.specs.Inversion.{patchAt, volumeFrom}

@@ -2,7 +2,8 @@
 
 ghost use mathlib.Core.Path.{_≡_};
 ghost use Rattle.lists.specs.Lists.{sumOf};
-ghost use Rattle.geometry.specs.Geometry.{patchVolume, zero64};
+ghost use Rattle.patch_volume.specs.Volume.{patchVolume};
+ghost use Rattle.geometry.specs.Geometry.{zero64};
 ghost use Rattle.walk.specs.Group.{queueOf, coloursOf};
 ghost use Rattle.inversion.specs.Inversion.{patchAt, volumeFrom, inverts};
 ghost use Rattle.inversion.specs.Measured.{shapes, RowMeasurable, GroupMeasurable, weightOf, RowWeighable, GroupWeighable};
@@ -26,7 +27,7 @@ fn row_volume(
     let vend = v + 3 * body::vertices(rows, x) as usize;
     let i = w[5 * n + 4 * m + x] as usize;
     let iend = i + body::indices(rows, x) as usize;
-    geometry::patch_volume(&positions[v..vend], &indices[i..iend], flip)
+    patch_volume::patch_volume(&positions[v..vend], &indices[i..iend], flip)
 }
 
 // V: the volumes of the first t rows of the queue, added in walk order, coloured rows reversed.
@@ -45,8 +46,8 @@ pub fn group_volume(
     let mut v = 0.0f64;
     let mut k = 0usize;
     while k < t {
-        let x = walk::queued(w, n, m, k);
-        let c = walk::colour(w, n, m, x);
+        let x = colours::queued(w, n, m, k);
+        let c = colours::colour(w, n, m, x);
         v = v + row_volume(rows, positions, indices, w, n, m, x, c == 2);
         k += 1;
     }
@@ -58,7 +59,7 @@ fn weight(rows: &[u32], w: &[u64], n: usize, m: usize, x: usize, c: u64) -> u32
     requires { ⌜ RowWeighable (now rows) (now w) n m x ⌝ }
     ensures { λ r. ⌜ r ≡ weightOf (now (rows .entry)) (coloursOf n m (now (w .entry))) c x ⌝ }
 {
-    if walk::colour(w, n, m, x) == c {
+    if colours::colour(w, n, m, x) == c {
         return body::indices(rows, x);
     }
     0
@@ -72,7 +73,7 @@ fn weigh(rows: &[u32], w: &[u64], n: usize, m: usize, t: usize, c: u64) -> u64
     let mut sum = 0u64;
     let mut k = 0usize;
     while k < t {
-        let x = walk::queued(w, n, m, k);
+        let x = colours::queued(w, n, m, k);
         sum += weight(rows, w, n, m, x, c) as u64;
         k += 1;
     }

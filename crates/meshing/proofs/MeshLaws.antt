@@ -13,7 +13,7 @@ use Rattle.lists.specs.Stretches.{rest-less}
 use Rattle.points.specs.Points.{bits}
 use Rattle.body.specs.Body.{rowsOf, allVertices, workNeeded}
 use Rattle.body.specs.Rows.{rowAt}
-use Rattle.body.specs.Accepted.{Passed, passed-rows}
+use Rattle.checks.specs.Accepted.{Passed, passed-rows}
 use Rattle.edges.specs.RowUses.{Inside}
 use Rattle.geometry.specs.declared.Aabb.{Aabb}
 use Rattle.acceptance.specs.declared.totals.Totals.{Totals}

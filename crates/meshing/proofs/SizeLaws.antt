@@ -12,8 +12,8 @@ use Rattle.body.specs.Body.{Row, Patch, patchesOf, allVertices, allIndices}
 use Rattle.body.specs.Rows.{noRow}
 use Rattle.body.specs.Patches.{length-patches}
 use Rattle.geometry.specs.declared.Aabb.{Aabb}
-use Rattle.acceptance.specs.declared.Failure.{Failure}
-use Rattle.acceptance.specs.Acceptance.{failureOf}
+use Rattle.verdicts.specs.declared.Failure.{Failure}
+use Rattle.verdicts.specs.Failures.{failureOf}
 use Rattle.acceptance.specs.Judged.{acceptedBy, acceptedRows, failedBy, failedOf}
 use Rattle.acceptance.specs.JudgedLaws.{accepted-indices}
 use Rattle.mesh.specs.Mesh.{Laid}

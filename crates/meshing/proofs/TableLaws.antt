@@ -14,7 +14,7 @@ use Rattle.lists.specs.Any.{sum-front}
 use Rattle.lists.specs.Stretches.{front-at, stretch-kept, stretch-at}
 use Rattle.body.specs.Body.{rowsOf, workNeeded}
 use Rattle.body.specs.Rows.{rowAt}
-use Rattle.body.specs.Accepted.{Passed, passed-rows}
+use Rattle.checks.specs.Accepted.{Passed, passed-rows}
 use Rattle.geometry.specs.declared.Aabb.{Aabb}
 use Rattle.acceptance.specs.Judged.{acceptedRows, decisionsIn, FailuresReady, FailuresWritten}
 use Rattle.mesh.specs.Mesh.{Laid, runOf, startOf, rangesFrom}

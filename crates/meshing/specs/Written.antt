@@ -8,11 +8,12 @@ use lib.Ieee.{Float}
 use Rattle.lists.specs.Lists.{sumOf, written}
 use Rattle.points.specs.Points.{bits}
 use Rattle.body.specs.Body.{rowsOf}
-use Rattle.body.specs.Accepted.{Passed}
+use Rattle.checks.specs.Accepted.{Passed}
 use Rattle.body.specs.Patches.{noPatch}
 use Rattle.geometry.specs.declared.Aabb.{Aabb}
 use Rattle.acceptance.specs.declared.totals.Totals.{Totals}
-use Rattle.acceptance.specs.Acceptance.{failureOf, failureNumbers}
+use Rattle.verdicts.specs.Failures.{failureOf}
+use Rattle.acceptance.specs.Acceptance.{failureNumbers}
 use Rattle.acceptance.specs.Judged.{acceptedRows, decisionsIn, failedOf, bare}
 use Rattle.acceptance.specs.Totals.{Totalled}
 use Rattle.mesh.specs.Mesh.{materialsOf, runsOf, partOf, rangesFrom}

@@ -41,8 +41,8 @@ fn write_tables(
     ensures { λ r. ⌜ TablesWritten (now (rows .entry)) (now (positions .entry)) (now (indices .entry)) reference (now (w .entry)) (now (w .exit)) m
         (now («mesh_indices» .entry)) (now («mesh_indices» .exit)) (now (parts .entry)) (now (parts .exit)) (now (ranges .entry)) (now (ranges .exit)) (now (failures .entry)) (now (failures .exit)) r ⌝ }
 {
-    let p = mesh::write_runs(rows, indices, w, 0, m, mesh_indices, parts);
-    let r = mesh::write_ranges(rows, w, 0, m, ranges);
+    let p = mesh_runs::write_runs(rows, indices, w, 0, m, mesh_indices, parts);
+    let r = mesh_rows::write_ranges(rows, w, 0, m, ranges);
     let f = acceptance::write_failures(rows, positions, indices, reference, w, 0, failures);
     Tables {
         parts: p,
@@ -93,8 +93,8 @@ pub fn write_mesh(
         (now («mesh_positions» .entry)) (now («mesh_positions» .exit)) (now («mesh_normals» .entry)) (now («mesh_normals» .exit)) (now («mesh_indices» .entry)) (now («mesh_indices» .exit))
         (now (parts .entry)) (now (parts .exit)) (now (ranges .entry)) (now (ranges .exit)) (now (failures .entry)) (now (failures .exit)) r ⌝ }
 {
-    mesh::write_vertices(rows, positions, w, 0, mesh_positions);
-    mesh::write_vertices(rows, normals, w, 0, mesh_normals);
+    mesh_rows::write_vertices(rows, positions, w, 0, mesh_positions);
+    mesh_rows::write_vertices(rows, normals, w, 0, mesh_normals);
     let b = write_tables(
         rows,
         positions,

@@ -15,9 +15,10 @@ use Rattle.lists.specs.Stretches.{part-stretch, part-rest, rest-less}
 use Rattle.points.specs.Rule.{names}
 use Rattle.points.specs.Points.{key}
 use Rattle.join.specs.Join.{joined}
-use Rattle.body.specs.Body.{rowsOf, patchesOf, allVertices, workNeeded, cleared, bodyChecks, firstFailing}
+use Rattle.body.specs.Body.{rowsOf, patchesOf, allVertices, workNeeded, cleared, firstFailing}
+use Rattle.checks.specs.BodyChecks.{bodyChecks}
 use Rattle.body.specs.Rows.{Total}
-use Rattle.body.specs.Accepted.{Passed, passed, passed-rows}
+use Rattle.checks.specs.Accepted.{Passed, passed, passed-rows}
 use Rattle.walk.specs.Walk.{coloured}
 use Rattle.walk.specs.Uses.{pairsBy}
 use Rattle.walk.specs.Area.{usesOf, Sound}

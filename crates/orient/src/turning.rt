@@ -3,7 +3,7 @@
 ghost use mathlib.Core.Path.{_≡_};
 ghost use lib.ListN.{length};
 ghost use Rattle.points.specs.Points.{key};
-ghost use Rattle.body.specs.Accepted.{Passed};
+ghost use Rattle.checks.specs.Accepted.{Passed};
 ghost use Rattle.orient.specs.Orient.{turnOf};
 ghost use Rattle.orient.specs.Turned.{Colourable, Coloured, left, leftDone, answered, turnDone};
 
@@ -75,7 +75,7 @@ pub fn turn(
     ensures { λ r. ⌜ left r (now (normals .exit)) (now (indices .exit)) (now (work .exit))
         ≡ answered (turnOf key (now (rows .entry)) (now (positions .entry)) (now (normals .entry)) (now (indices .entry)) (now (work .entry))) ⌝ }
 {
-    let refusal = body::first_failing(rows, positions, normals, indices, work.len());
+    let refusal = checks::first_failing(rows, positions, normals, indices, work.len());
     if refusal == 0 {
         return Turned::Done(turn_accepted(rows, positions, normals, indices, work));
     }

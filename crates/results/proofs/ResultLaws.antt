@@ -5,7 +5,8 @@ use mathlib.Core.List.{[]}
 use Prim.Native.Nat.{ℕ, _*_, _≤_, _<_}
 use lib.Dec.{ltb}
 use borrow.Author.Tests.{lt-ltb, le-ltb}
-use Rattle.body.specs.Body.{tooLarge, firstFailing}
+use Rattle.table_checks.specs.TableChecks.{tooLarge}
+use Rattle.body.specs.Body.{firstFailing}
 use Rattle.body.specs.Checks.{first-here, first-next, first-none}
 use Rattle.results.specs.Results.{tooShort, resultChecks}
 

@@ -6,7 +6,8 @@ use Prim.Native.Nat.{ℕ, _*_, _≤_}
 use lib.ListN.{length}
 use lib.Dec.{ltb}
 use borrow.Author.Tests.{ltb-false}
-use Rattle.body.specs.Body.{Row, Check, check, firstFailing, tooLarge, allVertices, allIndices}
+use Rattle.body.specs.Body.{Row, Check, check, firstFailing, allVertices, allIndices}
+use Rattle.table_checks.specs.TableChecks.{tooLarge}
 use Rattle.body.specs.Checks.{clear-first, or-left, or-right}
 use Rattle.results.specs.Slices.{StitchSlices, stitchChecks}
 

@@ -8,7 +8,8 @@ use lib.Dec.{ltb}
 use borrow.Author.Tests.{ltb-false}
 use Rattle.body.specs.Checks.{or-left, or-right}
 use Rattle.body.specs.Body.{firstFailing}
-use Rattle.acceptance.specs.Acceptance.{Accepted, acceptedVertices, acceptedIndices, badMaterials}
+use Rattle.acceptance.specs.Acceptance.{Accepted, acceptedVertices, acceptedIndices}
+use Rattle.materials.specs.Materials.{badMaterials}
 use Rattle.room.specs.Slices.{MeshSlices, tooShort, meshTooShort, meshChecks}
 
 -- sizes whose needs can be counted

@@ -5,7 +5,8 @@ use Prim.Native.Nat.{ℕ, _*_}
 use lib.ListN.{length}
 use lib.Dec.{ltb}
 use Rattle.body.specs.Body.{Check, check}
-use Rattle.acceptance.specs.Acceptance.{Accepted, acceptedVertices, acceptedIndices, failureWidth, badMaterials}
+use Rattle.acceptance.specs.Acceptance.{Accepted, acceptedVertices, acceptedIndices, failureWidth}
+use Rattle.materials.specs.Materials.{badMaterials}
 use Rattle.mesh.specs.Mesh.{Vertices, partWidth, rangeWidth}
 
 -- the slices that assemble is lent

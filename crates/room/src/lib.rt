@@ -1,5 +1,5 @@
 // Check 41: room for the mesh and its tables.
 
-mod checks;
+mod lengths;
 
-pub use checks::too_short;
+pub use lengths::too_short;

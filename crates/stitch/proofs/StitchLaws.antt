@@ -9,9 +9,10 @@ use lib.Ieee.{Float, lt}
 use borrow.Author.Tests.{eq-eqb, ne-eqb}
 use Rattle.points.specs.Rule.{names}
 use Rattle.points.specs.Points.{key}
-use Rattle.body.specs.Body.{Patch, rowsOf, patchesOf, allVertices, workNeeded, cleared, bodyChecks, firstFailing}
+use Rattle.body.specs.Body.{Patch, rowsOf, patchesOf, allVertices, workNeeded, cleared, firstFailing}
+use Rattle.checks.specs.BodyChecks.{bodyChecks}
 use Rattle.body.specs.Rows.{Total}
-use Rattle.body.specs.Accepted.{Passed}
+use Rattle.checks.specs.Accepted.{Passed}
 use Rattle.geometry.specs.Geometry.{zero64}
 use Rattle.results.specs.declared.answer.Stitched.{Stitched}
 use Rattle.results.specs.declared.answer.Stitched.the-variants.{Done, Refused}

@@ -9,7 +9,7 @@ ghost use lib.ListN.{length};
 ghost use Rattle.points.specs.Rule.{names};
 ghost use Rattle.points.specs.Points.{key};
 ghost use Rattle.body.specs.Body.{rowsOf, patchesOf};
-ghost use Rattle.body.specs.Accepted.{Passed};
+ghost use Rattle.checks.specs.Accepted.{Passed};
 ghost use Rattle.stitch.specs.Stitch.{stitchBody, stitchOf, stitchAccepted};
 ghost use Rattle.results.specs.Stitched.{slicesOf, leftStitch, stitchAnswered, StitchReady, BodyStitched};
 
@@ -121,7 +121,7 @@ pub fn stitch(
         ≡ stitchAnswered (stitchOf key (now (rows .entry)) (now (positions .entry)) (now (normals .entry)) (now (indices .entry)) sag
         (slicesOf (now («out_rows» .entry)) (now («out_positions» .entry)) (now («out_normals» .entry)) (now («out_indices» .entry)) (now (work .entry)))) ⌝ }
 {
-    let refusal = body::first_failing(rows, positions, normals, indices, work.len());
+    let refusal = checks::first_failing(rows, positions, normals, indices, work.len());
     if refusal == 0 {
         return stitch_accepted(
             rows,

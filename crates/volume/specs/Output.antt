@@ -11,7 +11,8 @@ use lib.Ieee.{Float, neg}
 use Rattle.lists.specs.Lists.{sumOf}
 use Rattle.points.specs.Rule.{Rule, names}
 use Rattle.join.specs.Join.{joined}
-use Rattle.body.specs.Body.{Row, Patch, rowsOf, patchesOf, allVertices, allIndices, firstFailing, bodyChecks}
+use Rattle.body.specs.Body.{Row, Patch, rowsOf, patchesOf, allVertices, allIndices, firstFailing}
+use Rattle.checks.specs.BodyChecks.{bodyChecks}
 use Rattle.groups.specs.Groups.{Walks}
 use Rattle.orient.specs.Orient.{AfterTurn, walksOf, turnBody, refuseTurn, turnOf}
 use Rattle.reversal.specs.Reversal.{swapped, turnedPatch, turnedBody}

@@ -12,7 +12,8 @@ use Rattle.floats.specs.Floats as Floats
 use Rattle.lists.specs.Lists.{any, all}
 use Rattle.points.specs.Rule.{Rule, names}
 use Rattle.join.specs.Join.{joined}
-use Rattle.body.specs.Body.{Row, Patch, trianglesOf, rowsOf, patchesOf, allIndices, allVertices, badIndices}
+use Rattle.body.specs.Body.{Row, Patch, trianglesOf, rowsOf, patchesOf, allIndices, allVertices}
+use Rattle.patch_checks.specs.PatchChecks.{badIndices}
 use Rattle.geometry.specs.Geometry.{zero64}
 use Rattle.groups.specs.Groups.{Group, Walks}
 use Rattle.orient.specs.Orient.{AfterTurn, walksOf, turnOf}

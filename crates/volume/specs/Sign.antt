@@ -11,7 +11,7 @@ use lib.ListN.{getD, length}
 use lib.IntN.{ℤ, pos, negsuc, negℤ, natAbs, _+ℤ_, _-ℤ_, _*ℤ_, *ℤ-comm}
 use lib.Ieee.{Float, neg}
 use Rattle.body.specs.Body.{Patch, Triangle, trianglesOf}
-use Rattle.geometry.specs.Geometry.{reversed}
+use Rattle.patch_volume.specs.Volume.{reversed}
 use Rattle.inversion.specs.Inversion.{patchAt}
 use Rattle.reversal.specs.Reversal.{swapped, turnedPatch, turnedBody}
 use Rattle.walk.specs.Walk.{coloured, unvisited, opposite}
