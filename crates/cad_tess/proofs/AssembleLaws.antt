@@ -17,6 +17,7 @@ use Rattle.assemble.specs.Assemble.{AfterAssemble, writeMesh, refuseMesh, clear
 use Rattle.assemble.specs.Assembled.{LeftMesh, leftMesh, countsAnswered, assembleAnswered}
 use Rattle.cad_answers.specs.declared.assembling.CadAssembled.{CadAssembled}
 use Rattle.cad_answers.specs.Assembling.{cadAssembled, leftAfterAssemble}
+use Rattle.cad_tess.proofs.Told.{either}
 
 -- the struct and the slices of a call
 abbrev flat : LeftMesh → AfterAssemble
@@ -49,18 +50,12 @@ written-told v out =
       slices = writeMesh v out .slices;
     }
 
--- one of two
-told-either : (b : Bool) (done refused : AfterAssemble) → flat (assembleAnswered done) ≡ done → (b ≡ false → flat (assembleAnswered refused) ≡ refused)
-    → flat (assembleAnswered (elim b [ true ↦ done | false ↦ refused ])) ≡ elim b [ true ↦ done | false ↦ refused ]
-told-either true done refused p q = p
-told-either false done refused p q = q refl
-
 -- the checks of the result decide
 result-told : (rows : List Row) (materials : List ℕ) (default : ℕ) (v : Acceptance) (out : MeshSlices) → flat (assembleAnswered (assembleOrRefuse rows materials default v out)) ≡ assembleOrRefuse rows materials default v out
 unfolding assembleOrRefuse
 result-told rows materials default v out =
     let n = firstFailing (meshChecks (length rows) materials default (v .accepted) out) in
-    told-either (eqb n 0) (writeMesh v out) (refuseMesh n out) (written-told v out) (refused-told n out)
+    either (λ t. flat (assembleAnswered t)) (eqb n 0) (writeMesh v out) (refuseMesh n out) (written-told v out) (refused-told n out)
 
 module _ (table : List ℕ) (ps ns : List Float) (is : List ℕ) (box : Aabb) (materials : List ℕ) (default : ℕ) (out : MeshSlices) where
   -- the struct holds all that the definition says
@@ -70,7 +65,7 @@ module _ (table : List ℕ) (ps ns : List Float) (is : List ℕ) (box : Aabb) (m
       let n = firstFailing (bodyChecks table ps ns is (length (out .work))) in
       let v = acceptance box materials default (patchesOf (rowsOf table) ps ns is) in
       let o = clearedMesh (rowsOf table) out in
-      told-either (eqb n 0) (assembleOrRefuse (rowsOf table) materials default v o) (refuseMesh n out) (result-told (rowsOf table) materials default v o) (refused-told n out)
+      either (λ t. flat (assembleAnswered t)) (eqb n 0) (assembleOrRefuse (rowsOf table) materials default v o) (refuseMesh n out) (result-told (rowsOf table) materials default v o) (refused-told n out)
 
   -- what the call leaves
   pub call-left : {b : Aabb} {t : Assembled} {r : CadAssembled} {s : MeshSlices} → b ≡ box → leftMesh t s ≡ assembleAnswered (assembleOf table ps ns is b materials default out) → r ≡ cadAssembled t
