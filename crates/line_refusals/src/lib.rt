@@ -1,4 +1,4 @@
-// The order of the sheet's lines, and when a line is refused.
+// When a line of the sheet is refused: out of order, failing with 0, or past a limit.
 
 use lines::Kind;
 ghost use mathlib.Core.Path.{_≡_};

@@ -1,8 +1,8 @@
 -- `fails_with_zero` meets its contract. Assumes nothing.
-use Rattle.line_order.proofs.OrderLaws.{fails-box, fails-default, fails-face, fails-fail, fails-material, fails-nodefault, fails-sag, fails-triangle, fails-vertex}
+use Rattle.line_refusals.proofs.OrderLaws.{fails-box, fails-default, fails-face, fails-fail, fails-material, fails-nodefault, fails-sag, fails-triangle, fails-vertex}
 use borrow.Author.Needs.{needs}
-use Rattle.line_order.proofs.fails_with_zero.Statement.{statement}
-use Rattle.line_order.proofs.fails_with_zero.Tie as tie
+use Rattle.line_refusals.proofs.fails_with_zero.Statement.{statement}
+use Rattle.line_refusals.proofs.fails_with_zero.Tie as tie
 
 enum-told : tie.Need-enum-told
 enum-told c = search needs

@@ -1,8 +1,8 @@
 -- `in_order` meets its contract. Assumes nothing.
-use Rattle.line_order.proofs.OrderLaws.{order-before, order-within}
+use Rattle.line_refusals.proofs.OrderLaws.{order-before, order-within}
 use borrow.Author.Needs.{needs}
-use Rattle.line_order.proofs.in_order.Statement.{statement}
-use Rattle.line_order.proofs.in_order.Tie as tie
+use Rattle.line_refusals.proofs.in_order.Statement.{statement}
+use Rattle.line_refusals.proofs.in_order.Tie as tie
 
 first-place-requires : tie.Need-first-place-requires
 first-place-requires c κs = search needs

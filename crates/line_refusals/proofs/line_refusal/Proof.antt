@@ -1,8 +1,8 @@
 -- `line_refusal` meets its contract. Assumes nothing.
-use Rattle.line_order.proofs.OrderLaws.{not-refused, refused-limit, refused-order, refused-zero}
+use Rattle.line_refusals.proofs.OrderLaws.{not-refused, refused-limit, refused-order, refused-zero}
 use borrow.Author.Needs.{needs}
-use Rattle.line_order.proofs.line_refusal.Statement.{statement}
-use Rattle.line_order.proofs.line_refusal.Tie as tie
+use Rattle.line_refusals.proofs.line_refusal.Statement.{statement}
+use Rattle.line_refusals.proofs.line_refusal.Tie as tie
 
 in-order-requires : tie.Need-in-order-requires
 in-order-requires c κs = search needs

@@ -1,8 +1,8 @@
 -- `passes_limit` meets its contract. Assumes nothing.
-use Rattle.line_order.proofs.OrderLaws.{limit-box, limit-default, limit-face, limit-fail, limit-material, limit-nodefault, limit-sag, limit-triangle, limit-vertex}
+use Rattle.line_refusals.proofs.OrderLaws.{limit-box, limit-default, limit-face, limit-fail, limit-material, limit-nodefault, limit-sag, limit-triangle, limit-vertex}
 use borrow.Author.Needs.{needs}
-use Rattle.line_order.proofs.passes_limit.Statement.{statement}
-use Rattle.line_order.proofs.passes_limit.Tie as tie
+use Rattle.line_refusals.proofs.passes_limit.Statement.{statement}
+use Rattle.line_refusals.proofs.passes_limit.Tie as tie
 
 enum-told : tie.Need-enum-told
 enum-told c = search needs

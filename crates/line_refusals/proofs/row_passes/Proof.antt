@@ -1,8 +1,8 @@
 -- `row_passes` meets its contract. Assumes nothing.
-use Rattle.line_order.proofs.OrderLaws.{row-face, row-rows}
+use Rattle.line_refusals.proofs.OrderLaws.{row-face, row-rows}
 use borrow.Author.Needs.{needs}
-use Rattle.line_order.proofs.row_passes.Statement.{statement}
-use Rattle.line_order.proofs.row_passes.Tie as tie
+use Rattle.line_refusals.proofs.row_passes.Statement.{statement}
+use Rattle.line_refusals.proofs.row_passes.Tie as tie
 
 returns : tie.Need-returns
 returns c = search (needs, row-face)
