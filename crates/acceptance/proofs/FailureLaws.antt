@@ -2,22 +2,23 @@
 use mathlib.Core.Path.{_≡_, refl, sym, ap, _∙_, subst}
 use mathlib.Core.List.{List, [], _∷_, _++_, flatMap, append-assoc, append-nil}
 use mathlib.Core.Option.{Option, none, some}
-use Prim.Native.Nat.{ℕ, zero, suc, _+_, _-_, _*_, _≤_, _<_}
+use Prim.Native.Nat.{ℕ, _+_, _*_, _≤_, _<_}
 use native.Mathlib.Omega.{arith}
-use lib.ListN.{length, getD, take, drop, length-append, drop-of-length-le}
+use lib.ListN.{length, getD, drop, length-append, drop-of-length-le}
 use lib.Ieee.{Float}
 use Rattle.lists.specs.Lists.{written}
 use Rattle.floats.specs.Floats.{bits64}
 use Rattle.body.specs.Body.{Row, Patch, rowsOf, patchesOf}
 use Rattle.body.specs.Rows.{rowAt}
-use Rattle.body.specs.Patches.{noPatch, patchFrom, patch-at}
+use Rattle.body.specs.Patches.{patchFrom, patch-at}
 use Rattle.append.specs.Appended.{Appended, appended-none, appended-written, appended-long, behind}
 use Rattle.geometry.specs.declared.Aabb.{Aabb}
 use Rattle.geometry.specs.Geometry.{diagonal}
-use Rattle.acceptance.specs.declared.Failure.{Failure}
-use Rattle.acceptance.specs.declared.Failure.the-variants.{Empty, Upstream, Escape}
-use Rattle.acceptance.specs.Acceptance.{failureOf, Failed, failureNumbers}
-use Rattle.acceptance.specs.Judged.{failedBy, failedOf, RowJudgeable, FailureReady, FailureWritten, FailuresReady, FailuresWritten, bare}
+use Rattle.verdicts.specs.declared.Failure.{Failure}
+use Rattle.verdicts.specs.declared.Failure.the-variants.{Empty, Upstream, Escape}
+use Rattle.verdicts.specs.Failures.{failureOf}
+use Rattle.acceptance.specs.Acceptance.{Failed, failureNumbers}
+use Rattle.acceptance.specs.Judged.{failedBy, failedOf, FailureReady, FailureWritten, FailuresReady, FailuresWritten, bare}
 use Rattle.acceptance.specs.RestLaws.{restOf, rest-here}
 use Rattle.acceptance.proofs.JudgeLaws.{AtRow, at-first, at-next, vertices-in, indices-in}
 

@@ -2,9 +2,9 @@
 use mathlib.Core.Path.{_≡_, refl, sym, ap, _∙_}
 use mathlib.Core.List.{List, [], _∷_, _++_, map, append-assoc, append-nil}
 use mathlib.Core.Option.{Option, none, some}
-use Prim.Native.Nat.{ℕ, zero, suc, _+_, _-_, _*_, _≤_, _<_}
+use Prim.Native.Nat.{ℕ, suc, _+_, _-_, _*_, _≤_, _<_}
 use native.Mathlib.Omega.{arith}
-use lib.ListN.{length, getD, take, drop, set, length-set, length-append, drop-of-length-le}
+use lib.ListN.{length, take, drop, set, length-set, length-append, drop-of-length-le}
 use lib.Seq.{sets}
 use lib.Ieee.{Float}
 use Rattle.lists.specs.Lists.{sumOf}
@@ -14,9 +14,10 @@ use Rattle.body.specs.Rows.{rowAt, verticesBefore, indicesBefore}
 use Rattle.body.specs.Patches.{patchFrom, vertices-next, indices-next, vertices-room, indices-room}
 use Rattle.geometry.specs.declared.Aabb.{Aabb}
 use Rattle.geometry.specs.Geometry.{diagonal}
-use Rattle.acceptance.specs.declared.Failure.{Failure}
-use Rattle.acceptance.specs.Acceptance.{failureOf, failureBy, materialOf}
-use Rattle.acceptance.specs.Judged.{decisionBy, decisionOf, SmallMaterials, RowJudgeable, DecisionReady, Judgeable, bare}
+use Rattle.verdicts.specs.declared.Failure.{Failure}
+use Rattle.verdicts.specs.Failures.{failureOf, failureBy}
+use Rattle.materials.specs.Materials.{materialOf}
+use Rattle.acceptance.specs.Judged.{decisionBy, decisionOf, RowJudgeable, DecisionReady, Judgeable, bare}
 use Rattle.acceptance.specs.RestLaws.{restOf, rest-here}
 
 -- the verdict on a row's stretches is the one on its patch

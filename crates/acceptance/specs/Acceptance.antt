@@ -1,46 +1,16 @@
 -- Acceptance: which patches go into the mesh and with what material, and why the others do not. Assumes nothing.
-use mathlib.Core.Bool.{Bool, true, false, not, cond}
 use mathlib.Core.List.{List, [], _∷_}
 use mathlib.Core.Option.{Option, none, some}
-use Prim.Native.Nat.{ℕ, zero, suc, _+_, _*_, _^_}
+use Prim.Native.Nat.{ℕ}
 use lib.ListN.{length}
-use lib.Dec.{ltb, eqb}
-use lib.Ieee.{Float}
-use Rattle.lists.specs.Lists.{any, sumOf, itemAt}
+use Rattle.lists.specs.Lists.{sumOf}
 use Rattle.floats.specs.Floats.{bits64}
 use Rattle.body.specs.Body.{Patch}
 use Rattle.geometry.specs.declared.Aabb.{Aabb}
-use Rattle.geometry.specs.Geometry.{farthest, diagonal, escapesBody}
-use Rattle.acceptance.specs.declared.Failure.{Failure}
-use Rattle.acceptance.specs.declared.Failure.the-variants.{Empty, Upstream, Escape}
-
--- An escape carries the reach and the span.
-unfoldable pub escapeOf : Aabb → List Float → Option Failure
-escapeOf box ps = cond (escapesBody ps box) (some (Escape (farthest ps box) (diagonal box))) none
-
--- A failure is one of: no triangles; upstream with its number; and an escape. Upstream goes first, then empty.
-unfoldable pub failureBy : Aabb → ℕ → List Float → List ℕ → Option Failure
-failureBy box outcome ps is = cond (not (eqb outcome 0)) (some (Upstream outcome)) (cond (eqb (length is) 0) (some Empty) (escapeOf box ps))
-
--- the failure of a patch
-abbrev pub failureOf : Aabb → Patch → Option Failure
-failureOf box p = failureBy box (p .row .outcome) (p .positions) (p .indices)
-
--- what an entry says: 0 is none, n + 1 is material n
-unfoldable pub entry : ℕ → Option ℕ
-entry zero = none
-entry (suc n) = some n
-
--- the entry of a face; a missing one is none
-unfoldable pub entryOf : List ℕ → ℕ → Option ℕ
-entryOf materials face = elim (itemAt materials face) [ none ↦ none | some e ↦ entry e ]
-
--- A face whose entry is 0 or missing has the default; no default means material 0.
-unfoldable pub materialOf : List ℕ → ℕ → ℕ → ℕ
-materialOf materials default face = elim (entryOf materials face) [
-  | some m ↦ m
-  | none ↦ elim (entry default) [ some m ↦ m | none ↦ 0 ]
-]
+use Rattle.verdicts.specs.declared.Failure.{Failure}
+use Rattle.verdicts.specs.declared.Failure.the-variants.{Empty, Upstream, Escape}
+use Rattle.materials.specs.Materials.{materialOf}
+use Rattle.verdicts.specs.Failures.{failureOf}
 
 -- an accepted patch with its material
 pub record Accepted : Type 0 where
@@ -86,7 +56,3 @@ failureNumbers f = elim (f .failure) [
   | Upstream n ↦ f .face ∷ n ∷ 0 ∷ 0 ∷ []
   | Escape reach span ↦ f .face ∷ 256 ∷ bits64 reach ∷ bits64 span ∷ []
 ]
-
--- 42: an entry or the default is above 2 ^ 32
-unfoldable pub badMaterials : List ℕ → ℕ → Bool
-badMaterials materials default = any (λ m. ltb (2 ^ 32) m) (default ∷ materials)

@@ -12,20 +12,11 @@ use Rattle.body.specs.Patches.{noPatch, patchFrom}
 use Rattle.append.specs.Appended.{Appended}
 use Rattle.geometry.specs.declared.Aabb.{Aabb}
 use Rattle.geometry.specs.Geometry.{diagonal}
-use Rattle.acceptance.specs.declared.Failure.{Failure}
-use Rattle.acceptance.specs.declared.verdict.Verdict.{Verdict}
-use Rattle.acceptance.specs.declared.verdict.Verdict.the-variants as verdict
-use Rattle.acceptance.specs.Acceptance.{failureOf, materialOf, Accepted, Failed, failureNumbers}
-
--- the failure that a verdict tells of
-abbrev pub failureIn : Verdict → Option Failure
-failureIn verdict.Accepted = none
-failureIn (verdict.Failed f) = some f
-
--- no entry and no default is above 2 ^ 32
-pub record SmallMaterials (materials : List ℕ) (default : ℕ) : Type 0 where
-  pub entries : (k : ℕ) → k < length materials → getD materials k 0 ≤ 4294967296
-  pub other : default ≤ 4294967296
+use Rattle.verdicts.specs.declared.Failure.{Failure}
+use Rattle.verdicts.specs.Failures.{failureOf}
+use Rattle.materials.specs.Materials.{materialOf}
+use Rattle.acceptance.specs.Acceptance.{Accepted, Failed, failureNumbers}
+use Rattle.materials.specs.Small.{SmallMaterials}
 
 -- ---- a decision for each row
 

@@ -1,23 +1,26 @@
 -- The decisions of a body give what the definition of acceptance gives. Assumes nothing.
-use mathlib.Core.Path.{_≡_, refl, sym, ap, _∙_}
-use mathlib.Core.Bool.{Bool, true, false}
+use mathlib.Core.Path.{_≡_, refl, ap}
+use mathlib.Core.Bool.{false}
 use mathlib.Core.List.{List, [], _∷_, _++_, map, flatMap}
 use mathlib.Core.Option.{Option, none, some}
 use Prim.Native.Nat.{ℕ, zero, suc, _+_, _*_, _≤_, _<_}
 use native.Mathlib.Omega.{arith}
-use lib.ListN.{length, getD, take, drop, length-drop}
+use lib.ListN.{length, getD, drop, length-drop}
 use lib.Seq.{length-take-le}
 use lib.Dec.{ltb}
 use lib.Ieee.{Float}
 use borrow.Author.Tests.{ltb-false}
 use Rattle.lists.specs.Lists.{sumOf, itemAt}
 use Rattle.lists.specs.Any.{any-none}
-use Rattle.body.specs.Body.{Row, Patch, rowsOf, patchesOf, allVertices, allIndices}
+use Rattle.body.specs.Body.{Row, Patch, patchesOf, allVertices, allIndices}
 use Rattle.body.specs.Patches.{patchFrom}
 use Rattle.geometry.specs.declared.Aabb.{Aabb}
-use Rattle.acceptance.specs.declared.Failure.{Failure}
-use Rattle.acceptance.specs.Acceptance.{failureOf, entry, entryOf, materialOf, Accepted, Failed, withPatch, acceptance, acceptedVertices, acceptedIndices, badMaterials}
-use Rattle.acceptance.specs.Judged.{SmallMaterials, decisionBy, decisionOf, acceptedBy, acceptedRows, failedBy, failedOf}
+use Rattle.verdicts.specs.declared.Failure.{Failure}
+use Rattle.verdicts.specs.Failures.{failureOf}
+use Rattle.materials.specs.Materials.{entry, entryOf, materialOf, badMaterials}
+use Rattle.acceptance.specs.Acceptance.{Accepted, Failed, withPatch, acceptance, acceptedVertices, acceptedIndices}
+use Rattle.materials.specs.Small.{SmallMaterials}
+use Rattle.acceptance.specs.Judged.{decisionBy, decisionOf, acceptedBy, acceptedRows, failedBy, failedOf}
 
 module _ (box : Aabb) (materials : List ℕ) (default : ℕ) where
   -- the accepted are those with a decision other than 0, with its material

@@ -1,17 +1,15 @@
 -- The patches from row k on: what they begin with, and what decisions make of them. Assumes nothing.
-use mathlib.Core.Path.{_≡_, refl, sym, ap, _∙_}
-use mathlib.Core.List.{List, [], _∷_}
+use mathlib.Core.Path.{_≡_, refl, ap, _∙_}
+use mathlib.Core.List.{List, _∷_}
 use Prim.Native.Nat.{ℕ, zero, suc, _+_, _-_, _*_, _≤_, _<_}
 use native.Mathlib.Omega.{arith}
-use lib.ListN.{length, getD, take, drop, length-drop}
+use lib.ListN.{length, getD, drop, length-drop}
 use lib.Seq.{drop-drop, drop-cons, length-take-le}
 use lib.Ieee.{Float}
-use Rattle.lists.specs.Lists.{sumOf}
 use Rattle.lists.specs.Stretches.{stretch-at}
-use Rattle.body.specs.Body.{Row, Patch, rowsOf, patchesOf, allVertices, allIndices}
-use Rattle.body.specs.Rows.{noRow, rowAt, verticesBefore, indicesBefore}
+use Rattle.body.specs.Body.{Row, Patch, rowsOf, patchesOf}
+use Rattle.body.specs.Rows.{noRow, rowAt}
 use Rattle.body.specs.Patches.{patchFrom}
-use Rattle.acceptance.specs.Acceptance.{Accepted}
 use Rattle.acceptance.specs.Judged.{acceptedBy, acceptedRows, decisionsIn}
 
 -- the patches from row k on, whose vertices start at `base` and whose indices at i

@@ -2,7 +2,7 @@
 use mathlib.Core.Path.{_≡_}
 use mathlib.Core.List.{List}
 use Prim.Native.Nat.{ℕ, zero, suc, _+_, _≤_, _<_}
-use lib.ListN.{length, getD}
+use lib.ListN.{length}
 use Rattle.body.specs.Body.{Row, rowsOf, allVertices, allIndices}
 use Rattle.body.specs.Rows.{WholeRows}
 use Rattle.acceptance.specs.declared.totals.Totals.{Totals}

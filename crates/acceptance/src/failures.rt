@@ -1,10 +1,10 @@
 // The failures of a body, in row order.
 
-use crate::FaceId;
-use crate::Failure;
 use crate::judge::row_verdict;
-use crate::verdict::Verdict;
 use geometry::Aabb;
+use materials::FaceId;
+use verdicts::Failure;
+use verdicts::Verdict;
 ghost use Prim.Native.Nat.{_+_, _*_, _≤_};
 ghost use lib.ListN.{length};
 ghost use Rattle.append.specs.Appended.{Appended};

@@ -1,18 +1,19 @@
 // The decision on each row, kept in the work area: 0 if it fails, else 1 + its material.
 
-use crate::FaceId;
-use crate::materials::material_of;
-use crate::verdict::Verdict;
-use crate::verdict::verdict_of;
 use geometry::Aabb;
+use materials::FaceId;
+use materials::material_of;
+use verdicts::Verdict;
+use verdicts::verdict_of;
 ghost use mathlib.Core.Path.{_≡_};
 ghost use mathlib.Core.List.{[], map};
 ghost use lib.Seq.{sets};
 ghost use Rattle.body.specs.Body.{rowsOf, patchesOf};
 ghost use Rattle.body.specs.Rows.{rowAt};
 ghost use Rattle.body.specs.Patches.{patchFrom};
-ghost use Rattle.acceptance.specs.Acceptance.{failureOf};
-ghost use Rattle.acceptance.specs.Judged.{failureIn, decisionOf, RowJudgeable, DecisionReady, Judgeable};
+ghost use Rattle.verdicts.specs.Failures.{failureOf};
+ghost use Rattle.verdicts.specs.Verdicts.{failureIn};
+ghost use Rattle.acceptance.specs.Judged.{decisionOf, RowJudgeable, DecisionReady, Judgeable};
 
 // The verdict on row k, whose vertices start at `base` and whose indices at i.
 pub fn row_verdict(

@@ -1,8 +1,7 @@
--- Laws of assemble: decisions and totals of an accepted body, its checks 42 and 41, and the call. Assumes nothing.
+-- Laws of assemble: decisions and totals of an accepted body, its mesh or refusal, and the call. Assumes nothing.
 use mathlib.Core.Path.{_≡_, refl, sym, ap, _∙_, subst}
-use mathlib.Core.Bool.{Bool, true, false, cond}
+use mathlib.Core.Bool.{Bool, true, false}
 use mathlib.Core.List.{List, [], _∷_, _++_, map, flatMap}
-use mathlib.Core.Option.{none}
 use Prim.Native.Nat.{ℕ, zero, suc, _+_, _*_, _≤_, _<_}
 use native.Mathlib.Nat.{not-suc-le-zero}
 use native.Mathlib.Omega.{arith}
@@ -11,33 +10,36 @@ use lib.ListN.{length, getD, take, drop, replicate, length-map}
 use lib.Seq.{sets, length-sets}
 use lib.Dec.{eqb}
 use lib.Ieee.{Float}
-use Rattle.lists.specs.Lists.{sumOf, written}
+use Rattle.lists.specs.Lists.{written}
 use Rattle.lists.specs.Sets.{drop-sets}
 use Rattle.lists.specs.Stretches.{stretch-sets, stretch-at, rest-less}
 use Rattle.points.specs.Points.{bits}
-use Rattle.body.specs.Body.{Row, Patch, rowsOf, patchesOf, allVertices, allIndices, workNeeded, cleared, bodyChecks, firstFailing}
+use Rattle.body.specs.Body.{Row, Patch, rowsOf, patchesOf, allVertices, workNeeded, cleared, firstFailing}
+use Rattle.checks.specs.BodyChecks.{bodyChecks}
 use Rattle.body.specs.Rows.{Total}
 use Rattle.body.specs.Patches.{noPatch, length-patches}
-use Rattle.body.specs.Accepted.{Passed, passed-rows}
+use Rattle.checks.specs.Accepted.{Passed, passed-rows}
 use Rattle.geometry.specs.declared.Aabb.{Aabb}
 use Rattle.acceptance.specs.declared.totals.Totals.{Totals}
-use Rattle.acceptance.specs.Acceptance.{failureOf, Accepted, Failed, Acceptance, acceptance, acceptedVertices, acceptedIndices, failureNumbers, badMaterials}
-use Rattle.acceptance.specs.Judged.{SmallMaterials, decisionOf, Judgeable, acceptedBy, acceptedRows, decisionsIn, failedOf, bare}
+use Rattle.acceptance.specs.Acceptance.{Accepted, Failed, Acceptance, acceptance, acceptedVertices, acceptedIndices, failureNumbers}
+use Rattle.materials.specs.Materials.{badMaterials}
+use Rattle.materials.specs.Small.{SmallMaterials}
+use Rattle.acceptance.specs.Judged.{decisionOf, Judgeable, acceptedBy, decisionsIn, failedOf, bare}
 use Rattle.acceptance.specs.JudgedLaws.{accepted-by, failed-by, decisions-bare, failed-bare, accepted-count, accepted-vertices, accepted-indices, accepted-few, decision-low, decision-tells, small-materials}
 use Rattle.acceptance.specs.Totals.{TotalsReady, Totalled}
 use Rattle.mesh.specs.Mesh.{Laid, verticesOf, writtenVertices, laidFrom, materialsOf, runsOf, partOf, rangesFrom}
 use Rattle.mesh.specs.JudgedRows.{judgedIn, numbersBy}
 use Rattle.mesh.specs.LaidLaws.{laid-by, positions-by, normals-by}
 use Rattle.mesh.specs.Parts.{laidIn}
-use Rattle.counts.specs.Counts.{Counts, countsOf, closedBy}
-use Rattle.assemble.specs.declared.written.MeshCounts.{MeshCounts}
+use Rattle.counts.specs.Counts.{countsOf, closedBy}
+use Rattle.meshing.specs.declared.written.MeshCounts.{MeshCounts}
 use Rattle.assemble.specs.declared.assembling.Assembled.{Assembled}
 use Rattle.assemble.specs.declared.assembling.Assembled.the-variants.{Done, Refused}
-use Rattle.assemble.specs.Assemble.{MeshSlices, AfterAssemble, meshOf, meshTooShort, meshChecks, refuseMesh, writeMesh, clearedMesh, assembleOrRefuse, assembleOf}
-use Rattle.assemble.specs.Room.{RoomAsked, shortBy, short-is}
-use Rattle.assemble.specs.Written.{Decided, WriteReady, MeshWritten}
+use Rattle.room.specs.Slices.{MeshSlices, meshTooShort, meshChecks}
+use Rattle.assemble.specs.Assemble.{AfterAssemble, meshOf, refuseMesh, writeMesh, clearedMesh, assembleOrRefuse, assembleOf}
+use Rattle.room.specs.Room.{RoomAsked, shortBy, short-is, fails-42, fails-41, fails-none, fits}
+use Rattle.meshing.specs.Written.{Decided, WriteReady, MeshWritten}
 use Rattle.assemble.specs.Assembled.{slicesOf, leftMesh, assembleAnswered, assembleAccepted, AssembleReady, BodyAssembled}
-use Rattle.assemble.proofs.RoomLaws.{Fits, fits}
 
 -- item k of a list with each item changed
 item-changed : (f : Patch → ℕ) (xs : List Patch) (k : ℕ) → k < length xs → getD (map f xs) k 0 ≡ f (getD xs k noPatch)
@@ -56,32 +58,20 @@ module _ (rows : List Row) (materials : List ℕ) (default : ℕ) (v : Acceptanc
   unfolding assembleOrRefuse byNumber
   by-number = refl
 
-  fails-42 : badMaterials materials default ≡ true → firstFailing (meshChecks (length rows) materials default (v .accepted) out) ≡ 42
-  unfolding meshChecks firstFailing
-  fails-42 e = ap (λ (b : Bool). cond b 42 (cond (meshTooShort (length rows) (v .accepted) out) 41 0)) e
-
-  fails-41 : badMaterials materials default ≡ false → meshTooShort (length rows) (v .accepted) out ≡ true → firstFailing (meshChecks (length rows) materials default (v .accepted) out) ≡ 41
-  unfolding meshChecks firstFailing
-  fails-41 e f = λ j. cond (e j) 42 (cond (f j) 41 0)
-
-  fails-none : badMaterials materials default ≡ false → meshTooShort (length rows) (v .accepted) out ≡ false → firstFailing (meshChecks (length rows) materials default (v .accepted) out) ≡ 0
-  unfolding meshChecks firstFailing
-  fails-none e f = λ j. cond (e j) 42 (cond (f j) 41 0)
-
   -- refused with 42
   pub refused-42 : badMaterials materials default ≡ true → leftMesh (Refused 42) out ≡ assembleAnswered (assembleOrRefuse rows materials default v out)
   unfolding byNumber refuseMesh
-  refused-42 e = sym (ap assembleAnswered (by-number ∙ ap byNumber (fails-42 e)))
+  refused-42 e = sym (ap assembleAnswered (by-number ∙ ap byNumber (fails-42 (length rows) materials default (v .accepted) out e)))
 
   -- refused with 41
   pub refused-41 : badMaterials materials default ≡ false → meshTooShort (length rows) (v .accepted) out ≡ true → leftMesh (Refused 41) out ≡ assembleAnswered (assembleOrRefuse rows materials default v out)
   unfolding byNumber refuseMesh
-  refused-41 e f = sym (ap assembleAnswered (by-number ∙ ap byNumber (fails-41 e f)))
+  refused-41 e f = sym (ap assembleAnswered (by-number ∙ ap byNumber (fails-41 (length rows) materials default (v .accepted) out e f)))
 
   -- written
   written-is : badMaterials materials default ≡ false → meshTooShort (length rows) (v .accepted) out ≡ false → assembleOrRefuse rows materials default v out ≡ writeMesh v out
   unfolding byNumber
-  written-is e f = by-number ∙ ap byNumber (fails-none e f)
+  written-is e f = by-number ∙ ap byNumber (fails-none (length rows) materials default (v .accepted) out e f)
 
 -- ---- an accepted body
 

@@ -1,7 +1,2 @@
--- The laws that the proofs of this crate cite, by subject.
-pub mod RoomLaws
-pub mod SizeLaws
-pub mod BelowLaws
-pub mod TableLaws
-pub mod MeshLaws
+-- The laws that the proofs of this crate cite.
 pub mod CallLaws

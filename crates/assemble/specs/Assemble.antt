@@ -1,17 +1,19 @@
--- The call: the mesh of the accepted patches with its counts, the checks 42 and 41, and what is written. Assumes nothing.
-use mathlib.Core.Bool.{Bool, true, false, _||_}
-use mathlib.Core.List.{List, [], _∷_, flatMap}
+-- The call: the mesh of the accepted patches with its counts, and what is written or refused. Assumes nothing.
+use mathlib.Core.Bool.{Bool, true, false}
+use mathlib.Core.List.{List, [], flatMap}
 use Prim.Native.Nat.{ℕ, _*_}
 use lib.ListN.{length}
-use lib.Dec.{ltb, eqb}
+use lib.Dec.{eqb}
 use lib.Ieee.{Float}
 use Rattle.lists.specs.Lists.{written}
 use Rattle.points.specs.Points.{bits}
-use Rattle.body.specs.Body.{Row, Check, check, rowsOf, patchesOf, bodyChecks, firstFailing, cleared}
+use Rattle.body.specs.Body.{Row, rowsOf, patchesOf, firstFailing, cleared}
+use Rattle.checks.specs.BodyChecks.{bodyChecks}
 use Rattle.geometry.specs.declared.Aabb.{Aabb}
 use Rattle.counts.specs.Counts.{Counts, countsOf, closedBy}
-use Rattle.acceptance.specs.Acceptance.{Accepted, Acceptance, acceptance, acceptedVertices, acceptedIndices, failureWidth, failureNumbers, badMaterials}
-use Rattle.mesh.specs.Mesh.{Vertices, verticesOf, writtenVertices, laidFrom, materialsOf, runsOf, partWidth, partOf, rangeWidth, rangesFrom}
+use Rattle.acceptance.specs.Acceptance.{Acceptance, acceptance, acceptedVertices, acceptedIndices, failureNumbers}
+use Rattle.mesh.specs.Mesh.{Vertices, verticesOf, writtenVertices, laidFrom, materialsOf, runsOf, partOf, rangesFrom}
+use Rattle.room.specs.Slices.{MeshSlices, meshChecks}
 
 -- a body's mesh, flat as it is written, with its counts
 pub record Mesh : Type 0 where
@@ -39,15 +41,6 @@ meshOf v =
       closed = closedBy counts;
     }
 
--- the slices that assemble is lent
-pub record MeshSlices : Type 0 where
-  pub vertices : Vertices
-  pub indices : List ℕ
-  pub parts : List ℕ
-  pub ranges : List ℕ
-  pub failures : List ℕ
-  pub work : List ℕ
-
 -- what assemble answers (the refusal's number or 0; how many vertices, indices, parts, ranges and failures were written; the counts and closed)
 -- and what it leaves in the lent slices
 pub record AfterAssemble : Type 0 where
@@ -60,20 +53,6 @@ pub record AfterAssemble : Type 0 where
   pub counts : Counts
   pub closed : Bool
   pub slices : MeshSlices
-
--- whether slices are shorter than so many vertices need
-unfoldable pub tooShort : Vertices → ℕ → Bool
-tooShort out n = ltb (length (out .positions)) (3 * n) || ltb (length (out .normals)) (3 * n)
-
--- 41: mesh slices are shorter than the accepted patches need, or the part, range or failure table has fewer than F rows
-unfoldable pub meshTooShort : ℕ → List Accepted → MeshSlices → Bool
-meshTooShort F accepted out =
-    tooShort (out .vertices) (acceptedVertices accepted) || ltb (length (out .indices)) (acceptedIndices accepted)
-    || ltb (length (out .parts)) (partWidth * F) || ltb (length (out .ranges)) (rangeWidth * F) || ltb (length (out .failures)) (failureWidth * F)
-
--- 42, then 41
-unfoldable pub meshChecks : ℕ → List ℕ → ℕ → List Accepted → MeshSlices → List Check
-meshChecks F materials default accepted out = check 42 (badMaterials materials default) ∷ check 41 (meshTooShort F accepted out) ∷ []
 
 -- A refusal is its number only; the slices are unchanged.
 unfoldable pub refuseMesh : ℕ → MeshSlices → AfterAssemble

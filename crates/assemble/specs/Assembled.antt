@@ -7,13 +7,14 @@ use lib.ListN.{length, drop}
 use lib.Dec.{eqb}
 use lib.Ieee.{Float}
 use Rattle.body.specs.Body.{rowsOf, patchesOf, workNeeded}
-use Rattle.body.specs.Accepted.{Passed}
+use Rattle.checks.specs.Accepted.{Passed}
 use Rattle.geometry.specs.declared.Aabb.{Aabb}
 use Rattle.acceptance.specs.Acceptance.{acceptance}
-use Rattle.assemble.specs.declared.written.MeshCounts.{MeshCounts}
+use Rattle.meshing.specs.declared.written.MeshCounts.{MeshCounts}
 use Rattle.assemble.specs.declared.assembling.Assembled.{Assembled}
 use Rattle.assemble.specs.declared.assembling.Assembled.the-variants.{Done, Refused}
-use Rattle.assemble.specs.Assemble.{MeshSlices, AfterAssemble, clearedMesh, assembleOrRefuse}
+use Rattle.room.specs.Slices.{MeshSlices}
+use Rattle.assemble.specs.Assemble.{AfterAssemble, clearedMesh, assembleOrRefuse}
 
 -- assemble's answer, and what the lent slices hold
 pub record LeftMesh : Type 0 where

@@ -1,20 +1,17 @@
 -- Small bodies assembled, each of which tells a reading of document 01 from a near miss. Assumes nothing.
-use mathlib.Core.Bool.{Bool, true, false, cond}
-use mathlib.Core.List.{List, [], _∷_, _++_, map}
+use mathlib.Core.Bool.{cond}
+use mathlib.Core.List.{List, [], _∷_, _++_}
 use Prim.Native.Nat.{ℕ, _*_}
-use lib.ListN.{length, take, replicate}
-use lib.IntN.{ℤ}
+use lib.ListN.{take, replicate}
 use lib.Dec.{T}
-use lib.Ieee.{Float}
 use Rattle.lists.specs.Lists.{all}
 use Rattle.lists.specs.Table.{Case, case, agrees}
 use Rattle.body.specs.Given.{Given, at, below, row, triangle, givenTable, givenPositions, givenIndices, K6}
 use Rattle.geometry.specs.declared.Aabb.{Aabb}
 use Rattle.geometry.specs.Geometry.{zero64}
 use Rattle.geometry.specs.Given.{box68, onePoint}
-use Rattle.counts.specs.Counts.{Counts}
-use Rattle.mesh.specs.Mesh.{Vertices}
-use Rattle.assemble.specs.Assemble.{MeshSlices, AfterAssemble, assembleOf}
+use Rattle.room.specs.Slices.{MeshSlices}
+use Rattle.assemble.specs.Assemble.{AfterAssemble, assembleOf}
 use Rattle.assemble.specs.Evaluation.{evaluation}
 
 -- mesh slices of so many numbers, and tables of so many rows

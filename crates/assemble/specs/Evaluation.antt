@@ -1,10 +1,11 @@
 -- A claim that says `unfolding evaluation` has every definition of this crate and of those below it computed. Assumes nothing.
 use Prim.Native.Nat.{ℕ}
+use Rattle.checks.specs.Evaluation as Checks
 use Rattle.counts.specs.Evaluation as Counts
-use Rattle.mesh.specs.Evaluation as Mesh
-use Rattle.assemble.specs.Assemble.{meshOf, tooShort, meshTooShort, meshChecks, refuseMesh, writeMesh, clearedMesh, assembleOrRefuse, assembleOf}
+use Rattle.room.specs.Evaluation as Room
+use Rattle.assemble.specs.Assemble.{meshOf, refuseMesh, writeMesh, clearedMesh, assembleOrRefuse, assembleOf}
 
 -- every definition that computes
 unfoldable pub evaluation : ℕ
-unfolding Counts.evaluation Mesh.evaluation meshOf tooShort meshTooShort meshChecks refuseMesh writeMesh clearedMesh assembleOrRefuse assembleOf
+unfolding Checks.evaluation Counts.evaluation Room.evaluation meshOf refuseMesh writeMesh clearedMesh assembleOrRefuse assembleOf
 evaluation = 0

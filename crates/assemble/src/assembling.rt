@@ -1,13 +1,13 @@
 // assemble: a body's accepted patches as one mesh, with parts, ranges, failures and edge counts.
 
-use crate::checks::too_short;
-use crate::written::MeshCounts;
-use crate::written::write_mesh;
 use geometry::Aabb;
+use meshing::MeshCounts;
+use meshing::write_mesh;
+use room::too_short;
 ghost use mathlib.Core.Path.{_≡_};
 ghost use Prim.Native.Nat.{_+_, _*_};
 ghost use lib.ListN.{length};
-ghost use Rattle.body.specs.Accepted.{Passed};
+ghost use Rattle.checks.specs.Accepted.{Passed};
 ghost use Rattle.assemble.specs.Assemble.{assembleOf};
 ghost use Rattle.assemble.specs.Assembled.{slicesOf, leftMesh, assembleAnswered, assembleAccepted, AssembleReady, BodyAssembled};
 
@@ -40,7 +40,7 @@ fn assemble_rows(
         (now («mesh_positions» .entry)) (now («mesh_positions» .exit)) (now («mesh_normals» .entry)) (now («mesh_normals» .exit)) (now («mesh_indices» .entry)) (now («mesh_indices» .exit))
         (now (parts .entry)) (now (parts .exit)) (now (ranges .entry)) (now (ranges .exit)) (now (failures .entry)) (now (failures .exit)) (now (w .entry)) (now (w .exit)) r ⌝ }
 {
-    if acceptance::bad_materials(materials, default) {
+    if materials::bad_materials(materials, default) {
         return Assembled::Refused(42);
     }
     acceptance::judge_rows(
@@ -153,7 +153,7 @@ pub fn assemble(
         ≡ assembleAnswered (assembleOf (now (rows .entry)) (now (positions .entry)) (now (normals .entry)) (now (indices .entry)) reference (now (materials .entry)) default
         (slicesOf (now («mesh_positions» .entry)) (now («mesh_normals» .entry)) (now («mesh_indices» .entry)) (now (parts .entry)) (now (ranges .entry)) (now (failures .entry)) (now (work .entry)))) ⌝ }
 {
-    let refusal = body::first_failing(rows, positions, normals, indices, work.len());
+    let refusal = checks::first_failing(rows, positions, normals, indices, work.len());
     if refusal == 0 {
         return assemble_accepted(
             rows,

@@ -1,8 +1,5 @@
--- Laws that several proofs of this crate cite.
-mod Filling
-mod Reading
-mod Summing
-mod Starting
-mod TableLaws
-mod PatchLaws
-mod CheckLaws
+-- The laws that the proofs of this crate cite, by subject.
+pub mod Filling
+pub mod Reading
+pub mod Summing
+pub mod Starting

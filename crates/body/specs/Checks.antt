@@ -1,33 +1,14 @@
--- The conditions of the checks by name, the first check that fails, and what a body has once checks have passed. Assumes nothing.
+-- The first check that fails, and what tests that did not fail give. Assumes nothing.
 use mathlib.Core.Path.{_≡_, refl}
-use mathlib.Core.Bool.{Bool, true, false, not, _&&_, _||_, cond}
+use mathlib.Core.Bool.{Bool, true, false, _&&_, _||_, cond}
 use mathlib.Core.List.{List, [], _∷_, _++_}
-use Prim.Native.Nat.{ℕ, suc, _*_, _%_, _<_}
+use Prim.Native.Nat.{ℕ, suc, _*_, _<_}
 use native.Mathlib.Omega.{arith}
 use lib.ListN.{length}
-use lib.Dec.{ltb, eqb}
-use lib.Ieee.{Float}
-use borrow.Author.Tests.{ltb-true, ltb-false, eqb-true, not-false}
-use Rattle.floats.specs.Floats.{finite}
+use lib.Dec.{ltb}
+use borrow.Author.Tests.{ltb-true}
 use Rattle.lists.specs.Lists.{all}
-use Rattle.body.specs.Body.{Row, Check, check, rowsOf, allVertices, allIndices, firstFailing, rowWidth, mostRows}
-use Rattle.body.specs.Rows.{WholeRows, length-rows}
-
--- 11: the table isn't whole rows, or has too many
-abbrev pub notWhole : List ℕ → Bool
-notWhole table = not (eqb (length table % rowWidth) 0) || ltb mostRows (length (rowsOf table))
-
--- 14: a slice is not as long as the rows say
-abbrev pub wrongLengths : List Row → List Float → List Float → List ℕ → Bool
-wrongLengths rows ps ns is = not (eqb (length ps) (3 * allVertices rows) && eqb (length ns) (3 * allVertices rows) && eqb (length is) (allIndices rows))
-
--- 21: an index count isn't a multiple of 3
-abbrev pub partTriangle : Row → Bool
-partTriangle r = not (eqb (r .indices % 3) 0)
-
--- 23: a number isn't finite
-abbrev pub notFinite : Float → Bool
-notFinite x = not (finite x)
+use Rattle.body.specs.Body.{Check, check, allVertices, allIndices, firstFailing}
 
 -- ---- the first check that fails
 -- the first check fails
@@ -118,13 +99,3 @@ and-right false b h = absurd (no h)
   where
     no : false ≡ true → ⊥
     no r = let x : _≡_ {A = ℕ} 0 1 = cc in omega arith
-
--- ---- what the checks of the table give
--- check 11 has passed
-pub whole-rows : {table : List ℕ} → notWhole table ≡ false → WholeRows table
-whole-rows {table} h =
-    let w = eqb-true (length table % 5) 0 (not-false (eqb (length table % 5) 0) (or-left (not (eqb (length table % 5) 0)) (ltb 4096 (length (rowsOf table))) h)) in
-    record {
-      whole = omega (arith, length-rows table);
-      few = ltb-false 4096 (length (rowsOf table)) (or-right (not (eqb (length table % 5) 0)) (ltb 4096 (length (rowsOf table))) h);
-    }

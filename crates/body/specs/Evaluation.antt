@@ -2,11 +2,11 @@
 use Prim.Native.Nat.{ℕ}
 use Rattle.lists.specs.Evaluation as Lists
 use Rattle.floats.specs.Evaluation as Floats
-use Rattle.body.specs.Body.{rowsOf, tableOf, allVertices, allIndices, patchesOf, trianglesOf, firstFailing, badRow, badIndices, tooLarge, workNeeded, tableChecks, patchChecks, bodyChecks, cleared, loneTable, loneChecks}
+use Rattle.body.specs.Body.{rowsOf, tableOf, allVertices, allIndices, patchesOf, trianglesOf, firstFailing, workNeeded, cleared}
 use Rattle.body.specs.Rows.{rowAt, verticesBefore, indicesBefore}
 use Rattle.body.specs.Given.{givenTable, givenPositions, givenIndices, axes, K6, K6-reversed, K7, K8}
 
 -- every definition that computes
 unfoldable pub evaluation : ℕ
-unfolding Lists.evaluation Floats.evaluation rowsOf tableOf allVertices allIndices patchesOf trianglesOf firstFailing badRow badIndices tooLarge workNeeded tableChecks patchChecks bodyChecks cleared loneTable loneChecks rowAt verticesBefore indicesBefore givenTable givenPositions givenIndices axes K6 K6-reversed K7 K8
+unfolding Lists.evaluation Floats.evaluation rowsOf tableOf allVertices allIndices patchesOf trianglesOf firstFailing workNeeded cleared rowAt verticesBefore indicesBefore givenTable givenPositions givenIndices axes K6 K6-reversed K7 K8
 evaluation = 0

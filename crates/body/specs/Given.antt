@@ -1,8 +1,8 @@
 -- Small bodies written down for a claim: each row in one line, its points with whole coordinates. Assumes nothing.
 use mathlib.Core.List.{List, [], _∷_, _++_, map, flatMap}
-use Prim.Native.Nat.{ℕ, zero, suc}
+use Prim.Native.Nat.{ℕ}
 use lib.ListN.{length}
-use lib.IntN.{ℤ, pos, negsuc, negℤ}
+use lib.IntN.{ℤ, pos, negℤ}
 use lib.Ieee.{Float, binary32, ofInt}
 
 -- a row's shell and face, its points, and its indices

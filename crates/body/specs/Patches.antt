@@ -7,11 +7,10 @@ use native.Mathlib.Nat.{le-of-suc-le-suc, not-suc-le-zero}
 use native.Mathlib.Omega.{arith}
 use lib.ListN.{length, getD, take, drop, length-drop, take-append-drop}
 use lib.Seq.{drop-drop}
-use lib.Dec.{leb}
 use lib.Ieee.{Float}
 use Rattle.lists.specs.Lists.{any, sumOf}
 use Rattle.lists.specs.Any.{any-append, sum-more, sum-front}
-use Rattle.body.specs.Body.{Row, Patch, rowsOf, patchesOf, allVertices, allIndices, badIndices}
+use Rattle.body.specs.Body.{Row, Patch, rowsOf, patchesOf, allVertices, allIndices}
 use Rattle.body.specs.Rows.{noRow, rowAt, verticesBefore, indicesBefore}
 
 -- a patch of nothing: what lies past the end
@@ -96,16 +95,6 @@ unfolding patchesOf any
 any-row f [] ps ns is = refl
 any-row f (r ∷ rs) ps ns is =
     ap (λ (b : Bool). elim (f r) [ true ↦ true | false ↦ b ]) (any-row f rs (drop (3 * r .vertices) ps) (drop (3 * r .vertices) ns) (drop (r .indices) is))
-
--- Check 22 looks at no position and no normal.
-pub any-indices : (rows : List Row) (ps ns : List Float) (is : List ℕ) → any badIndices (patchesOf rows ps ns is) ≡ any badIndices (patchesOf rows [] [] is)
-unfolding patchesOf any badIndices
-any-indices [] ps ns is = refl
-any-indices (r ∷ rs) ps ns is =
-    let v = 3 * r .vertices in
-    let rest = drop (r .indices) is in
-    ap (λ (b : Bool). elim (any (λ i. leb (r .vertices) i) (take (r .indices) is)) [ true ↦ true | false ↦ b ])
-    (any-indices rs (drop v ps) (drop v ns) rest ∙ sym (any-indices rs (drop v []) (drop v []) rest))
 
 -- two tests of a front and a rest, either way grouped
 either : (a b c d : Bool) → elim (a || b) [ true ↦ true | false ↦ c || d ] ≡ ((a || c) || (b || d))

@@ -1,11 +1,13 @@
 // The rows of the flat table, five numbers each.
 
-use crate::limits::ROW_WIDTH;
 ghost use mathlib.Core.Path.{_≡_};
 ghost use Prim.Native.Nat.{_+_, _*_, _<_};
 ghost use lib.ListN.{length, getD};
 ghost use Rattle.body.specs.Body.{rowsOf};
 ghost use Rattle.body.specs.Rows.{InTable, rowAt};
+
+// How many numbers of the flat table make a row.
+pub const ROW_WIDTH: usize = 5;
 
 // How many whole rows the table has.
 pub fn row_count(rows: &[u32]) -> usize

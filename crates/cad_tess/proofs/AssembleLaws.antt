@@ -1,21 +1,23 @@
 -- Laws of cad_assemble. Assumes nothing.
-use mathlib.Core.Path.{_≡_, refl, sym, ap, _∙_}
+use mathlib.Core.Path.{_≡_, refl, ap, _∙_}
 use mathlib.Core.Bool.{Bool, true, false, not, cond}
 use mathlib.Core.List.{List}
 use Prim.Native.Nat.{ℕ}
 use lib.Dec.{eqb}
 use lib.ListN.{length}
 use lib.Ieee.{Float}
-use Rattle.body.specs.Body.{Row, rowsOf, patchesOf, bodyChecks, firstFailing}
+use Rattle.body.specs.Body.{Row, rowsOf, patchesOf, firstFailing}
+use Rattle.checks.specs.BodyChecks.{bodyChecks}
 use Rattle.geometry.specs.declared.Aabb.{Aabb}
 use Rattle.acceptance.specs.Acceptance.{Acceptance, acceptance}
-use Rattle.assemble.specs.declared.written.MeshCounts.{MeshCounts}
 use Rattle.assemble.specs.declared.assembling.Assembled.{Assembled}
 use Rattle.assemble.specs.declared.assembling.Assembled.the-variants.{Done, Refused}
-use Rattle.assemble.specs.Assemble.{MeshSlices, AfterAssemble, meshOf, meshChecks, writeMesh, refuseMesh, clearedMesh, assembleOrRefuse, assembleOf}
+use Rattle.room.specs.Slices.{MeshSlices, meshChecks}
+use Rattle.assemble.specs.Assemble.{AfterAssemble, writeMesh, refuseMesh, clearedMesh, assembleOrRefuse, assembleOf}
 use Rattle.assemble.specs.Assembled.{LeftMesh, leftMesh, countsAnswered, assembleAnswered}
-use Rattle.cad_tess.specs.declared.assembling.CadAssembled.{CadAssembled}
-use Rattle.cad_tess.specs.Assembling.{cadAssembled, leftAfterAssemble}
+use Rattle.cad_answers.specs.declared.assembling.CadAssembled.{CadAssembled}
+use Rattle.cad_answers.specs.Assembling.{cadAssembled, leftAfterAssemble}
+use Rattle.cad_tess.proofs.Told.{either}
 
 -- the struct and the slices of a call
 abbrev flat : LeftMesh → AfterAssemble
@@ -25,13 +27,6 @@ flat l = leftAfterAssemble (cadAssembled (l .answer)) (l .slices)
 flag-told : (b : Bool) → not (eqb (cond b 1 0) 0) ≡ b
 flag-told true = refl
 flag-told false = refl
-
--- the struct of a call that is done
-pub done-told : {t : Assembled} {c : MeshCounts} {f : ℕ} → t ≡ Done c → f ≡ cond (c .closed) 1 0
-    → record { refusal = 0; vertices = c .vertices; indices = c .indices; parts = c .parts; ranges = c .ranges; failures = c .failures; edges = c .edges; opens = c .opens; overs = c .overs; closed = f } ≡ cadAssembled t
-done-told {t} {c} {f} e h =
-    (λ j. record { refusal = 0; vertices = c .vertices; indices = c .indices; parts = c .parts; ranges = c .ranges; failures = c .failures; edges = c .edges; opens = c .opens; overs = c .overs; closed = h j })
-    ∙ ap cadAssembled (sym e)
 
 -- a refusal holds its number only
 refused-told : (n : ℕ) (out : MeshSlices) → eqb n 0 ≡ false → flat (assembleAnswered (refuseMesh n out)) ≡ refuseMesh n out
@@ -55,18 +50,12 @@ written-told v out =
       slices = writeMesh v out .slices;
     }
 
--- one of two
-told-either : (b : Bool) (done refused : AfterAssemble) → flat (assembleAnswered done) ≡ done → (b ≡ false → flat (assembleAnswered refused) ≡ refused)
-    → flat (assembleAnswered (elim b [ true ↦ done | false ↦ refused ])) ≡ elim b [ true ↦ done | false ↦ refused ]
-told-either true done refused p q = p
-told-either false done refused p q = q refl
-
 -- the checks of the result decide
 result-told : (rows : List Row) (materials : List ℕ) (default : ℕ) (v : Acceptance) (out : MeshSlices) → flat (assembleAnswered (assembleOrRefuse rows materials default v out)) ≡ assembleOrRefuse rows materials default v out
 unfolding assembleOrRefuse
 result-told rows materials default v out =
     let n = firstFailing (meshChecks (length rows) materials default (v .accepted) out) in
-    told-either (eqb n 0) (writeMesh v out) (refuseMesh n out) (written-told v out) (refused-told n out)
+    either (λ t. flat (assembleAnswered t)) (eqb n 0) (writeMesh v out) (refuseMesh n out) (written-told v out) (refused-told n out)
 
 module _ (table : List ℕ) (ps ns : List Float) (is : List ℕ) (box : Aabb) (materials : List ℕ) (default : ℕ) (out : MeshSlices) where
   -- the struct holds all that the definition says
@@ -76,7 +65,7 @@ module _ (table : List ℕ) (ps ns : List Float) (is : List ℕ) (box : Aabb) (m
       let n = firstFailing (bodyChecks table ps ns is (length (out .work))) in
       let v = acceptance box materials default (patchesOf (rowsOf table) ps ns is) in
       let o = clearedMesh (rowsOf table) out in
-      told-either (eqb n 0) (assembleOrRefuse (rowsOf table) materials default v o) (refuseMesh n out) (result-told (rowsOf table) materials default v o) (refused-told n out)
+      either (λ t. flat (assembleAnswered t)) (eqb n 0) (assembleOrRefuse (rowsOf table) materials default v o) (refuseMesh n out) (result-told (rowsOf table) materials default v o) (refused-told n out)
 
   -- what the call leaves
   pub call-left : {b : Aabb} {t : Assembled} {r : CadAssembled} {s : MeshSlices} → b ≡ box → leftMesh t s ≡ assembleAnswered (assembleOf table ps ns is b materials default out) → r ≡ cadAssembled t

@@ -1,5 +1,5 @@
 -- The answers about a patch alone as their structs. Assumes nothing.
-use mathlib.Core.Path.{_≡_, refl, sym, ap, _∙_}
+use mathlib.Core.Path.{_≡_, refl, ap, _∙_}
 use mathlib.Core.Bool.{Bool, false, cond}
 use mathlib.Core.List.{List}
 use Prim.Native.Nat.{ℕ, zero, suc}
@@ -7,23 +7,19 @@ use native.Mathlib.Omega.{arith}
 use lib.Dec.{eqb}
 use lib.Ieee.{Float}
 use borrow.Author.Tests.{ne-eqb}
-use Rattle.body.specs.Body.{firstFailing, loneChecks}
+use Rattle.body.specs.Body.{firstFailing}
+use Rattle.checks.specs.BodyChecks.{loneChecks}
 use Rattle.geometry.specs.declared.Aabb.{Aabb}
-use Rattle.geometry.specs.declared.alone.Measured.{Measured}
-use Rattle.geometry.specs.declared.alone.Judged.{Judged}
-use Rattle.geometry.specs.declared.alone.Judged.the-variants.{Verdict}
-use Rattle.geometry.specs.Geometry.{zero64, alone, patchVolume, farthest, escapesBody, volumeAlone, farthestAlone, escapesAlone}
-use Rattle.geometry.specs.Answers.{measuredOf, judgedOf, measuredAs, judgedAs}
-use Rattle.cad_tess.specs.declared.patch.CadMeasured.{CadMeasured}
-use Rattle.cad_tess.specs.declared.patch.CadJudged.{CadJudged}
-use Rattle.cad_tess.specs.Answers.{cadMeasured, cadJudged}
-
--- a verdict that is known
-pub verdict-is : {j : Judged} {b d : Bool} → j ≡ Verdict b → b ≡ d → cadJudged (record { refusal = 0; answer = d }) ≡ cadJudged (judgedAs j)
-verdict-is {j} {b} {d} e f = sym (ap (λ x. cadJudged (judgedAs x)) e ∙ ap given f)
-  where
-    given : Bool → CadJudged
-    given x = cadJudged (record { refusal = 0; answer = x })
+use Rattle.alone.specs.declared.alone.Measured.{Measured}
+use Rattle.alone.specs.declared.alone.Judged.{Judged}
+use Rattle.geometry.specs.Geometry.{zero64}
+use Rattle.alone.specs.Alone.{alone, volumeAlone, farthestAlone, escapesAlone}
+use Rattle.patch_volume.specs.Volume.{patchVolume}
+use Rattle.reach.specs.Reach.{farthest, escapesBody}
+use Rattle.alone.specs.Answers.{measuredOf, judgedOf, measuredAs, judgedAs}
+use Rattle.cad_answers.specs.declared.patch.CadMeasured.{CadMeasured}
+use Rattle.cad_answers.specs.declared.patch.CadJudged.{CadJudged}
+use Rattle.cad_answers.specs.Answers.{cadMeasured, cadJudged}
 
 -- a number or a refusal has the numbers it was made of
 measured-numbers : (n : ℕ) (x : Float) → measuredAs (measuredOf (record { refusal = n; answer = cond (eqb n 0) x zero64 })) ≡ record { refusal = n; answer = cond (eqb n 0) x zero64 }

@@ -7,13 +7,17 @@ use lib.Dec.{eqb}
 use lib.ListN.{length}
 use lib.Ieee.{Float}
 use Rattle.points.specs.Rule.{Rule, names}
-use Rattle.body.specs.Body.{rowsOf, patchesOf, bodyChecks, firstFailing}
-use Rattle.stitch.specs.declared.stitching.Stitched.{Stitched}
-use Rattle.stitch.specs.declared.stitching.Stitched.the-variants.{Done, Refused}
-use Rattle.stitch.specs.Stitch.{StitchSlices, AfterStitch, StitchedBody, stitchBody, stitchChecks, writeBody, refuseStitch, clearedSlices, stitchOrRefuse, stitchOf}
-use Rattle.stitch.specs.Stitched.{LeftStitch, leftStitch, stitchAnswered}
-use Rattle.cad_tess.specs.declared.stitching.CadStitched.{CadStitched}
-use Rattle.cad_tess.specs.Stitching.{cadStitched, leftAfterStitch}
+use Rattle.body.specs.Body.{rowsOf, patchesOf, firstFailing}
+use Rattle.checks.specs.BodyChecks.{bodyChecks}
+use Rattle.results.specs.declared.answer.Stitched.{Stitched}
+use Rattle.results.specs.declared.answer.Stitched.the-variants.{Done, Refused}
+use Rattle.results.specs.Slices.{StitchSlices, AfterStitch, stitchChecks, writeBody, refuseStitch, clearedSlices, stitchOrRefuse}
+use Rattle.stitched.specs.StitchedBody.{StitchedBody}
+use Rattle.stitch.specs.Stitch.{stitchBody, stitchOf}
+use Rattle.results.specs.Stitched.{LeftStitch, leftStitch, stitchAnswered}
+use Rattle.cad_answers.specs.declared.stitching.CadStitched.{CadStitched}
+use Rattle.cad_answers.specs.Stitching.{cadStitched, leftAfterStitch}
+use Rattle.cad_tess.proofs.Told.{either}
 
 -- the struct and the slices of a call
 abbrev flat : LeftStitch → AfterStitch
@@ -25,19 +29,13 @@ unfolding refuseStitch
 refused-told n out e =
     ap (λ (b : Bool). leftAfterStitch (cadStitched (elim b [ true ↦ Done (record { vertices = 0; indices = 0; splits = 0 }) | false ↦ Refused n ])) out) e
 
--- one of two
-told-either : (b : Bool) (done refused : AfterStitch) → flat (stitchAnswered done) ≡ done → (b ≡ false → flat (stitchAnswered refused) ≡ refused)
-    → flat (stitchAnswered (elim b [ true ↦ done | false ↦ refused ])) ≡ elim b [ true ↦ done | false ↦ refused ]
-told-either true done refused p q = p
-told-either false done refused p q = q refl
-
 -- the checks of the result decide
 result-told : (s : StitchedBody) (out : StitchSlices) → flat (stitchAnswered (stitchOrRefuse s out)) ≡ stitchOrRefuse s out
 unfolding stitchOrRefuse writeBody
 result-told s out =
     let rows = map (λ p. p .row) (s .patches) in
     let n = firstFailing (stitchChecks rows out) in
-    told-either (eqb n 0) (writeBody rows s out) (refuseStitch n out) refl (refused-told n out)
+    either (λ t. flat (stitchAnswered t)) (eqb n 0) (writeBody rows s out) (refuseStitch n out) refl (refused-told n out)
 
 module _ (rule : Rule) (table : List ℕ) (ps ns : List Float) (is : List ℕ) (sag : Float) (out : StitchSlices) where
   -- the struct holds all that the definition says
@@ -46,7 +44,7 @@ module _ (rule : Rule) (table : List ℕ) (ps ns : List Float) (is : List ℕ) (
   all-told =
       let n = firstFailing (bodyChecks table ps ns is (length (out .work))) in
       let s = stitchBody sag (names rule ps) (patchesOf (rowsOf table) ps ns is) in
-      told-either (eqb n 0) (stitchOrRefuse s (clearedSlices (rowsOf table) out)) (refuseStitch n out) (result-told s (clearedSlices (rowsOf table) out)) (refused-told n out)
+      either (λ t. flat (stitchAnswered t)) (eqb n 0) (stitchOrRefuse s (clearedSlices (rowsOf table) out)) (refuseStitch n out) (result-told s (clearedSlices (rowsOf table) out)) (refused-told n out)
 
   -- what the call leaves
   pub call-left : {t : Stitched} {r : CadStitched} {s : StitchSlices} → leftStitch t s ≡ stitchAnswered (stitchOf rule table ps ns is sag out) → r ≡ cadStitched t

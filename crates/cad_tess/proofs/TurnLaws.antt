@@ -1,5 +1,5 @@
 -- Laws of cad_turn. Assumes nothing.
-use mathlib.Core.Path.{_≡_, refl, sym, ap, _∙_}
+use mathlib.Core.Path.{_≡_, refl, ap, _∙_}
 use mathlib.Core.Bool.{Bool, true, false}
 use mathlib.Core.List.{List}
 use Prim.Native.Nat.{ℕ}
@@ -8,13 +8,15 @@ use lib.ListN.{length}
 use lib.Ieee.{Float}
 use Rattle.points.specs.Rule.{Rule, names}
 use Rattle.join.specs.Join.{joined}
-use Rattle.body.specs.Body.{rowsOf, patchesOf, bodyChecks, firstFailing}
+use Rattle.body.specs.Body.{rowsOf, patchesOf, firstFailing}
+use Rattle.checks.specs.BodyChecks.{bodyChecks}
 use Rattle.orient.specs.declared.turning.Turned.{Turned}
 use Rattle.orient.specs.declared.turning.Turned.the-variants.{Done, Refused}
 use Rattle.orient.specs.Orient.{AfterTurn, walksOf, turnBody, refuseTurn, turnOf}
-use Rattle.orient.specs.Turned.{Left, left, answerOf, answered}
-use Rattle.cad_tess.specs.declared.turning.CadTurned.{CadTurned}
-use Rattle.cad_tess.specs.Turning.{cadTurned, leftAfterTurn}
+use Rattle.orient.specs.Turned.{Left, left, answered}
+use Rattle.cad_answers.specs.declared.turning.CadTurned.{CadTurned}
+use Rattle.cad_answers.specs.Turning.{cadTurned, leftAfterTurn}
+use Rattle.cad_tess.proofs.Told.{either}
 
 -- the struct and the slices of a call
 abbrev flat : Left → AfterTurn
@@ -26,19 +28,13 @@ unfolding refuseTurn
 refused-told n ns is work e =
     ap (λ (b : Bool). leftAfterTurn (cadTurned (elim b [ true ↦ Done (record { turned = 0; against = 0 }) | false ↦ Refused n ])) ns is work) e
 
--- one of two
-told-either : (b : Bool) (done refused : AfterTurn) → flat (answered done) ≡ done → (b ≡ false → flat (answered refused) ≡ refused)
-    → flat (answered (elim b [ true ↦ done | false ↦ refused ])) ≡ elim b [ true ↦ done | false ↦ refused ]
-told-either true done refused p q = p
-told-either false done refused p q = q refl
-
 module _ (rule : Rule) (table : List ℕ) (ps ns : List Float) (is work : List ℕ) where
   -- the struct holds all that the definition says
   all-told : flat (answered (turnOf rule table ps ns is work)) ≡ turnOf rule table ps ns is work
   unfolding turnOf turnBody
   all-told =
       let n = firstFailing (bodyChecks table ps ns is (length work)) in
-      told-either (eqb n 0) (turnBody (rowsOf table) (patchesOf (rowsOf table) ps ns is) (walksOf (patchesOf (rowsOf table) ps ns is) (joined (names rule ps))) work) (refuseTurn n ns is work) refl (refused-told n ns is work)
+      either (λ t. flat (answered t)) (eqb n 0) (turnBody (rowsOf table) (patchesOf (rowsOf table) ps ns is) (walksOf (patchesOf (rowsOf table) ps ns is) (joined (names rule ps))) work) (refuseTurn n ns is work) refl (refused-told n ns is work)
 
   -- what the call leaves
   pub call-left : {t : Turned} {r : CadTurned} {ns' : List Float} {is' work' : List ℕ} → left t ns' is' work' ≡ answered (turnOf rule table ps ns is work) → r ≡ cadTurned t

@@ -1,68 +1,13 @@
 // The accepted patches of a body as one mesh, with its tables, failures and edge counts.
 
-use crate::patch::box_of;
-use assemble::Assembled;
+use cad_answers::CadAssembled;
+use cad_answers::assembled_answer;
+use cad_answers::box_of;
 ghost use mathlib.Core.Path.{_≡_};
-ghost use mathlib.Core.Bool.{cond};
 ghost use Rattle.assemble.specs.Assemble.{assembleOf};
 ghost use Rattle.assemble.specs.Assembled.{slicesOf};
-ghost use Rattle.cad_tess.specs.Answers.{boxOf};
-ghost use Rattle.cad_tess.specs.Assembling.{cadAssembled, leftAfterAssemble};
-
-// 0 for the refusal, how many vertices, indices, parts, ranges and failures were written, the mesh's edges, those used once and those used more than twice,
-// and 1 if it is closed; or the refusal's number and zeros.
-#[repr(C)]
-pub struct CadAssembled {
-    pub refusal: u32,
-    pub vertices: u32,
-    pub indices: u32,
-    pub parts: u32,
-    pub ranges: u32,
-    pub failures: u32,
-    pub edges: u64,
-    pub opens: u64,
-    pub overs: u64,
-    pub closed: u32,
-}
-
-// 1 for true, 0 for false.
-fn flag(b: bool) -> u32
-    ensures { λ r. ⌜ r ≡ cond b 1 0 ⌝ }
-{
-    if b { 1 } else { 0 }
-}
-
-// assemble's answer as the struct.
-fn assembled_answer(t: Assembled) -> CadAssembled
-    ensures { λ r. ⌜ r ≡ cadAssembled t ⌝ }
-{
-    match t {
-        Assembled::Done(c) => CadAssembled {
-            refusal: 0,
-            vertices: c.vertices,
-            indices: c.indices,
-            parts: c.parts,
-            ranges: c.ranges,
-            failures: c.failures,
-            edges: c.edges,
-            opens: c.opens,
-            overs: c.overs,
-            closed: flag(c.closed),
-        },
-        Assembled::Refused(n) => CadAssembled {
-            refusal: n,
-            vertices: 0,
-            indices: 0,
-            parts: 0,
-            ranges: 0,
-            failures: 0,
-            edges: 0,
-            opens: 0,
-            overs: 0,
-            closed: 0,
-        },
-    }
-}
+ghost use Rattle.cad_answers.specs.Answers.{boxOf};
+ghost use Rattle.cad_answers.specs.Assembling.{leftAfterAssemble};
 
 // The mesh goes to the mesh slices, parts and ranges to tables of three numbers a row, failures to one of four words a row.
 // An entry of materials is 0 for none or 1 + the material of the face; the work area needs 16 words an index and a row and 4 a vertex, which come back zero.

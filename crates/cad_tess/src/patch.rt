@@ -1,85 +1,13 @@
 // A patch asked about alone. The box is given as its six numbers, minimum first.
 
-use geometry::Aabb;
-use geometry::Judged;
-use geometry::Measured;
-use geometry::Vec3;
+use cad_answers::CadJudged;
+use cad_answers::CadMeasured;
+use cad_answers::box_of;
+use cad_answers::judged_answer;
+use cad_answers::measured_answer;
 ghost use mathlib.Core.Path.{_≡_};
-ghost use Rattle.geometry.specs.Geometry.{volumeAlone, farthestAlone, escapesAlone};
-ghost use Rattle.geometry.specs.Answers.{measuredAs, judgedAs};
-ghost use Rattle.cad_tess.specs.Answers.{boxOf, cadMeasured, cadJudged};
-
-// A number: 0 for the refusal, or the refusal's number and 0.
-#[repr(C)]
-pub struct CadMeasured {
-    pub refusal: u32,
-    pub value: f64,
-}
-
-// A verdict, 1 or 0: 0 for the refusal, or the refusal's number and 0.
-#[repr(C)]
-pub struct CadJudged {
-    pub refusal: u32,
-    pub verdict: u32,
-}
-
-// The box with these corners.
-pub fn box_of(x0: f64, y0: f64, z0: f64, x1: f64, y1: f64, z1: f64) -> Aabb
-    ensures { λ r. ⌜ r ≡ boxOf x0 y0 z0 x1 y1 z1 ⌝ }
-{
-    Aabb {
-        min: Vec3 {
-            x: x0,
-            y: y0,
-            z: z0,
-        },
-        max: Vec3 {
-            x: x1,
-            y: y1,
-            z: z1,
-        },
-    }
-}
-
-// A measured answer as the struct.
-fn measured_answer(m: Measured) -> CadMeasured
-    ensures { λ r. ⌜ r ≡ cadMeasured (measuredAs m) ⌝ }
-{
-    match m {
-        Measured::Value(x) => CadMeasured {
-            refusal: 0,
-            value: x,
-        },
-        Measured::Refused(n) => CadMeasured {
-            refusal: n,
-            value: 0.0,
-        },
-    }
-}
-
-// A judged answer as the struct.
-fn judged_answer(j: Judged) -> CadJudged
-    ensures { λ r. ⌜ r ≡ cadJudged (judgedAs j) ⌝ }
-{
-    match j {
-        Judged::Verdict(b) => {
-            if b {
-                return CadJudged {
-                    refusal: 0,
-                    verdict: 1,
-                };
-            }
-            CadJudged {
-                refusal: 0,
-                verdict: 0,
-            }
-        }
-        Judged::Refused(n) => CadJudged {
-            refusal: n,
-            verdict: 0,
-        },
-    }
-}
+ghost use Rattle.alone.specs.Alone.{volumeAlone, farthestAlone, escapesAlone};
+ghost use Rattle.cad_answers.specs.Answers.{boxOf, cadMeasured, cadJudged};
 
 // The volume of a patch, reversed where flip says so.
 #[no_mangle]
@@ -91,7 +19,7 @@ pub extern "C" fn cad_patch_volume(
 ) -> CadMeasured
     ensures { λ r. ⌜ r ≡ cadMeasured (volumeAlone (now (positions .entry)) (now (normals .entry)) (now (indices .entry)) flip) ⌝ }
 {
-    measured_answer(geometry::patch_volume_alone(positions, normals, indices, flip))
+    measured_answer(alone::patch_volume_alone(positions, normals, indices, flip))
 }
 
 // How far a patch's farthest vertex is from the box's centre.
@@ -110,7 +38,7 @@ pub extern "C" fn cad_farthest(
     ensures { λ r. ⌜ r ≡ cadMeasured (farthestAlone (now (positions .entry)) (now (normals .entry)) (now (indices .entry)) (boxOf x0 y0 z0 x1 y1 z1)) ⌝ }
 {
     let reference = box_of(x0, y0, z0, x1, y1, z1);
-    measured_answer(geometry::farthest_alone(positions, normals, indices, reference))
+    measured_answer(alone::farthest_alone(positions, normals, indices, reference))
 }
 
 // Whether a patch reaches beyond the box's diagonal.
@@ -129,5 +57,5 @@ pub extern "C" fn cad_escapes_body(
     ensures { λ r. ⌜ r ≡ cadJudged (escapesAlone (now (positions .entry)) (now (normals .entry)) (now (indices .entry)) (boxOf x0 y0 z0 x1 y1 z1)) ⌝ }
 {
     let reference = box_of(x0, y0, z0, x1, y1, z1);
-    judged_answer(geometry::escapes_alone(positions, normals, indices, reference))
+    judged_answer(alone::escapes_alone(positions, normals, indices, reference))
 }

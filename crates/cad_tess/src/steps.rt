@@ -1,7 +1,10 @@
 // The float steps on bit patterns.
 
 ghost use mathlib.Core.Path.{_≡_};
-ghost use Rattle.floats.specs.Floats.{widenBits, narrowBits, sqrtBits, roundBits, largerBits};
+ghost use Rattle.floats.specs.Floats.{widenBits, largerBits};
+ghost use Rattle.narrowing.specs.Narrow.{narrowBits};
+ghost use Rattle.roots.specs.Roots.{sqrtBits};
+ghost use Rattle.integral.specs.Integral.{roundBits};
 
 // The bits of an f32 as those of the f64 of the same value.
 #[no_mangle]
@@ -16,7 +19,7 @@ pub extern "C" fn cad_widen(b: u32) -> u64
 pub extern "C" fn cad_narrow(b: u64) -> u32
     ensures { λ r. ⌜ r ≡ narrowBits b ⌝ }
 {
-    floats::narrow(b)
+    narrowing::narrow(b)
 }
 
 // The bits of the f64 nearest to the square root.
@@ -24,7 +27,7 @@ pub extern "C" fn cad_narrow(b: u64) -> u32
 pub extern "C" fn cad_sqrt(b: u64) -> u64
     ensures { λ r. ⌜ r ≡ sqrtBits b ⌝ }
 {
-    floats::sqrt(b)
+    roots::sqrt(b)
 }
 
 // The bits of the nearest whole number, halves away from zero.
@@ -32,7 +35,7 @@ pub extern "C" fn cad_sqrt(b: u64) -> u64
 pub extern "C" fn cad_round(b: u64) -> u64
     ensures { λ r. ⌜ r ≡ roundBits b ⌝ }
 {
-    floats::round(b)
+    integral::round(b)
 }
 
 // The bits of the larger of two: a NaN is ignored, +0 is above −0.

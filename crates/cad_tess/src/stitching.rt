@@ -1,40 +1,12 @@
 // Cracks between the patches of a body closed, into second slices.
 
-use stitch::Stitched;
+use cad_answers::CadStitched;
+use cad_answers::stitched_answer;
 ghost use mathlib.Core.Path.{_≡_};
 ghost use Rattle.points.specs.Points as Points;
 ghost use Rattle.stitch.specs.Stitch.{stitchOf};
-ghost use Rattle.stitch.specs.Stitched.{slicesOf};
-ghost use Rattle.cad_tess.specs.Stitching.{cadStitched, leftAfterStitch};
-
-// 0 for the refusal, the vertices and indices of the stitched body and the points that split a triangle; or the refusal's number and zeros.
-#[repr(C)]
-pub struct CadStitched {
-    pub refusal: u32,
-    pub vertices: u32,
-    pub indices: u32,
-    pub splits: u64,
-}
-
-// stitch's answer as the struct.
-fn stitched_answer(t: Stitched) -> CadStitched
-    ensures { λ r. ⌜ r ≡ cadStitched t ⌝ }
-{
-    match t {
-        Stitched::Done(s) => CadStitched {
-            refusal: 0,
-            vertices: s.vertices,
-            indices: s.indices,
-            splits: s.splits,
-        },
-        Stitched::Refused(n) => CadStitched {
-            refusal: n,
-            vertices: 0,
-            indices: 0,
-            splits: 0,
-        },
-    }
-}
+ghost use Rattle.results.specs.Stitched.{slicesOf};
+ghost use Rattle.cad_answers.specs.Stitching.{leftAfterStitch};
 
 // The stitched body goes to the second slices; the work area needs 16 words an index and a row and 4 a vertex, which come back zero.
 #[no_mangle]

@@ -1,36 +1,11 @@
 // The rows of a body turned to agree.
 
-use orient::Turned;
+use cad_answers::CadTurned;
+use cad_answers::turned_answer;
 ghost use mathlib.Core.Path.{_≡_};
 ghost use Rattle.points.specs.Points as Points;
 ghost use Rattle.orient.specs.Orient.{turnOf};
-ghost use Rattle.cad_tess.specs.Turning.{cadTurned, leftAfterTurn};
-
-// 0 for the refusal, the rows turned and how often a pair that contradicts colours was met; or the refusal's number, 0 and 0.
-#[repr(C)]
-pub struct CadTurned {
-    pub refusal: u32,
-    pub turned: u32,
-    pub against: u64,
-}
-
-// turn's answer as the struct.
-fn turned_answer(t: Turned) -> CadTurned
-    ensures { λ r. ⌜ r ≡ cadTurned t ⌝ }
-{
-    match t {
-        Turned::Done(c) => CadTurned {
-            refusal: 0,
-            turned: c.turned,
-            against: c.against,
-        },
-        Turned::Refused(n) => CadTurned {
-            refusal: n,
-            turned: 0,
-            against: 0,
-        },
-    }
-}
+ghost use Rattle.cad_answers.specs.Turning.{leftAfterTurn};
 
 // The rows of a body are turned to agree where they stand; the work area needs 16 words an index and a row and 4 a vertex, which come back zero.
 #[no_mangle]

@@ -8,15 +8,19 @@ use lib.Dec.{T}
 use lib.Ieee.{Float}
 use Rattle.lists.specs.Lists.{all}
 use Rattle.lists.specs.Table.{Case, case, agrees}
-use Rattle.floats.specs.Floats.{f32, f64, bits32, bits64, sqrt, narrow}
+use Rattle.floats.specs.Floats.{f32, f64, bits32, bits64}
+use Rattle.roots.specs.Roots.{sqrt}
+use Rattle.narrowing.specs.Narrow.{narrow}
 use Rattle.points.specs.Points.{cell, pattern}
 use Rattle.body.specs.Body.{Patch, rowsOf, patchesOf}
 use Rattle.body.specs.Given.{Given, givenTable, givenPositions, givenIndices, K6, K6-reversed, K7, K8}
-use Rattle.geometry.specs.Geometry.{zero64, patchVolume, escapesBody}
+use Rattle.geometry.specs.Geometry.{zero64}
+use Rattle.patch_volume.specs.Volume.{patchVolume}
+use Rattle.reach.specs.Reach.{escapesBody}
 use Rattle.geometry.specs.Given.{box68, onePoint, vertex}
 use Rattle.orient.specs.Orient.{AfterTurn}
 use Rattle.orient.specs.Claims.{turnGiven}
-use Rattle.stitch.specs.Stitch.{StitchSlices, AfterStitch}
+use Rattle.results.specs.Slices.{StitchSlices, AfterStitch}
 use Rattle.stitch.specs.Claims.{roomy, stitchGiven}
 use Rattle.counts.specs.Counts.{Counts}
 use Rattle.assemble.specs.Assemble.{AfterAssemble}

@@ -9,14 +9,19 @@ use lib.Ieee.{Float, nan, inf}
 use Rattle.lists.specs.Lists.{all}
 use Rattle.lists.specs.Table.{Case, case, agrees}
 use Rattle.points.specs.Points.{key}
-use Rattle.body.specs.Body.{Row, firstFailing, loneChecks}
+use Rattle.body.specs.Body.{Row, firstFailing}
+use Rattle.checks.specs.BodyChecks.{loneChecks}
 use Rattle.geometry.specs.declared.Vec3.{Vec3}
 use Rattle.geometry.specs.declared.Aabb.{Aabb}
-use Rattle.geometry.specs.Geometry.{Alone, zero64, one64, volumeAlone}
+use Rattle.alone.specs.Alone.{Alone, volumeAlone}
+use Rattle.geometry.specs.Geometry.{zero64, one64}
 use Rattle.orient.specs.Orient.{AfterTurn, turnOf}
-use Rattle.stitch.specs.Stitch.{StitchSlices, AfterStitch, stitchOf, stitchChecks}
+use Rattle.results.specs.Slices.{StitchSlices, AfterStitch, stitchChecks}
+use Rattle.stitch.specs.Stitch.{stitchOf}
 use Rattle.mesh.specs.Mesh.{Vertices}
-use Rattle.assemble.specs.Assemble.{MeshSlices, AfterAssemble, assembleOf}
+use Rattle.room.specs.Slices.{MeshSlices}
+use Rattle.assemble.specs.Assemble.{AfterAssemble, assembleOf}
+use Rattle.alone.specs.Evaluation as Lone
 use Rattle.finish.specs.Evaluation.{evaluation}
 
 -- ---- how the calls are written
@@ -112,7 +117,7 @@ refusals =
 
 -- The definitions give each of these numbers.
 pub refusals-agree : T (all agrees refusals)
-unfolding evaluation one nine withNan corners turnWith leaves out stitchWith stitchRefuses mesh noBox assembleWith assembleRefuses stitchedSize refusals
+unfolding evaluation Lone.evaluation one nine withNan corners turnWith leaves out stitchWith stitchRefuses mesh noBox assembleWith assembleRefuses stitchedSize refusals
 refusals-agree = tt
 
 -- ---- two checks at once
@@ -159,5 +164,5 @@ pairs =
 
 -- The first in table order is given.
 pub pairs-agree : T (all agrees pairs)
-unfolding evaluation one nine withNan corners turnWith leaves out stitchWith stitchRefuses mesh noBox assembleWith assembleRefuses stitchedSize pairs
+unfolding evaluation Lone.evaluation one nine withNan corners turnWith leaves out stitchWith stitchRefuses mesh noBox assembleWith assembleRefuses stitchedSize pairs
 pairs-agree = tt

@@ -22,7 +22,7 @@ use Rattle.splits.specs.declared.sides.TriangleEdge.{TriangleEdge}
 use Rattle.splits.specs.declared.sides.Sides.{Sides}
 use Rattle.splits.specs.Entries.{Entry, entriesOf, entriesIn, keptEntries}
 use Rattle.splits.specs.Found.{counts, countsOn, foundOnly, spotOf, withSpot, withVertex, entriesOn, foundCount, triangleFound, triangleKept}
-use Rattle.splits.specs.Triangle.{Splittable, Split}
+use Rattle.splitting.specs.Triangle.{Splittable, Split}
 use Rattle.counting.specs.Views.{View, edgeAt, sidesAt, viewOf, rowViews, bodyViews, foundIn, keptIn}
 use Rattle.counting.specs.Counting.{EdgeReady, SidesReady, sidesIn, Stands, TriangleReady, TriangleDone, viewsIn, RowReady, RowCounted, BodyReady, BodyCounted}
 

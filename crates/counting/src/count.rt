@@ -2,8 +2,8 @@
 
 use splits::Finder;
 use splits::Sides;
-use splits::Tally;
 use splits::TriangleEdge;
+use splitting::Tally;
 ghost use mathlib.Core.Path.{_≡_};
 ghost use lib.ListN.{getD};
 ghost use Rattle.geometry.specs.Geometry.{pointAt};
@@ -48,9 +48,9 @@ fn sides_at(
     let o = w[flags + k] != 0;
     let p = w[flags + k + 1] != 0;
     let q = w[flags + k + 2] != 0;
-    let a = loose::corner(indices, base, v, k);
-    let b = loose::corner(indices, base, v, k + 1);
-    let c = loose::corner(indices, base, v, k + 2);
+    let a = gathering::corner(indices, base, v, k);
+    let b = gathering::corner(indices, base, v, k + 1);
+    let c = gathering::corner(indices, base, v, k + 2);
     Sides {
         first: edge_between(positions, w, v, a, b, o),
         second: edge_between(positions, w, v, b, c, p),
@@ -72,10 +72,10 @@ pub fn find_splits(
     ensures { λ r. ⌜ TriangleDone (now (positions .entry)) (now (indices .entry)) (f .sag) (f .v) (f .list) (f .count) (f .at) (f .ts) (f .flags) base k
         (now (w .entry)) (now (w .exit)) (r .found) (r .placed) ⌝ }
 {
-    let opens = loose::any_set(w, f.flags + k);
+    let opens = gathering::any_set(w, f.flags + k);
     if opens {
         let s = sides_at(positions, indices, w, f.v, f.flags, base, k);
-        return splits::split_triangle(positions, w, s, f);
+        return splitting::split_triangle(positions, w, s, f);
     }
     Tally {
         found: 0,

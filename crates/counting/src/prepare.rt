@@ -20,8 +20,8 @@ pub fn prepare(
     let list = 4 * v + 4 * m;
     let flags = list + 3 * n;
     let beyond = projection::beyond_of(sag);
-    loose::mark_open(rows, positions, indices, w, v, m);
-    let count = loose::gather_loose(rows, indices, w, v, list, flags);
+    open_edges::mark_open(rows, positions, indices, w, v, m);
+    let count = gathering::gather_loose(rows, indices, w, v, list, flags);
     Finder {
         sag: sag,
         beyond: beyond,

@@ -13,7 +13,7 @@ fn name_edges(positions: &[f32], indices: &[u32], w: &mut [u64], v: usize)
 {
     let n = indices.len();
     join::vertices::join_points(Rule::Bits, positions, w, v);
-    edges::name_row(indices, w, v, v, 0, n, 4 * v, 0);
+    use_words::name_row(indices, w, v, v, 0, n, 4 * v, 0);
 }
 
 // Behind n names at `at` come their first uses, and then how many have each as their first use.
@@ -22,7 +22,7 @@ fn count_firsts(w: &mut [u64], at: usize, n: usize)
     ensures { λ _. ⌜ FirstsCounted at n (now (w .entry)) (now (w .exit)) ⌝ }
 {
     join::words::join_words_at(w, at, n);
-    edges::count_uses(w, at + n, at + 2 * n, n);
+    use_counts::count_uses(w, at + n, at + 2 * n, n);
 }
 
 // The edges of a mesh of v vertices are counted, points being the same exactly if their bits agree and edges with equal ends being skipped.
@@ -34,6 +34,6 @@ pub fn count_edges(positions: &[f32], indices: &[u32], w: &mut [u64], v: usize) 
     let n = indices.len();
     name_edges(positions, indices, w, v);
     count_firsts(w, 4 * v, n);
-    edges::run_row(indices, w, v, v, 0, n, 4 * v + 3 * n);
+    use_words::run_row(indices, w, v, v, 0, n, 4 * v + 3 * n);
     tally(w, 4 * v + n, n)
 }

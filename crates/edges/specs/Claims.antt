@@ -1,12 +1,11 @@
 -- The uses of a few edges. Assumes nothing.
-use mathlib.Core.Bool.{Bool, true, false, cond}
+use mathlib.Core.Bool.{true, false, cond}
 use mathlib.Core.List.{List, [], _∷_, map}
 use Prim.Native.Nat.{ℕ}
-use lib.ListN.{length}
 use lib.Dec.{T}
 use Rattle.lists.specs.Lists.{all}
 use Rattle.lists.specs.Table.{Case, case, agrees}
-use Rattle.edges.specs.Edges.{Use, skipped, firstUser, usesOf, isOpen, firstUses}
+use Rattle.edges.specs.Edges.{Use, firstUser, usesOf, isOpen, firstUses}
 use Rattle.edges.specs.Evaluation.{evaluation}
 
 -- the use of an edge by a row of shell 0

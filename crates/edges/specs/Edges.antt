@@ -1,11 +1,11 @@
 -- The uses of edges. A use runs between two joined points; which points are joined is the caller's. Assumes nothing.
 use mathlib.Core.Bool.{Bool, true, false, not, _&&_, _||_, cond}
 use mathlib.Core.List.{List, [], _∷_, _++_}
-use Prim.Native.Nat.{ℕ, zero, suc, _+_, _*_}
-use lib.ListN.{length, getD, drop}
-use lib.Dec.{leb, ltb, eqb}
+use Prim.Native.Nat.{ℕ, suc}
+use lib.ListN.{getD, drop}
+use lib.Dec.{eqb}
 use Rattle.body.specs.Body.{Patch, Row, Triangle, trianglesOf}
-use Rattle.lists.specs.Lists.{any, countIf, filter}
+use Rattle.lists.specs.Lists.{any, countIf}
 
 -- the use of an edge by a row, in a shell
 pub record Use : Type 0 where

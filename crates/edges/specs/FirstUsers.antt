@@ -1,8 +1,8 @@
 -- The first user of each use's edge, found by joining the uses' names. Assumes nothing.
 use mathlib.Core.Path.{_≡_}
 use mathlib.Core.List.{List, map}
-use Prim.Native.Nat.{ℕ, _+_, _*_, _≤_, _<_}
-use lib.ListN.{length, getD, take, drop}
+use Prim.Native.Nat.{ℕ, _+_, _*_, _≤_}
+use lib.ListN.{length, take, drop}
 use Rattle.body.specs.Body.{rowsOf, allIndices}
 use Rattle.join.specs.Join.{joined}
 use Rattle.edges.specs.Edges.{Use}

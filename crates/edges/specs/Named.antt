@@ -1,11 +1,11 @@
 -- A use named by one number: the name of its edge, the same both ways round. Assumes nothing.
 use mathlib.Core.Path.{_≡_}
-use mathlib.Core.Bool.{Bool, true, false, cond}
-use mathlib.Core.List.{List, [], _∷_, _++_, map}
-use Prim.Native.Nat.{ℕ, zero, suc, _+_, _-_, _*_, _%_, _≤_, _<_, min, max}
+use mathlib.Core.Bool.{true, false, cond}
+use mathlib.Core.List.{List, [], _∷_, _++_}
+use Prim.Native.Nat.{ℕ, suc, _+_, _-_, _*_, _%_, _≤_, _<_, min, max}
 use lib.ListN.{length, getD, take, drop, replicate}
 use lib.Dec.{eqb, ltb}
-use Rattle.body.specs.Body.{Row, Triangle, trianglesOf, rowsOf, allVertices, allIndices}
+use Rattle.body.specs.Body.{Row, trianglesOf, rowsOf, allVertices, allIndices}
 use Rattle.body.specs.Rows.{WholeRows, rowAt, indicesBefore}
 use Rattle.edges.specs.Edges.{Use, triangleUses}
 

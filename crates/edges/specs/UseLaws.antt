@@ -2,7 +2,7 @@
 use mathlib.Core.Path.{_≡_, refl, sym, ap, _∙_, subst}
 use mathlib.Core.Bool.{Bool, true, false, _&&_, _||_, cond}
 use mathlib.Core.List.{List, [], _∷_, _++_, map}
-use Prim.Native.Nat.{ℕ, zero, suc, _+_, _-_, _*_, _≤_, _<_}
+use Prim.Native.Nat.{ℕ, zero, suc, _+_, _*_, _<_}
 use native.Mathlib.Nat.{le-of-suc-le-suc, not-suc-le-zero}
 use native.Mathlib.Omega.{arith}
 use native.Mathlib.Decide.{ℕ-discrete}
@@ -19,7 +19,7 @@ use Rattle.join.specs.Join.{indexOf, joined, firstIndex}
 use Rattle.join.specs.Representatives.{same-name-rep, same-rep-name, joined-length, joined-at}
 use Rattle.edges.specs.Edges.{Use, triangleUses, usesFrom, sameEdge, firstUser, usesOf}
 use Rattle.edges.specs.Laws.{Names, first-user}
-use Rattle.edges.specs.Named.{edgeName, useName, rowUses}
+use Rattle.edges.specs.Named.{useName, rowUses}
 use Rattle.edges.specs.NameLaws.{LowUse, names-tell}
 
 -- a use with another number for its shell

@@ -11,10 +11,12 @@ use Rattle.body.specs.Body.{rowWidth}
 use Rattle.geometry.specs.declared.Aabb.{Aabb}
 use Rattle.geometry.specs.Geometry.{zero64}
 use Rattle.orient.specs.Orient.{AfterTurn, turnOf}
-use Rattle.stitch.specs.Stitch.{StitchSlices, AfterStitch, stitchOf}
+use Rattle.results.specs.Slices.{StitchSlices, AfterStitch}
+use Rattle.stitch.specs.Stitch.{stitchOf}
 use Rattle.acceptance.specs.Acceptance.{failureWidth}
 use Rattle.mesh.specs.Mesh.{partWidth, rangeWidth}
-use Rattle.assemble.specs.Assemble.{MeshSlices, AfterAssemble, assembleOf}
+use Rattle.room.specs.Slices.{MeshSlices}
+use Rattle.assemble.specs.Assemble.{AfterAssemble, assembleOf}
 
 -- a sheet that was read: box, sag, default and materials (0 is none, n + 1 is material n), and the body, whose floats are f32 bits
 pub record Sheet : Type 0 where

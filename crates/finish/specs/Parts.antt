@@ -15,7 +15,8 @@ use Rattle.geometry.specs.Geometry.{zero64}
 use Rattle.orient.specs.Orient.{AfterTurn, turnOf}
 use Rattle.loose.specs.Loose.{Facet, Loose, facetsIn, looseIn}
 use Rattle.splits.specs.Splits.{Side, Placed, SplitTriangle, sidesOf, splitTriangle}
-use Rattle.stitch.specs.Stitch.{AfterStitch, stitchedBodyOf, stitchOrRefuse, clearedSlices}
+use Rattle.results.specs.Slices.{AfterStitch, stitchOrRefuse, clearedSlices}
+use Rattle.stitched.specs.StitchedBody.{stitchedBodyOf}
 use Rattle.finish.specs.Finish.{Sheet, Room, Outcome, Refused, area, stitchSlices, assembleNext}
 
 -- turn's answer, normals and indices as numbers

@@ -17,11 +17,11 @@ use Rattle.orient.specs.declared.turning.Turned.{Turned}
 use Rattle.orient.specs.declared.turning.Turned.the-variants as TurnCase
 use Rattle.orient.specs.Orient.{AfterTurn, turnOf}
 use Rattle.orient.specs.Turned.{Left, left, answerOf, answered}
-use Rattle.stitch.specs.declared.stitching.Sizes.{Sizes}
-use Rattle.stitch.specs.declared.stitching.Stitched.{Stitched}
-use Rattle.stitch.specs.declared.stitching.Stitched.the-variants as StitchCase
+use Rattle.results.specs.declared.answer.Sizes.{Sizes}
+use Rattle.results.specs.declared.answer.Stitched.{Stitched}
+use Rattle.results.specs.declared.answer.Stitched.the-variants as StitchCase
 use Rattle.stitch.specs.Stitch.{AfterStitch, StitchSlices, stitchOf}
-use Rattle.stitch.specs.Stitched.{LeftStitch, leftStitch, slicesOf, stitchAnswer, stitchAnswered}
+use Rattle.results.specs.Stitched.{LeftStitch, leftStitch, slicesOf, stitchAnswer, stitchAnswered}
 use Rattle.finish.specs.Finish.{benchRoom, area, stitchSlices}
 use Rattle.finisher.proofs.TextLaws.{told-refusal, zero-same}
 use Rattle.finisher.specs.Texts.{FrontsSaid, StitchSaid, Told, TurnSaid, assembledText, finishedText, stitchPrinted, stitchedText, turnPrinted}

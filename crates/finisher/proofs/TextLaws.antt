@@ -11,7 +11,7 @@ use Rattle.answer.specs.declared.Sizes.{Sizes}
 use Rattle.answer.specs.declared.Tallies.{Tallies}
 use Rattle.answer.specs.Longest.{MeshInLimits, answer-length, refusal-length}
 use Rattle.answer.specs.Answer.{Written, meshText, countText, refusalLine}
-use Rattle.assemble.specs.declared.written.MeshCounts.{MeshCounts}
+use Rattle.meshing.specs.declared.written.MeshCounts.{MeshCounts}
 use Rattle.assemble.specs.declared.assembling.Assembled.{Assembled}
 use Rattle.assemble.specs.declared.assembling.Assembled.the-variants as A
 use Rattle.assemble.specs.Assemble.{AfterAssemble, MeshSlices, assembleOf}

@@ -15,10 +15,10 @@ use Rattle.orient.specs.declared.turning.Counts.{Counts}
 use Rattle.orient.specs.declared.turning.Turned.{Turned}
 use Rattle.orient.specs.Orient.{AfterTurn, turnOf}
 use Rattle.orient.specs.Turned.{left, answered}
-use Rattle.stitch.specs.declared.stitching.Stitched.{Stitched}
+use Rattle.results.specs.declared.answer.Stitched.{Stitched}
 use Rattle.stitch.specs.Stitch.{AfterStitch, stitchOf}
-use Rattle.stitch.specs.Stitched as S
-use Rattle.assemble.specs.declared.written.MeshCounts.{MeshCounts}
+use Rattle.results.specs.Stitched as S
+use Rattle.meshing.specs.declared.written.MeshCounts.{MeshCounts}
 use Rattle.assemble.specs.Assemble.{AfterAssemble, assembleOf}
 use Rattle.assemble.specs.declared.assembling.Assembled.{Assembled}
 use Rattle.assemble.specs.Assembled.{countsAnswered, leftMesh, slicesOf, assembleAnswered}

@@ -1,8 +1,2 @@
--- The laws that the proofs of this crate's functions cite.
-mod Patterns
-mod Signs
-mod NarrowBits
-mod RoundBits
-mod Digits
-mod SqrtBits
-mod Guess
+-- The laws that the proofs of this crate cite, by subject.
+pub mod Signs

@@ -12,7 +12,7 @@ use lib.Ieee.Fits.{down-pos}
 use lib.Ieee.Scale.{round-same}
 use Rattle.rounding.specs.Fields.{bits-fields, equals-itself}
 use Rattle.floats.specs.Floats.{negative, larger, absolute, finite}
-use Rattle.floats.proofs.Patterns.{is-nan, sign, field, tail}
+use Rattle.floats.specs.Patterns.{is-nan, sign, field, tail}
 
 -- ---- the sign of a value is the highest bit of its pattern
 odd-negative : (d : ℕ) (s : Bool) (q k l : ℕ) → negative (odd d s q k l) ≡ s

@@ -1,10 +1,6 @@
--- The definitions of the float steps, their worked examples, and what is shown of the square root.
+-- The definitions of the float steps, the bit patterns of f64, what is shown of the larger of two, and worked examples.
 pub mod Floats
-pub mod Narrowing
-pub mod Root
-pub mod SquareRoot
-pub mod RootOrder
+pub mod Patterns
 pub mod Plus
-pub mod RootLarger
 pub mod Cases
 pub mod Evaluation

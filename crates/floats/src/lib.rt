@@ -1,12 +1,9 @@
-// The float steps that the language lacks, on bit patterns and on f32 and f64: widening, narrowing, square root, rounding to a whole number, the larger of
-// two. Each takes every input and answers what its definition in specs/Floats.antt says.
+// Float steps that the language lacks, on bit patterns and on f32 and f64: widening, the larger of two, the absolute value; and powers of two.
+// Each takes every input and answers what its definition in specs/Floats.antt says.
 
 mod comparison;
 mod conversion;
-mod integral;
-mod narrowing;
-mod power;
-mod root;
+mod powers;
 
 pub use comparison::absolute_f64;
 pub use comparison::is_finite_f32;
@@ -18,9 +15,4 @@ pub use conversion::f32_of_bits;
 pub use conversion::f64_of_bits;
 pub use conversion::widen;
 pub use conversion::widen_f32;
-pub use integral::round;
-pub use integral::round_f64;
-pub use narrowing::narrow;
-pub use narrowing::narrow_f64;
-pub use root::sqrt;
-pub use root::sqrt_f64;
+pub use powers::power;

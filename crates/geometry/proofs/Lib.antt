@@ -1,5 +1,2 @@
--- Laws that several proofs of this crate cite.
-mod VolumeLaws
-mod BoxLaws
-mod ReachLaws
-mod AloneLaws
+-- The laws that the proofs of this crate cite, by subject.
+pub mod BoxLaws

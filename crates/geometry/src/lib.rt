@@ -1,20 +1,9 @@
-// Points and the box in f64, one rounding an operation; a patch's volume, its reach from the box's centre and its escape, and each of a patch alone.
+// Points and the box in f64, one rounding an operation, and the vertices of a patch as points.
 
-mod alone;
-mod reach;
-mod volume;
+mod points;
 
-pub use alone::Judged;
-pub use alone::Measured;
-pub use alone::escapes_alone;
-pub use alone::farthest_alone;
-pub use alone::patch_volume_alone;
-pub use reach::escapes_body;
-pub use reach::farthest;
-pub use volume::patch_volume;
-pub use volume::point;
-pub use volume::triple;
-pub use volume::vertex;
+pub use points::point;
+pub use points::vertex;
 ghost use mathlib.Core.Path.{_≡_};
 ghost use Rattle.geometry.specs.Geometry.{addV, centreOf, diagonal, dot, isEmpty, lengthV, scale, size, subV};
 
@@ -77,7 +66,7 @@ impl Vec3 {
     pub fn length(self) -> f64
         ensures { λ r. ⌜ r ≡ lengthV self ⌝ }
     {
-        floats::sqrt_f64(self.dot(self))
+        roots::sqrt_f64(self.dot(self))
     }
 }
 

@@ -1,11 +1,11 @@
 -- Laws of turn: the colours of the whole body, the accepted body turned, and the call. Assumes nothing.
-use mathlib.Core.Path.{_≡_, refl, sym, ap, _∙_, subst}
+use mathlib.Core.Path.{_≡_, sym, ap, _∙_, subst}
 use mathlib.Core.Bool.{Bool, true, false}
-use mathlib.Core.List.{List, [], _∷_, _++_, map}
-use Prim.Native.Nat.{ℕ, _+_, _-_, _*_, _≤_, _<_}
+use mathlib.Core.List.{List, _++_, map}
+use Prim.Native.Nat.{ℕ, _+_, _-_, _*_, _≤_}
 use native.Mathlib.Omega.{arith}
-use lib.ListN.{length, getD, take, drop, replicate, length-drop}
-use lib.Seq.{take-take, length-take-le}
+use lib.ListN.{length, take, drop, replicate, length-drop}
+use lib.Seq.{length-take-le}
 use lib.Dec.{eqb}
 use lib.Ieee.{Float, neg}
 use borrow.Author.Tests.{eq-eqb, ne-eqb}
@@ -15,24 +15,25 @@ use Rattle.lists.specs.Stretches.{part-stretch, part-rest, rest-less}
 use Rattle.points.specs.Rule.{names}
 use Rattle.points.specs.Points.{key}
 use Rattle.join.specs.Join.{joined}
-use Rattle.body.specs.Body.{Row, Patch, rowsOf, patchesOf, allVertices, allIndices, workNeeded, cleared, bodyChecks, firstFailing}
-use Rattle.body.specs.Rows.{WholeRows, Total}
-use Rattle.body.specs.Patches.{length-patches}
-use Rattle.body.specs.Accepted.{Passed, passed, passed-rows}
-use Rattle.walk.specs.Walk.{Pair, coloured}
-use Rattle.walk.specs.Uses.{Uses, pairsBy}
+use Rattle.body.specs.Body.{rowsOf, patchesOf, allVertices, workNeeded, cleared, firstFailing}
+use Rattle.checks.specs.BodyChecks.{bodyChecks}
+use Rattle.body.specs.Rows.{Total}
+use Rattle.checks.specs.Accepted.{Passed, passed, passed-rows}
+use Rattle.walk.specs.Walk.{coloured}
+use Rattle.walk.specs.Uses.{pairsBy}
 use Rattle.walk.specs.Area.{usesOf, Sound}
-use Rattle.walk.specs.Group.{coloursOf}
 use Rattle.walk.specs.Links.{uses-front, sound-kept}
-use Rattle.pairs.specs.Laid.{usesAt, usesEnd, Layable, Laid}
+use Rattle.pairs.specs.Laid.{usesAt, usesEnd, Laid}
 use Rattle.orient.specs.declared.turning.Counts.{Counts}
 use Rattle.orient.specs.declared.turning.Turned.the-variants.{Done, Refused}
-use Rattle.orient.specs.Orient.{Walks, AfterTurn, swapped, walksFrom, walksOf, turnedBody, turnBody, refuseTurn, turnOf}
-use Rattle.orient.specs.Measured.{shapes}
-use Rattle.orient.specs.Reversed.{Reversible, Reversed, changedRows, coordinates, indexCount, normals-turned, indices-turned}
-use Rattle.orient.specs.Walked.{walksOver, Walkable, GroupsWalked}
+use Rattle.groups.specs.Groups.{Walks}
+use Rattle.orient.specs.Orient.{walksOf, turnBody, refuseTurn, turnOf}
+use Rattle.reversal.specs.Reversal.{swapped}
+use Rattle.inversion.specs.Measured.{shapes}
+use Rattle.reversal.specs.Reversed.{Reversible, Reversed, changedRows, coordinates, indexCount, normals-turned, indices-turned}
+use Rattle.groups.specs.Walked.{walksOver, Walkable, GroupsWalked}
 use Rattle.orient.specs.Normals.{walks-any-normals}
-use Rattle.orient.specs.Turned.{Colourable, Coloured, Left, left, leftDone, answerOf, answered, turnDone}
+use Rattle.orient.specs.Turned.{Colourable, Coloured, left, leftDone, answered, turnDone}
 
 -- ---- the colours
 

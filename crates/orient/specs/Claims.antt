@@ -1,8 +1,7 @@
 -- Small bodies turned, each of which tells a reading of document 01 from a near miss. Assumes nothing.
-use mathlib.Core.List.{List, [], _∷_, _++_, map}
+use mathlib.Core.List.{List, [], _∷_, map}
 use Prim.Native.Nat.{ℕ}
-use lib.ListN.{length, take, replicate}
-use lib.IntN.{ℤ}
+use lib.ListN.{take, replicate}
 use lib.Dec.{T}
 use Rattle.lists.specs.Lists.{all}
 use Rattle.lists.specs.Table.{Case, case, agrees}

@@ -1,9 +1,5 @@
--- The definitions of turning, the turned body in the flat slices, what measuring asks, and the definitions computed.
+-- The definitions of turning, walks without normals, what the code leaves, and the definitions computed.
 pub mod Orient
-pub mod Reversed
-pub mod Measured
-pub mod Settled
-pub mod Walked
 pub mod Normals
 pub mod Turned
 pub mod Evaluation

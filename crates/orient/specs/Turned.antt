@@ -1,6 +1,6 @@
 -- What turn's code asks and leaves: the colours in the work area, the body turned, and its answer as an enum. Assumes nothing.
 use mathlib.Core.Path.{_≡_}
-use mathlib.Core.Bool.{Bool, true, false}
+use mathlib.Core.Bool.{true, false}
 use mathlib.Core.List.{List}
 use Prim.Native.Nat.{ℕ, _+_, _*_, _≤_}
 use lib.ListN.{length, take, drop}
@@ -9,14 +9,13 @@ use lib.Ieee.{Float}
 use Rattle.points.specs.Rule.{names}
 use Rattle.points.specs.Points.{key}
 use Rattle.join.specs.Join.{joined}
-use Rattle.body.specs.Body.{rowsOf, patchesOf, workNeeded}
-use Rattle.pairs.specs.Laid.{Layable, usesAt}
-use Rattle.walk.specs.Area.{coloursAt}
+use Rattle.body.specs.Body.{rowsOf, patchesOf}
+use Rattle.pairs.specs.Laid.{Layable}
 use Rattle.orient.specs.declared.turning.Counts.{Counts}
 use Rattle.orient.specs.declared.turning.Turned.{Turned}
 use Rattle.orient.specs.declared.turning.Turned.the-variants.{Done, Refused}
 use Rattle.orient.specs.Orient.{AfterTurn, walksOf, turnBody}
-use Rattle.orient.specs.Measured.{shapes}
+use Rattle.inversion.specs.Measured.{shapes}
 
 -- ---- the colours
 

@@ -1,9 +1,6 @@
-// Turning: pairs, the walk of each group, its volume, and coloured rows reversed.
+// Turning: the groups of a body coloured, and coloured rows reversed.
 
-mod groups;
-mod reverse;
 mod turning;
-mod volume;
 
 pub use turning::Counts;
 pub use turning::Turned;

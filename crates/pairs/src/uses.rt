@@ -20,9 +20,9 @@ fn list_uses(rows: &[u32], indices: &[u32], w: &mut [u64], points: usize, shells
     ensures { λ _. ⌜ UsesListed (now (rows .entry)) (now (indices .entry)) (now (w .entry)) points shells at (now (w .exit)) ⌝ }
 {
     let n = indices.len();
-    edges::first_users(rows, indices, w, points, shells, at);
-    edges::list_rows(rows, w, at + 2 * n);
-    edges::list_runs(rows, indices, w, points, at + 3 * n);
+    body_uses::first_users(rows, indices, w, points, shells, at);
+    body_uses::list_rows(rows, w, at + 2 * n);
+    body_uses::list_runs(rows, indices, w, points, at + 3 * n);
 }
 
 // The uses of a body of v vertices and m rows are laid out for the walk.

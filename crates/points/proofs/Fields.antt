@@ -12,7 +12,7 @@ use lib.Ieee.{Float, nan, inf, fin, binary32, up, down, odd, ofFields, ofBits, t
 use lib.Ieee.Fits.{down-pos}
 use lib.Ieee.Bits.{is-false, ofBits-toBits}
 use lib.Ieee.Exact.{HasValue, odd-sign}
-use Rattle.floats.specs.Floats.{halfUp}
+use Rattle.integral.specs.Integral.{halfUp}
 use Rattle.points.specs.Points.{cellSize}
 use Rattle.points.proofs.Rounding.{same-fraction, low-case, mid-case, high-case}
 

@@ -7,7 +7,7 @@ use native.Mathlib.Omega.{arith}
 use lib.Pow.{pow-add, pow-pos, pow-mono, shl-lt}
 use lib.Dec.{lit<}
 use lib.Ieee.Nearest.{div-same}
-use Rattle.floats.specs.Floats.{halfUp}
+use Rattle.integral.specs.Integral.{halfUp}
 
 -- equal fractions round alike
 pub same-fraction : (a c b d : ℕ) → 0 < c → 0 < d → a * d ≡ b * c → halfUp a c ≡ halfUp b d

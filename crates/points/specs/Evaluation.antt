@@ -1,12 +1,12 @@
 -- A claim that says `unfolding evaluation` has every definition of this crate and of those below it computed. Assumes nothing.
 use Prim.Native.Nat.{ℕ}
 use Rattle.lists.specs.Evaluation as Lists
-use Rattle.floats.specs.Evaluation as Floats
+use Rattle.integral.specs.Evaluation as Integral
 use Rattle.points.specs.Rule.{names}
 use Rattle.points.specs.Points.{cell, cellSize, littleEndian, keyStep, keySteps, key, bits}
 use Rattle.points.specs.Bits.{frontBits, digest}
 
 -- every definition that computes
 unfoldable pub evaluation : ℕ
-unfolding Lists.evaluation Floats.evaluation names cell cellSize littleEndian keyStep keySteps key bits frontBits digest
+unfolding Lists.evaluation Integral.evaluation names cell cellSize littleEndian keyStep keySteps key bits frontBits digest
 evaluation = 0

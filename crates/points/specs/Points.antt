@@ -6,7 +6,8 @@ use lib.IntN.{ℤ, pos, negsuc, negℤ}
 use lib.Bits.{bitXor}
 use lib.Dec.{eqb}
 use lib.Ieee.{Float, nan, inf, fin, up, down}
-use Rattle.floats.specs.Floats.{halfUp, bits32}
+use Rattle.integral.specs.Integral.{halfUp}
+use Rattle.floats.specs.Floats.{bits32}
 use Rattle.points.specs.Rule.{Rule}
 
 -- a magnitude with its sign (true is minus), clamped to signed 64 bits

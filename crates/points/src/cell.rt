@@ -1,7 +1,7 @@
 // The cell of a coordinate, from the bits of its f32.
 ghost use mathlib.Core.Path.{_≡_};
 ghost use Prim.Native.Nat.{_^_, _<_, min};
-ghost use Rattle.floats.specs.Floats.{halfUp};
+ghost use Rattle.integral.specs.Integral.{halfUp};
 ghost use Rattle.points.specs.Points as Points;
 use floats::bits_of_f32;
 

@@ -2,7 +2,8 @@
 use mathlib.Core.Path.{_≡_, ap, _∙_}
 use mathlib.Core.List.{List, [], _∷_}
 use lib.Ieee.{Float}
-use Rattle.floats.specs.Floats.{narrow, larger}
+use Rattle.narrowing.specs.Narrow.{narrow}
+use Rattle.floats.specs.Floats.{larger}
 use Rattle.geometry.specs.declared.Vec3.{Vec3}
 use Rattle.geometry.specs.Geometry.{sub, div, addV, scale, lengthV, one64}
 use Rattle.projection.specs.Projection.{least-length, mixed}

@@ -6,8 +6,8 @@ use lib.Dec.{T}
 use lib.Ieee as Ieee
 use lib.Ieee.{Float, inf, binary64, fits, lt, eq}
 use lib.Ieee.Fits.{add-fits, mul-fits}
-use Rattle.floats.specs.Floats.{sqrt}
-use Rattle.floats.specs.RootOrder.{not-above-infinity, below-root}
+use Rattle.roots.specs.Roots.{sqrt}
+use Rattle.roots.specs.RootOrder.{not-above-infinity, below-root}
 use Rattle.geometry.specs.declared.Vec3.{Vec3}
 use Rattle.geometry.specs.Geometry.{sub, mul, div, subV, scale, dot, lengthV, zero64, one64}
 use Rattle.projection.specs.declared.Edge.{Edge}

@@ -3,7 +3,7 @@ use mathlib.Core.Path.{_≡_}
 use mathlib.Core.Bool.{Bool, true, false}
 use lib.Dec.{T}
 use lib.Ieee.{Float, binary64, fits, lt}
-use Rattle.floats.specs.Floats.{sqrt}
+use Rattle.roots.specs.Roots.{sqrt}
 use Rattle.geometry.specs.declared.Vec3.{Vec3}
 use Rattle.projection.specs.declared.Edge.{Edge}
 use Rattle.projection.specs.Projection.{withinSag}

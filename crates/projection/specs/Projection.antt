@@ -3,7 +3,8 @@ use mathlib.Core.Bool.{Bool, true, false, not, _&&_, cond}
 use mathlib.Core.List.{List, [], _∷_}
 use mathlib.Core.Option.{Option, none, some}
 use lib.Ieee.{Float, lt, eq}
-use Rattle.floats.specs.Floats.{f64, narrow, larger}
+use Rattle.floats.specs.Floats.{f64, larger}
+use Rattle.narrowing.specs.Narrow.{narrow}
 use Rattle.geometry.specs.declared.Vec3.{Vec3}
 use Rattle.projection.specs.declared.Edge.{Edge}
 use Rattle.projection.specs.declared.Hit.{Hit}

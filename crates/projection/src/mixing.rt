@@ -19,8 +19,8 @@ pub fn mixed_normal(na: Vec3, nb: Vec3, t: f64) -> Normal
     let m = na.scale(1.0 - t).add(nb.scale(t));
     let l = floats::larger_f64(m.length(), 1e-30);
     Normal {
-        x: floats::narrow_f64(m.x / l),
-        y: floats::narrow_f64(m.y / l),
-        z: floats::narrow_f64(m.z / l),
+        x: narrowing::narrow_f64(m.x / l),
+        y: narrowing::narrow_f64(m.y / l),
+        z: narrowing::narrow_f64(m.z / l),
     }
 }

@@ -13,7 +13,7 @@ pub fn beyond_of(sag: f64) -> f64
     ensures { λ b. ⌜ Beyond sag b ⌝ }
 {
     let b = 4.0 * sag * sag;
-    if floats::sqrt_f64(b) > sag {
+    if roots::sqrt_f64(b) > sag {
         return b;
     }
     1.0 / 0.0
@@ -32,7 +32,7 @@ pub fn within_sag(s: Edge, r: Vec3, sag: f64, beyond: f64) -> bool
             if d > beyond {
                 return false;
             }
-            !(floats::sqrt_f64(d) > sag)
+            !(roots::sqrt_f64(d) > sag)
         }
     }
 }

@@ -4,7 +4,7 @@ use crate::Reader;
 use crate::room::fits;
 use crate::taking::take_up;
 use body::clear;
-use line_order::line_refusal;
+use line_refusals::line_refusal;
 use lines::Given;
 use lines::Kind;
 use lines::line_of;

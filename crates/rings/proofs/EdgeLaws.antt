@@ -11,7 +11,7 @@ use borrow.Author.Tests.{eq-eqb, ne-eqb}
 use Rattle.splits.specs.Entries.{entriesOf, entriesIn}
 use Rattle.rings.specs.declared.fan.Fan.{Fan}
 use Rattle.rings.specs.Rings.{numbersOf, ringAfter, fanGo}
-use Rattle.rings.specs.Appended.{FanReady, FanWritten}
+use Rattle.rings.specs.Added.{FanReady, FanWritten}
 use Rattle.rings.specs.FanSteps.{picked, edgeNumbers, Held, PushRoom, PickReady, EdgeReady, Pushed}
 use Rattle.rings.proofs.PushLaws.{pushed-none, pushed-then}
 

@@ -11,7 +11,7 @@ use Rattle.lists.specs.Sets.{drop-sets}
 use Rattle.lists.specs.Stretches.{rest-less}
 use Rattle.rings.specs.declared.fan.Fan.{Fan}
 use Rattle.rings.specs.Rings.{fanGo}
-use Rattle.rings.specs.Appended.{Appended}
+use Rattle.append.specs.Appended.{Appended}
 use Rattle.rings.specs.FanSteps.{PushRoom, Pushed}
 
 -- ---- what is appended

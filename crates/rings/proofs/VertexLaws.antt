@@ -9,13 +9,15 @@ use lib.Ieee.{Float}
 use Rattle.lists.specs.Sets.{sets-append, drop-sets}
 use Rattle.floats.specs.Floats.{f64}
 use Rattle.geometry.specs.declared.Vec3.{Vec3}
-use Rattle.geometry.specs.Geometry.{vertexAt, pointAt, Corners}
+use Rattle.geometry.specs.Geometry.{vertexAt, pointAt}
+use Rattle.patch_volume.specs.Volume.{Corners}
 use Rattle.projection.specs.declared.mixing.Normal.{Normal}
 use Rattle.projection.specs.Answers.{normalOf}
 use Rattle.projection.specs.Projection.{mixed}
 use Rattle.splits.specs.Entries.{Entry, entryOf, entriesOf, entriesIn, entryAt}
 use Rattle.rings.specs.Rings.{coordinatesAt, newPositions, newNormals, startOf, endOf}
-use Rattle.rings.specs.Appended.{Appended, VerticesReady, NormalsReady}
+use Rattle.append.specs.Appended.{Appended}
+use Rattle.rings.specs.Added.{VerticesReady, NormalsReady}
 use Rattle.rings.specs.VertexSteps.{PointReady}
 
 -- three stores in turn are a run

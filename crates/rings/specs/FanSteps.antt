@@ -7,7 +7,7 @@ use lib.ListN.{length, getD, take, drop}
 use lib.Dec.{eqb}
 use Rattle.rings.specs.declared.fan.Fan.{Fan}
 use Rattle.rings.specs.Rings.{fanGo}
-use Rattle.rings.specs.Appended.{Appended}
+use Rattle.append.specs.Appended.{Appended}
 
 -- the vertex x, if the word of its entry is on edge e
 abbrev pub picked : ℕ → ℕ → ℕ → List ℕ

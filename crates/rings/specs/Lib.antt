@@ -1,6 +1,6 @@
 -- The definitions of a split triangle's ring, new vertices and fan, what they add to the slices, and the definitions computed.
 pub mod Rings
-pub mod Appended
+pub mod Added
 pub mod VertexSteps
 pub mod FanSteps
 pub mod FanLaws

@@ -2,7 +2,7 @@
 
 ghost use mathlib.Core.List.{[], _∷_};
 ghost use lib.ListN.{getD, take, drop};
-ghost use Rattle.rings.specs.Appended.{FanReady, FanWritten};
+ghost use Rattle.rings.specs.Added.{FanReady, FanWritten};
 ghost use Rattle.rings.specs.FanSteps.{picked, edgeNumbers, Held, PushRoom, PickReady, EdgeReady, Pushed};
 
 // The fan so far: where its next index goes, the vertex pushed last, and whether there was one.

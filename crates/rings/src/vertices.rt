@@ -1,21 +1,23 @@
 // The positions and normals of the new vertices.
 
+use entries::entry_edge;
+use entries::entry_parameter;
 use geometry::vertex;
 use projection::Normal;
 use projection::mixed_normal;
-use splits::entry_edge;
-use splits::entry_parameter;
 ghost use mathlib.Core.Path.{_≡_};
 ghost use mathlib.Core.List.{[], _∷_};
 ghost use Prim.Native.Nat.{_+_, _%_, _<_, _≤_};
 ghost use lib.ListN.{length, getD};
 ghost use lib.Seq.{sets};
-ghost use Rattle.geometry.specs.Geometry.{pointAt, Corners};
+ghost use Rattle.geometry.specs.Geometry.{pointAt};
+ghost use Rattle.patch_volume.specs.Volume.{Corners};
 ghost use Rattle.projection.specs.Projection.{mixed};
 ghost use Rattle.projection.specs.Answers.{normalOf};
 ghost use Rattle.splits.specs.Entries.{entriesIn};
 ghost use Rattle.rings.specs.Rings.{coordinatesAt, startOf, endOf, newPositions, newNormals};
-ghost use Rattle.rings.specs.Appended.{Appended, VerticesReady, NormalsReady};
+ghost use Rattle.append.specs.Appended.{Appended};
+ghost use Rattle.rings.specs.Added.{VerticesReady, NormalsReady};
 ghost use Rattle.rings.specs.VertexSteps.{PointReady};
 
 // The vertex of the entry at place j.

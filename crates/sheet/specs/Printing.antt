@@ -5,7 +5,7 @@ use Rattle.answer.specs.declared.Sizes.{Sizes}
 use Rattle.answer.specs.declared.Tallies.{Tallies}
 use Rattle.answer.specs.Answer.{countText, meshText}
 use Rattle.orient.specs.Orient.{AfterTurn}
-use Rattle.stitch.specs.Stitch.{AfterStitch}
+use Rattle.results.specs.Slices.{AfterStitch}
 use Rattle.mesh.specs.Mesh.{Vertices}
 use Rattle.assemble.specs.Assemble.{AfterAssemble}
 

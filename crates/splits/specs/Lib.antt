@@ -2,9 +2,7 @@
 pub mod Splits
 pub mod Entries
 pub mod Found
-pub mod Finding
-pub mod Placing
-pub mod Triangle
+pub mod SideLaws
 pub mod Filters
 pub mod Cells
 pub mod FoundPoints

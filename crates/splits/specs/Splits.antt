@@ -12,7 +12,6 @@ use Rattle.points.specs.Points.{cell, sameℤ}
 use Rattle.geometry.specs.declared.Vec3.{Vec3}
 use Rattle.geometry.specs.Geometry.{sub}
 use Rattle.projection.specs.declared.Edge.{Edge}
-use Rattle.projection.specs.declared.Hit.{Hit}
 use Rattle.projection.specs.Projection.{edgeOf, project, withinSag}
 use Rattle.loose.specs.Loose.{Corner, Facet, Loose}
 

@@ -1,18 +1,9 @@
-// The points that split a triangle: found by edge among the loose vertices, placed, sorted and kept.
+// What finding the points that split a triangle looks at: the triangle's edges, and where lists and flags stand.
 
-mod entries;
 mod finder;
-mod finding;
-mod placing;
 mod sides;
-mod triangle;
 
-pub use entries::drop_close;
-pub use entries::entry_edge;
-pub use entries::entry_parameter;
-pub use entries::insert_entry;
 pub use finder::Finder;
 pub use sides::Sides;
 pub use sides::TriangleEdge;
-pub use triangle::Tally;
-pub use triangle::split_triangle;
+pub use sides::side_of;

@@ -11,7 +11,10 @@ use borrow.Author.Tests.{le-leb, lt-leb, le-ltb, lt-ltb, eq-eqb, ne-eqb, not-tru
 use lib.Dec.{ltb, eqb, lit<}
 use lib.ListN.{length, getD, take, drop, drop-of-length-le, length-append, length-drop, set, length-set}
 use lib.Seq.{drop-cons, take-all, take-at, take-suc, take-suc-set, getD-set-same, drop-set-lt}
-use Rattle.floats.specs.Floats.{widenBits, narrowBits, sqrtBits, roundBits, largerBits}
+use Rattle.floats.specs.Floats.{widenBits, largerBits}
+use Rattle.narrowing.specs.Narrow.{narrowBits}
+use Rattle.roots.specs.Roots.{sqrtBits}
+use Rattle.integral.specs.Integral.{roundBits}
 use Rattle.step_lines.specs.declared.Read.{Read}
 use Rattle.step_lines.specs.declared.Reply.{Reply}
 use Rattle.step_lines.specs.declared.Reply.the-variants.{Long, Short, Refused}

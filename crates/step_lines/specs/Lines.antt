@@ -7,7 +7,10 @@ use Prim.Native.Nat.{ℕ, zero, suc, _+_, _-_, _*_, _/_, _%_, _^_}
 use Prim.Native.String.{String, len, charAt}
 use lib.Dec.{leb, ltb, eqb}
 use lib.ListN.{length, getD, take, drop}
-use Rattle.floats.specs.Floats.{widenBits, narrowBits, sqrtBits, roundBits, largerBits}
+use Rattle.floats.specs.Floats.{widenBits, largerBits}
+use Rattle.narrowing.specs.Narrow.{narrowBits}
+use Rattle.roots.specs.Roots.{sqrtBits}
+use Rattle.integral.specs.Integral.{roundBits}
 use Rattle.step_lines.specs.declared.Reply.{Reply}
 use Rattle.step_lines.specs.declared.Reply.the-variants.{Long, Short, Refused}
 

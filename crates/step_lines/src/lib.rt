@@ -1,10 +1,10 @@
 // One line of the program `steps`, without its line feed: the name of a float step and the bits of its operands in hex, read and answered.
 
 use floats::larger;
-use floats::narrow;
-use floats::round;
-use floats::sqrt;
 use floats::widen;
+use integral::round;
+use narrowing::narrow;
+use roots::sqrt;
 ghost use mathlib.Core.Path.{_≡_};
 ghost use Prim.Native.Nat.{_+_, _^_, _<_, _≤_};
 ghost use lib.ListN.{length, take, drop};

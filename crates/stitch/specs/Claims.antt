@@ -1,9 +1,8 @@
 -- Small bodies stitched, each of which tells a reading of document 01 from a near miss. Assumes nothing.
-use mathlib.Core.Bool.{Bool, true, false}
+use mathlib.Core.Bool.{true, false}
 use mathlib.Core.List.{List, [], _∷_, _++_, map}
 use Prim.Native.Nat.{ℕ, _*_, _^_}
-use lib.ListN.{length, take, drop, replicate, set}
-use lib.IntN.{ℤ}
+use lib.ListN.{take, drop, replicate, set}
 use lib.Dec.{T}
 use lib.Ieee.{Float, nan, binary64, round}
 use Rattle.lists.specs.Lists.{all}
@@ -14,7 +13,9 @@ use Rattle.body.specs.Given.{Given, at, below, row, triangle, triangleIn, given
 use Rattle.geometry.specs.Geometry.{sub, zero64, one64}
 use Rattle.projection.specs.Projection.{near-end, least-length, far-end}
 use Rattle.splits.specs.Splits.{near-last}
-use Rattle.stitch.specs.Stitch.{StitchSlices, AfterStitch, stitchOf, faceIndices}
+use Rattle.results.specs.Slices.{StitchSlices, AfterStitch}
+use Rattle.stitch.specs.Stitch.{stitchOf}
+use Rattle.faces.specs.Faces.{faceIndices}
 use Rattle.stitch.specs.Evaluation.{evaluation}
 
 -- slices with room for 9 rows, 99 vertices and 99 indices

@@ -1,9 +1,10 @@
 -- A claim that says `unfolding evaluation` has every definition of this crate and of those below it computed. Assumes nothing.
 use Prim.Native.Nat.{ℕ}
-use Rattle.rings.specs.Evaluation as Rings
-use Rattle.stitch.specs.Stitch.{newNormal, coordinates, numbersOn, ring, fanned, stitchedPatch, stitchedPatches, stitchedBodyOf, stitchedBody, stitchBody, faceIndices, stitchChecks, writeBody, refuseStitch, clearedSlices, stitchOrRefuse, stitchOf}
+use Rattle.results.specs.Evaluation as Results
+use Rattle.faces.specs.Faces.{faceIndices}
+use Rattle.stitch.specs.Stitch.{stitchBody, stitchOf}
 
 -- every definition that computes
 unfoldable pub evaluation : ℕ
-unfolding Rings.evaluation newNormal coordinates numbersOn ring fanned stitchedPatch stitchedPatches stitchedBodyOf stitchedBody stitchBody faceIndices stitchChecks writeBody refuseStitch clearedSlices stitchOrRefuse stitchOf
+unfolding Results.evaluation faceIndices stitchBody stitchOf
 evaluation = 0

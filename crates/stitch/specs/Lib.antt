@@ -1,11 +1,4 @@
--- The definitions of stitching, what the code copies, checks and hands back, that the body it makes is theirs, and the definitions computed.
+-- The definitions of stitching, the definitions computed, and small bodies stitched.
 pub mod Stitch
-pub mod Copied
-pub mod Results
-pub mod Faces
-pub mod TriangleViews
-pub mod ViewLaws
-pub mod Stitched
-pub mod Put
 pub mod Evaluation
 pub mod Claims

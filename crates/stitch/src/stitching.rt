@@ -1,130 +1,17 @@
 // stitch: cracks between the patches of a body closed, into second slices.
 
-use crate::checks::result_failing;
-use crate::copy::copy_body;
-use crate::put::put_body;
-use counting::count_splits;
-use counting::prepare::prepare;
+use closing::stitch_nothing;
+use closing::stitch_open;
+use results::Stitched;
 ghost use mathlib.Core.Path.{_≡_};
 ghost use Prim.Native.Nat.{_+_, _*_};
 ghost use lib.ListN.{length};
 ghost use Rattle.points.specs.Rule.{names};
 ghost use Rattle.points.specs.Points.{key};
 ghost use Rattle.body.specs.Body.{rowsOf, patchesOf};
-ghost use Rattle.body.specs.Accepted.{Passed};
-ghost use Rattle.stitch.specs.Stitch.{stitchedBody, stitchBody, stitchOf};
-ghost use Rattle.stitch.specs.Stitched.{slicesOf, leftStitch, stitchAnswered, stitchAccepted, StitchReady, BodyStitched};
-
-// How many vertices and indices the stitched body has, and how many points split a triangle.
-pub struct Sizes {
-    pub vertices: u32,
-    pub indices: u32,
-    pub splits: u64,
-}
-
-// What stitch answers: the sizes, or the number of the first check that fails.
-pub enum Stitched {
-    Done(Sizes),
-    Refused(u32),
-}
-
-// The splits of a body of v vertices and m rows are found, and the stitched body is written if it passes its checks.
-fn stitch_open(
-    rows: &[u32],
-    positions: &[f32],
-    normals: &[f32],
-    indices: &[u32],
-    sag: f64,
-    out_rows: &mut [u32],
-    out_positions: &mut [f32],
-    out_normals: &mut [f32],
-    out_indices: &mut [u32],
-    w: &mut [u64],
-    v: usize,
-    m: usize,
-) -> Stitched
-    requires { ⌜ StitchReady (now rows) (now positions) (now normals) (now indices) (now w) v m ⌝ }
-    ensures { λ r. ⌜ BodyStitched (stitchedBody sag (names key (now (positions .entry))) (patchesOf (rowsOf (now (rows .entry))) (now (positions .entry)) (now (normals .entry)) (now (indices .entry))))
-        (now («out_rows» .entry)) (now («out_rows» .exit)) (now («out_positions» .entry)) (now («out_positions» .exit)) (now («out_normals» .entry)) (now («out_normals» .exit))
-        (now («out_indices» .entry)) (now («out_indices» .exit)) (16 * length (now (indices .entry)) + 16 * m + 4 * v) (now (w .entry)) (now (w .exit)) r ⌝ }
-{
-    let n = indices.len();
-    let f = prepare(rows, positions, indices, w, v, m, sag);
-    let t = count_splits(rows, positions, indices, w, f);
-    let vertices = v + t.placed;
-    let total = n + 3 * t.placed;
-    let failing = result_failing(
-        vertices,
-        total,
-        m,
-        out_rows,
-        out_positions,
-        out_normals,
-        out_indices,
-    );
-    if failing == 0 {
-        put_body(
-            rows,
-            positions,
-            normals,
-            indices,
-            w,
-            f,
-            t.placed,
-            out_rows,
-            out_positions,
-            out_normals,
-            out_indices,
-        );
-        return Stitched::Done(Sizes {
-            vertices: vertices as u32,
-            indices: total as u32,
-            splits: t.found,
-        });
-    }
-    Stitched::Refused(failing)
-}
-
-// A body of v vertices and m rows is copied if it passes the checks of the result.
-fn stitch_nothing(
-    rows: &[u32],
-    positions: &[f32],
-    normals: &[f32],
-    indices: &[u32],
-    out_rows: &mut [u32],
-    out_positions: &mut [f32],
-    out_normals: &mut [f32],
-    out_indices: &mut [u32],
-    w: &[u64],
-    v: usize,
-    m: usize,
-) -> Stitched
-    requires { ⌜ StitchReady (now rows) (now positions) (now normals) (now indices) (now w) v m ⌝ }
-    ensures { λ r. ⌜ BodyStitched (record { patches = patchesOf (rowsOf (now (rows .entry))) (now (positions .entry)) (now (normals .entry)) (now (indices .entry)); splits = 0 })
-        (now («out_rows» .entry)) (now («out_rows» .exit)) (now («out_positions» .entry)) (now («out_positions» .exit)) (now («out_normals» .entry)) (now («out_normals» .exit))
-        (now («out_indices» .entry)) (now («out_indices» .exit)) (16 * length (now (indices .entry)) + 16 * m + 4 * v) (now (w .entry)) (now (w .entry)) r ⌝ }
-{
-    let n = indices.len();
-    let refused = result_failing(v, n, m, out_rows, out_positions, out_normals, out_indices);
-    if refused == 0 {
-        copy_body(
-            rows,
-            positions,
-            normals,
-            indices,
-            out_rows,
-            out_positions,
-            out_normals,
-            out_indices,
-        );
-        return Stitched::Done(Sizes {
-            vertices: v as u32,
-            indices: n as u32,
-            splits: 0,
-        });
-    }
-    Stitched::Refused(refused)
-}
+ghost use Rattle.checks.specs.Accepted.{Passed};
+ghost use Rattle.stitch.specs.Stitch.{stitchBody, stitchOf, stitchAccepted};
+ghost use Rattle.results.specs.Stitched.{slicesOf, leftStitch, stitchAnswered, StitchReady, BodyStitched};
 
 // A body of v vertices and m rows is stitched; a sag not above 0 splits nothing.
 fn stitch_rows(
@@ -234,7 +121,7 @@ pub fn stitch(
         ≡ stitchAnswered (stitchOf key (now (rows .entry)) (now (positions .entry)) (now (normals .entry)) (now (indices .entry)) sag
         (slicesOf (now («out_rows» .entry)) (now («out_positions» .entry)) (now («out_normals» .entry)) (now («out_indices» .entry)) (now (work .entry)))) ⌝ }
 {
-    let refusal = body::first_failing(rows, positions, normals, indices, work.len());
+    let refusal = checks::first_failing(rows, positions, normals, indices, work.len());
     if refusal == 0 {
         return stitch_accepted(
             rows,

@@ -14,8 +14,12 @@ use lib.Ieee.{Float, nan, inf, fin, fits, binary32}
 use lib.Ieee.Scale as Scale
 use Rattle.floats.specs.Floats as Floats
 use Rattle.lists.specs.Lists.{any, sumOf}
-use Rattle.body.specs.Body.{Row, Patch, Check, check, rowsOf, patchesOf, allVertices, allIndices, trianglesOf, firstFailing, badRow, badIndices, tooLarge, tableChecks, patchChecks, bodyChecks, workNeeded}
-use Rattle.orient.specs.Orient.{patchAt, AfterTurn, refuseTurn, turnOf, turnBody, walksOf}
+use Rattle.body.specs.Body.{Row, Patch, Check, check, rowsOf, patchesOf, allVertices, allIndices, trianglesOf, firstFailing, workNeeded}
+use Rattle.table_checks.specs.TableChecks.{badRow, tooLarge, tableChecks}
+use Rattle.patch_checks.specs.PatchChecks.{badIndices, patchChecks}
+use Rattle.checks.specs.BodyChecks.{bodyChecks}
+use Rattle.inversion.specs.Inversion.{patchAt}
+use Rattle.orient.specs.Orient.{AfterTurn, refuseTurn, turnOf, turnBody, walksOf}
 use Rattle.points.specs.Rule.{Rule, names}
 use Rattle.join.specs.Join.{joined}
 use Rattle.volume.specs.Exact.{Whole, wholeOf, wholeAt, largest, largestOf, largestIn, trianglesIn}

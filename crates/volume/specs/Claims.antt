@@ -13,7 +13,8 @@ use Rattle.join.specs.Join.{joined}
 use Rattle.points.specs.Points.{key}
 use Rattle.body.specs.Body.{Patch, rowsOf, patchesOf}
 use Rattle.body.specs.Given.{Given, at, below, row, triangle, givenTable, givenPositions, givenIndices, K6-reversed}
-use Rattle.orient.specs.Orient.{Group, Walks, AfterTurn, walksOf}
+use Rattle.groups.specs.Groups.{Group, Walks}
+use Rattle.orient.specs.Orient.{AfterTurn, walksOf}
 use Rattle.orient.specs.Claims.{turnGiven}
 use Rattle.volume.specs.Exact.{exactRows, trianglesIn, largestIn, exactVolume, bound, volumeOf, volumeLeft, ruleHolds}
 use Rattle.volume.specs.Evaluation.{evaluation}

@@ -18,6 +18,7 @@ use Rattle.rounding.specs.Approx.{Approx, turnP, top64}
 use Rattle.rounding.specs.Tri.{Coord, Diff, sg, sz, point, times, minusD, plusD, triple, det, det64, det-approx, det-size, Fine, sixteenth, recast}
 use Rattle.body.specs.Body.{Triangle}
 use Rattle.geometry.specs.Geometry as G
+use Rattle.patch_volume.specs.Volume as Volume
 use Rattle.volume.specs.Exact.{wholeOf, isWhole, Whole, wholeAt, exactDet, largest}
 use Rattle.volume.specs.Ints.{Is, is-pos, is-neg, is-add, is-sub, is-mul}
 
@@ -173,7 +174,7 @@ whole-det ps a b c =
     triple3 i j k l n = is-mul (wholeOf 149 (getD ps i nan)) _ (s i) (is-sub _ _ (is-mul _ _ (s j) (s k)) (is-mul _ _ (s l) (s n)))
 
 module _ (M : ℕ) (fine : Fine M) (ps : List Float) {a b c : ℕ} (A : Corner M ps a) (B : Corner M ps b) (C : Corner M ps c) where
-  pub corners-near : Approx (G.det (G.pointAt ps a) (G.pointAt ps b) (G.pointAt ps c)) (16 * sixteenth * cornersD ps a b c .p) (16 * sixteenth * cornersD ps a b c .m) (359 * (M * M * M * sixteenth))
+  pub corners-near : Approx (Volume.det (G.pointAt ps a) (G.pointAt ps b) (G.pointAt ps c)) (16 * sixteenth * cornersD ps a b c .p) (16 * sixteenth * cornersD ps a b c .m) (359 * (M * M * M * sixteenth))
   corners-near = det-near M fine (A .x) (A .y) (A .z) (B .x) (B .y) (B .z) (C .x) (C .y) (C .z)
 
   pub corners-size : Size (16 * sixteenth * cornersD ps a b c .p) (16 * sixteenth * cornersD ps a b c .m) (96 * (M * M * M * sixteenth))

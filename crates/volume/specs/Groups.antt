@@ -12,7 +12,9 @@ use Rattle.body.specs.Body.{Patch}
 use Rattle.edges.specs.Edges.{usesFrom}
 use Rattle.geometry.specs.Geometry.{zero64}
 use Rattle.pairs.specs.Pairs.{pairsOf}
-use Rattle.orient.specs.Orient.{Walks, Group, patchAt, volumeFrom, inverts, addGroup, walksFrom, walksOf}
+use Rattle.groups.specs.Groups.{Walks, Group, addGroup, walksFrom}
+use Rattle.inversion.specs.Inversion.{patchAt, volumeFrom, inverts}
+use Rattle.orient.specs.Orient.{walksOf}
 use Rattle.walk.specs.Walk.{Pair, Walk, unvisited, plain, opposite, walk, inverted}
 use Rattle.volume.specs.Sign as All
 use Rattle.volume.specs.Sign.{All, Settled}

@@ -11,8 +11,11 @@ use lib.Ieee.{Float, neg}
 use Rattle.lists.specs.Lists.{sumOf}
 use Rattle.points.specs.Rule.{Rule, names}
 use Rattle.join.specs.Join.{joined}
-use Rattle.body.specs.Body.{Row, Patch, rowsOf, patchesOf, allVertices, allIndices, firstFailing, bodyChecks}
-use Rattle.orient.specs.Orient.{Walks, AfterTurn, swapped, turnedPatch, turnedBody, walksOf, turnBody, refuseTurn, turnOf}
+use Rattle.body.specs.Body.{Row, Patch, rowsOf, patchesOf, allVertices, allIndices, firstFailing}
+use Rattle.checks.specs.BodyChecks.{bodyChecks}
+use Rattle.groups.specs.Groups.{Walks}
+use Rattle.orient.specs.Orient.{AfterTurn, walksOf, turnBody, refuseTurn, turnOf}
+use Rattle.reversal.specs.Reversal.{swapped, turnedPatch, turnedBody}
 use Rattle.walk.specs.Walk.{coloured}
 use Rattle.volume.specs.Accepted.{Passed}
 

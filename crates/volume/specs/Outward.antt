@@ -14,7 +14,9 @@ use lib.Ieee.Fits.{down-pos}
 use Rattle.points.specs.Points.{sameℤ}
 use Rattle.body.specs.Body.{Patch}
 use Rattle.geometry.specs.Geometry.{zero64}
-use Rattle.orient.specs.Orient.{Group, indicesOn, inverts, turnedBody}
+use Rattle.groups.specs.Groups.{Group}
+use Rattle.inversion.specs.Inversion.{indicesOn, inverts}
+use Rattle.reversal.specs.Reversal.{turnedBody}
 use Rattle.walk.specs.Walk.{coloured, plain, unvisited}
 use Rattle.volume.specs.Exact.{wholeOf, isWhole, exactRows, exactVolume, bound, volumeOf, withinBound, exactLeft, volumeLeft, leftOutward}
 use Rattle.volume.specs.Ints.{Is, above, below, is-pos, is-neg, is-add, is-sub, is-mul, is-same, is-cast, abs-le}

@@ -12,7 +12,8 @@ use Rattle.points.specs.Rule.{Rule, names}
 use Rattle.join.specs.Join.{joined}
 use Rattle.points.specs.Points.{key}
 use Rattle.body.specs.Body.{Patch, rowsOf, patchesOf}
-use Rattle.orient.specs.Orient.{AfterTurn, Walks, walksOf, turnOf}
+use Rattle.orient.specs.Orient.{AfterTurn, walksOf, turnOf}
+use Rattle.groups.specs.Groups.{Walks}
 use Rattle.volume.specs.Exact.{ruleHolds}
 use Rattle.volume.specs.Evaluation.{evaluation}
 

@@ -12,9 +12,13 @@ use Rattle.floats.specs.Floats as Floats
 use Rattle.lists.specs.Lists.{any, all}
 use Rattle.points.specs.Rule.{Rule, names}
 use Rattle.join.specs.Join.{joined}
-use Rattle.body.specs.Body.{Row, Patch, trianglesOf, rowsOf, patchesOf, allIndices, allVertices, badIndices}
+use Rattle.body.specs.Body.{Row, Patch, trianglesOf, rowsOf, patchesOf, allIndices, allVertices}
+use Rattle.patch_checks.specs.PatchChecks.{badIndices}
 use Rattle.geometry.specs.Geometry.{zero64}
-use Rattle.orient.specs.Orient.{Group, Walks, AfterTurn, patchAt, volumeFrom, inverts, walksOf, turnedBody, turnOf}
+use Rattle.groups.specs.Groups.{Group, Walks}
+use Rattle.orient.specs.Orient.{AfterTurn, walksOf, turnOf}
+use Rattle.inversion.specs.Inversion.{patchAt, volumeFrom, inverts}
+use Rattle.reversal.specs.Reversal.{turnedBody}
 use Rattle.walk.specs.Walk.{unvisited}
 use Rattle.volume.specs.Exact.{trianglesIn, largestIn, largestOf, withinBound, leftOutward, ruleHolds, F32s}
 use Rattle.volume.specs.VolumeRule.{VolumeRule}

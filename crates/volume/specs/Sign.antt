@@ -11,8 +11,9 @@ use lib.ListN.{getD, length}
 use lib.IntN.{ℤ, pos, negsuc, negℤ, natAbs, _+ℤ_, _-ℤ_, _*ℤ_, *ℤ-comm}
 use lib.Ieee.{Float, neg}
 use Rattle.body.specs.Body.{Patch, Triangle, trianglesOf}
-use Rattle.geometry.specs.Geometry.{reversed}
-use Rattle.orient.specs.Orient.{patchAt, swapped, turnedPatch, turnedBody}
+use Rattle.patch_volume.specs.Volume.{reversed}
+use Rattle.inversion.specs.Inversion.{patchAt}
+use Rattle.reversal.specs.Reversal.{swapped, turnedPatch, turnedBody}
 use Rattle.walk.specs.Walk.{coloured, unvisited, opposite}
 use Rattle.volume.specs.Exact.{Whole, wholeAt, exactDet, exactTriangles, exactRows, exactLeft}
 use Rattle.volume.specs.Ints.{Is, above, below, is-pos, is-neg, is-add, is-sub, is-mul, is-same, is-cast}

@@ -18,8 +18,9 @@ use Rattle.rounding.specs.Sum.{Patch, Part, Total, patch-zero, patch-more, patc
 use Rattle.body.specs.Body as Body
 use Rattle.body.specs.Body.{Triangle, trianglesOf}
 use Rattle.geometry.specs.Geometry as G
-use Rattle.geometry.specs.Geometry.{sumVolumes, patchVolume, triangleVolume, reversed, zero64, six64}
-use Rattle.orient.specs.Orient.{patchAt, volumeFrom}
+use Rattle.patch_volume.specs.Volume.{sumVolumes, patchVolume, triangleVolume, reversed}
+use Rattle.geometry.specs.Geometry.{zero64, six64}
+use Rattle.inversion.specs.Inversion.{patchAt, volumeFrom}
 use Rattle.walk.specs.Walk.{coloured, unvisited}
 use Rattle.volume.specs.Exact.{wholeAt, exactDet, exactTriangles, exactRows, trianglesIn}
 use Rattle.volume.specs.Ints.{Is, is-pos, is-add}

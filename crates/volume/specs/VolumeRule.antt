@@ -19,7 +19,9 @@ use Rattle.lists.specs.Lists.{all}
 use Rattle.points.specs.Rule.{Rule, names}
 use Rattle.join.specs.Join.{joined}
 use Rattle.body.specs.Body.{Patch, rowsOf, patchesOf}
-use Rattle.orient.specs.Orient.{Group, Walks, AfterTurn, patchAt, walksOf, turnOf}
+use Rattle.groups.specs.Groups.{Group, Walks}
+use Rattle.orient.specs.Orient.{AfterTurn, walksOf, turnOf}
+use Rattle.inversion.specs.Inversion.{patchAt}
 use Rattle.volume.specs.Exact.{F32s, ruleHolds}
 
 -- In every body that turn accepts, whatever the joining rule, for every group: V lies within the bound of E, and if E is further from zero than the

@@ -11,13 +11,13 @@ use Rattle.lists.specs.Stretches.{stretch-front, stretch-kept, front-less}
 use Rattle.body.specs.Body.{Row, trianglesOf, rowsOf, tableOf, allVertices, allIndices}
 use Rattle.body.specs.Rows.{noRow, rowAt, verticesBefore, indicesBefore}
 use Rattle.body.specs.Patches.{vertices-next, indices-next, vertices-room, indices-room}
-use Rattle.rings.specs.Appended.{Appended}
+use Rattle.append.specs.Appended.{Appended, appended-none, appended-twice, appended-written}
 use Rattle.counting.specs.Views.{View, rowViews, bodyViews, keptIn, rowPositions, rowNormals, rowIndices, viewedRow, viewedRows, viewedPositions, viewedNormals, viewedIndices}
 use Rattle.counting.specs.Counting.{Stands, viewsIn}
 use Rattle.writing.specs.Writing.{RowWritable, RowWritten, viewsOf, BodyWritable, BodyWritten}
-use Rattle.writing.specs.Append.{appended-none, appended-twice, appended-written, table-more, table-long}
+use Rattle.writing.specs.Tables.{table-more, table-long}
 use Rattle.writing.specs.Lengths.{row-positions-length, row-normals-length}
-use Rattle.writing.specs.BodyLengths.{viewed-positions-length, viewed-normals-length, viewed-indices-length}
+use Rattle.writing.specs.BodyLengths.{viewed-positions-length, viewed-indices-length}
 use Rattle.counting.specs.RowLaws.{stands-kept}
 
 -- the views of the rows from row k on, whose vertices start at `base` and whose indices at i

@@ -1,5 +1,5 @@
 -- The laws that the proofs of this crate cite, by subject.
-pub mod AppendLaws
+pub mod TableLaws
 pub mod TriangleWriteLaws
 pub mod RowWriteLaws
 pub mod BodyWriteLaws

@@ -14,10 +14,10 @@ use Rattle.splits.specs.Entries.{Entry}
 use Rattle.splits.specs.Found.{triangleKept}
 use Rattle.splits.specs.Places.{OnEdges}
 use Rattle.rings.specs.Rings.{newPositions, newNormals, ringAfter, fanGo}
-use Rattle.rings.specs.Appended.{Appended}
+use Rattle.append.specs.Appended.{Appended, appended-none, appended-twice, appended-long}
 use Rattle.counting.specs.Views.{View, rowViews, keptIn, rowPositions, rowNormals, rowIndices}
 use Rattle.counting.specs.Counting.{sidesIn, viewsIn, RowReady}
-use Rattle.writing.specs.Append.{StretchReady, appended-none, appended-twice, appended-long}
+use Rattle.append.specs.Ready.{StretchReady}
 use Rattle.writing.specs.Lengths.{kept-edges, fan-length, positions-length, normals-length, row-positions-length, row-normals-length}
 use Rattle.writing.specs.Writing.{keptAt, fanAt, TriangleWritable, TriangleWritten, RowWritable, RowWritten}
 use Rattle.counting.specs.RowLaws.{Counting, triangle-ready, three, view, views-here, names-are, list-is, sides-are}

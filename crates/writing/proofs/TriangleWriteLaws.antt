@@ -9,7 +9,8 @@ use lib.Ieee.{Float}
 use Rattle.lists.specs.Stretches.{stretch-at}
 use Rattle.splits.specs.Entries.{Entry, entriesIn}
 use Rattle.rings.specs.Rings.{newPositions, newNormals}
-use Rattle.rings.specs.Appended.{Appended, VerticesReady, NormalsReady, FanReady, FanWritten}
+use Rattle.append.specs.Appended.{Appended}
+use Rattle.rings.specs.Added.{VerticesReady, NormalsReady, FanReady, FanWritten}
 use Rattle.counting.specs.Counting.{sidesIn, TriangleDone}
 use Rattle.writing.specs.KeptVertices.{AllBelow, kept-below, entry-below}
 use Rattle.writing.specs.Writing.{keptAt, fanAt, TriangleWritable, TriangleWritten}

@@ -10,7 +10,7 @@ use Rattle.body.specs.Body.{rowsOf, tableOf}
 use Rattle.splits.specs.Entries.{Entry}
 use Rattle.splits.specs.Found.{triangleKept}
 use Rattle.rings.specs.Rings.{newPositions, newNormals, ringAfter, fanGo}
-use Rattle.rings.specs.Appended.{Appended}
+use Rattle.append.specs.Appended.{Appended}
 use Rattle.counting.specs.Views.{View, bodyViews, keptIn, rowPositions, rowNormals, rowIndices, viewedRows, viewedPositions, viewedNormals, viewedIndices}
 use Rattle.counting.specs.Counting.{sidesIn, Stands, TriangleReady, viewsIn, BodyReady}
 

@@ -1,7 +1,7 @@
 // The stitched body written to the second slices.
 
-use crate::append::append_stretch;
-use crate::append::put_row;
+use crate::table::put_row;
+use append::append_stretch;
 use counting::find_splits;
 use splits::Finder;
 ghost use Rattle.writing.specs.Writing.{TriangleWritable, TriangleWritten, RowWritable, RowWritten, BodyWritable, BodyWritten};
@@ -35,9 +35,9 @@ fn write_triangle(
         (now (w .entry)) (now (w .exit)) (now («out_positions» .entry)) (now («out_positions» .exit)) (now («out_normals» .entry)) (now («out_normals» .exit))
         (now («out_indices» .entry)) (now («out_indices» .exit)) (r .vertices) (r .indices) ⌝ }
 {
-    let a = loose::corner(indices, base, f.v, k);
-    let b = loose::corner(indices, base, f.v, k + 1);
-    let c = loose::corner(indices, base, f.v, k + 2);
+    let a = gathering::corner(indices, base, f.v, k);
+    let b = gathering::corner(indices, base, f.v, k + 1);
+    let c = gathering::corner(indices, base, f.v, k + 2);
     let r = find_splits(positions, indices, w, f, n, base, k);
     let kept = r.placed;
     rings::append_positions(positions, w, f.at, f.ts, kept, out_positions, 3 * vo);

@@ -1,6 +1,6 @@
 -- `append_failure` meets its contract. An accepted row adds none, another one. Assumes nothing.
 use mathlib.Core.Path.{sym, ap, _∙_}
-use Rattle.acceptance.specs.Judged.{failureIn}
+use Rattle.verdicts.specs.Verdicts.{failureIn}
 use native.Mathlib.Omega.{arith}
 use Rattle.acceptance.proofs.FailureLaws.{failure-none, failure-one}
 use borrow.Author.Needs.{needs}

@@ -1,8 +1,7 @@
 -- `decision` meets its contract. An accepted row's decision tells its material. Assumes nothing.
 use mathlib.Core.Path.{refl, sym, ap, _∙_}
-use Rattle.acceptance.specs.Acceptance.{materialOf}
-use Rattle.acceptance.specs.Judged.{failureIn}
-use native.Mathlib.Omega.{arith}
+use Rattle.materials.specs.Materials.{materialOf}
+use Rattle.verdicts.specs.Verdicts.{failureIn}
 use Rattle.acceptance.proofs.JudgeLaws.{decision-yes, decision-no}
 use borrow.Author.Needs.{needs}
 use Rattle.acceptance.proofs.judge.decision.Statement.{statement}

@@ -1,6 +1,6 @@
 -- `assemble` meets its contract. A body that no check refuses is assembled. Assumes nothing.
 use mathlib.Core.Path.{sym, _∙_}
-use Rattle.body.specs.Accepted.{passed}
+use Rattle.checks.specs.Accepted.{passed}
 use Rattle.assemble.proofs.CallLaws.{call-done, call-refused}
 use borrow.Author.Needs.{needs}
 use Rattle.assemble.proofs.assembling.assemble.Statement.{statement}

@@ -1,6 +1,6 @@
 -- `floats::bits_of_f32` meets its contract. Assumes nothing.
 use Rattle.rounding.specs.Fields.{equals-itself}
-use Rattle.floats.proofs.Patterns.{bits-of-nan-32}
+use Rattle.floats.specs.Patterns.{bits-of-nan-32}
 use borrow.Author.Needs.{needs}
 use Rattle.floats.proofs.conversion.bits_of_f32.Statement.{statement}
 use Rattle.floats.proofs.conversion.bits_of_f32.Tie as tie

@@ -1,6 +1,6 @@
 -- `floats::bits_of_f64` meets its contract. Assumes nothing.
 use Rattle.rounding.specs.Fields.{equals-itself}
-use Rattle.floats.proofs.Patterns.{bits-of-nan-64}
+use Rattle.floats.specs.Patterns.{bits-of-nan-64}
 use borrow.Author.Needs.{needs}
 use Rattle.floats.proofs.conversion.bits_of_f64.Statement.{statement}
 use Rattle.floats.proofs.conversion.bits_of_f64.Tie as tie

@@ -1,7 +1,7 @@
 -- `floats::f64_of_bits` meets its contract. Assumes nothing.
 use Rattle.rounding.specs.Fields.{no-nan-bits}
 use lib.Ieee.{binary64}
-use Rattle.floats.proofs.Patterns.{nan-of-bits-64}
+use Rattle.floats.specs.Patterns.{nan-of-bits-64}
 use borrow.Author.Needs.{needs}
 use Rattle.floats.proofs.conversion.f64_of_bits.Statement.{statement}
 use Rattle.floats.proofs.conversion.f64_of_bits.Tie as tie

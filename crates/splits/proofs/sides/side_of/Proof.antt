@@ -1,5 +1,5 @@
 -- `side_of` meets its contract. Assumes nothing.
-use Rattle.splits.proofs.SideLaws.{side-0, side-1, side-2}
+use Rattle.splits.specs.SideLaws.{side-0, side-1, side-2}
 use Rattle.splits.proofs.sides.side_of.Statement.{statement}
 use Rattle.splits.proofs.sides.side_of.Tie as tie
 

@@ -1,5 +1,5 @@
 -- `stitch_accepted` meets its contract. Assumes nothing.
-use Rattle.stitch.proofs.StitchLaws.{ready, clearable, accepted-stitched}
+use Rattle.stitch.proofs.StitchLaws.{clearable, accepted-stitched}
 use mathlib.Core.Path.{refl}
 use borrow.Author.Needs.{needs}
 use Rattle.stitch.proofs.stitching.stitch_accepted.Statement.{statement}

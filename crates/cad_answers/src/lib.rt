@@ -1,0 +1,18 @@
+// The structs that the library's calls for C answer with, the refusal first, and the answers as these structs.
+
+mod assembling;
+mod patch;
+mod stitching;
+mod turning;
+
+pub use assembling::CadAssembled;
+pub use assembling::assembled_answer;
+pub use patch::CadJudged;
+pub use patch::CadMeasured;
+pub use patch::box_of;
+pub use patch::judged_answer;
+pub use patch::measured_answer;
+pub use stitching::CadStitched;
+pub use stitching::stitched_answer;
+pub use turning::CadTurned;
+pub use turning::turned_answer;

@@ -1,4 +1,0 @@
-pub mod Answers
-pub mod Turning
-pub mod Stitching
-pub mod Assembling

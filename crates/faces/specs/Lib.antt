@@ -1,0 +1,2 @@
+-- A face's indices.
+pub mod Faces

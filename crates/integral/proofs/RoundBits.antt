@@ -1,0 +1,210 @@
+-- The bit pattern of an f64 rounded to a whole number, by its exponent's field: a zero, a value with fractional digits, a whole value or an infinity, and a
+-- NaN. Assumes nothing.
+use mathlib.Core.Path.{_≡_, refl, sym, ap, _∙_, subst}
+use mathlib.Core.Logic.{_⊎_, inl, inr}
+use mathlib.Core.Bool.{Bool, cond}
+use Prim.Native.Nat.{ℕ, _+_, _-_, _*_, _%_, _^_, _≤_, _<_}
+use native.Mathlib.Nat.{le-trans, le-of-eq, lt-of-lt-of-le, mul-comm, mul-assoc, mul-one, mul-lt-mul-of-pos-right, mul-le-mul-right, div-mul-le-self, div-eq-of-lt, div-lt-iff-lt-mul, le-div-iff-mul-le, add-zero, eq-or-lt-of-le}
+use native.Mathlib.Omega.{arith}
+use lib.Dec.{T, lit≤, lit<}
+use lib.Pow.{pow-pos, pow-mono, pow-add, shl-lt}
+use lib.Ieee.{Float, nan, inf, fin, binary64, up, down, round, fits, ofBits, toBits}
+use lib.Ieee.Bits.{toBits-ofBits}
+use lib.Ieee.Exact.{HasValue, round-exact}
+use lib.Ieee.Fits.{down-pos, round-fits, nan-fits, inf-fits}
+use lib.Ieee.Nearest.{div-same}
+use Rattle.rounding.specs.Fields.{digits-normal, digits-lt, nan-above, no-nan-below}
+use Rattle.rounding.specs.Pattern.{exact-bits}
+use Rattle.rounding.specs.Shift.{product}
+use Rattle.integral.specs.Integral.{halfUp, roundAway, roundBits}
+use Rattle.floats.specs.Patterns.{sign, field, tail, all, value, infinite}
+
+-- ---- rounding any fraction
+halfUp-same : (a c b d : ℕ) → 0 < c → 0 < d → a * d ≡ b * c → halfUp a c ≡ halfUp b d
+halfUp-same a c b d C D e = div-same (a * 2 + c) (c * 2) (b * 2 + d) (d * 2) (omega arith) (omega arith) (omega (arith, e))
+
+pub halfUp-le : (a c : ℕ) → halfUp a c * (c * 2) ≤ a * 2 + c
+halfUp-le a c = div-mul-le-self (a * 2 + c) (c * 2)
+
+round-value : (x : Float) (s : Bool) (a c : ℕ) → 0 < c → HasValue x s a c → roundAway x ≡ round binary64 s (halfUp a c) 1
+unfolding roundAway
+round-value nan s a c C h = absurd h
+round-value (inf t) s a c C h = absurd h
+round-value (fin t m e) s a c C h =
+    ap (λ (b : Bool). round binary64 b (halfUp (m * up e) (down e)) 1) (h .0) ∙ ap (λ (n : ℕ). round binary64 s n 1) (halfUp-same (m * up e) (down e) a c (down-pos e) C (h .1))
+
+pub round-away-fits : (x : Float) → T (fits binary64 (roundAway x))
+unfolding roundAway
+round-away-fits nan = nan-fits binary64
+round-away-fits (inf s) = inf-fits binary64 s
+round-away-fits (fin s m e) = round-fits binary64 s (halfUp (m * up e) (down e)) 1
+
+infinity : (s : Bool) → roundAway (inf s) ≡ inf s
+unfolding roundAway
+infinity s = refl
+
+-- ---- M * 2 ^ x of the smallest values
+module _ (s : Bool) (M x : ℕ) (hi : M < 2 ^ 53) where
+  abbrev whole : ℕ
+  whole = halfUp (M * 2 ^ x) (2 ^ 1074)
+
+  abbrev pattern : ℕ
+  pattern = toBits binary64 (round binary64 s whole 1)
+
+  -- below a half
+  none : x < 1021 → whole ≡ 0
+  none l = div-eq-of-lt (less (M * 2 ^ x) (2 ^ 1074) (lt-of-lt-of-le (mul-lt-mul-of-pos-right (shl-lt 53 x hi) (lit< tt)) (le-trans (le-of-eq (mul-comm (2 ^ (53 + x)) 2 ∙ sym (pow-add 2 1 (53 + x)))) (pow-mono {i = 1 + (53 + x)} {j = 1074} (omega arith)))))
+    where
+      less : (a c : ℕ) → a * 2 < c → a * 2 + c < c * 2
+      less a c h = omega arith
+
+  -- sh fractional digits
+  some : (sh : ℕ) → x + sh ≡ 1074 → whole ≡ halfUp M (2 ^ sh)
+  some sh e = halfUp-same (M * 2 ^ x) (2 ^ 1074) M (2 ^ sh) (pow-pos 1074) (pow-pos sh) (mul-assoc M (2 ^ x) (2 ^ sh) ∙ ap (λ (z : ℕ). M * z) (sym (pow-add 2 x sh) ∙ ap (λ (z : ℕ). 2 ^ z) e))
+
+  -- no fractional digits
+  itself : (k : ℕ) → x ≡ 1074 + k → whole ≡ M * 2 ^ k
+  itself k e =
+      halfUp-same (M * 2 ^ x) (2 ^ 1074) (M * 2 ^ k) 1 (pow-pos 1074) (lit< tt)
+      (mul-one (M * 2 ^ x) ∙ ap (λ (z : ℕ). M * z) (ap (λ (z : ℕ). 2 ^ z) e ∙ pow-add 2 1074 k ∙ mul-comm (2 ^ 1074) (2 ^ k)) ∙ sym (mul-assoc M (2 ^ k) (2 ^ 1074))) ∙ same (M * 2 ^ k)
+    where
+      same : (n : ℕ) → halfUp n 1 ≡ n
+      same n = omega arith
+
+-- a whole number n that is q * 2 ^ k of the smallest values
+whole-bits : (s : Bool) (n g j q k : ℕ) → g < 2 ^ 53 → n ≡ g * 2 ^ j → j < 972 → n * 2 ^ 1074 ≡ q * 2 ^ k → (k ≡ 0) ⊎ (2 ^ 52 ≤ q) → q ≤ 2 ^ 53 → toBits binary64 (round binary64 s n 1) ≡ cond s (2 ^ 63) 0 + (k * 2 ^ 52 + q)
+whole-bits s n g j q k G e J v lead most =
+    exact-bits binary64 (round binary64 s n 1) s q k (units (round binary64 s n 1) n (q * 2 ^ k) v (round-exact binary64 s n 1 g (j + 1074) (lit< tt) G under is)) lead most
+  where
+    is : n * 2 ^ 1074 ≡ g * 2 ^ (j + 1074) * 1
+    is = ap (λ (z : ℕ). z * 2 ^ 1074) e ∙ mul-assoc g (2 ^ j) (2 ^ 1074) ∙ ap (λ (z : ℕ). g * z) (sym (pow-add 2 j 1074)) ∙ sym (mul-one (g * 2 ^ (j + 1074)))
+
+    under : g * 2 ^ (j + 1074) < 2 ^ 2098
+    under = lt-of-lt-of-le (shl-lt 53 (j + 1074) G) (pow-mono {i = 53 + (j + 1074)} {j = 2098} (omega arith))
+
+    units : (x : Float) (n m : ℕ) → n * 2 ^ 1074 ≡ m → HasValue x s n 1 → HasValue x s m (2 ^ 1074)
+    units nan n m e h = absurd h
+    units (inf t) n m e h = absurd h
+    units (fin t a d) n m e h = (h .0, scale (a * up d) (down d) (2 ^ 1074) (h .1) ∙ ap (λ (z : ℕ). z * down d) e)
+      where
+        scale : (a c u : ℕ) → a * 1 ≡ n * c → a * u ≡ n * u * c
+        scale a c u p = omega (arith, ap (λ (z : ℕ). z * u) p)
+
+-- ---- M with its sh lowest digits rounded, a half up
+module _ (M sh : ℕ) (lo : 2 ^ 52 ≤ M) (hi : M < 2 ^ 53) (S : 0 < sh) (few : sh ≤ 53) where
+  abbrev n : ℕ
+  n = halfUp M (2 ^ sh)
+
+  n-lt : n < 2 ^ 53
+  n-lt = div-lt-iff-lt-mul (twice-pos (2 ^ sh) (pow-pos sh)) .1 (small (2 ^ sh) (pow-mono {i = 1} {j = sh} S))
+    where
+      twice-pos : (u : ℕ) → 0 < u → 0 < u * 2
+      twice-pos u h = omega arith
+
+      small : (u : ℕ) → 2 ≤ u → M * 2 + u < 2 ^ 53 * (u * 2)
+      small u h = omega arith
+
+  pub kept-le : n * 2 ^ sh ≤ 2 ^ 53
+  kept-le = at (2 ^ sh) (2 ^ (53 - sh)) (product (53 - sh) sh 53 (omega arith)) (pow-pos sh)
+    where
+      at : (u v : ℕ) → v * u ≡ 2 ^ 53 → 0 < u → halfUp M u * u ≤ 2 ^ 53
+      at u v e U = le-trans (mul-le-mul-right u (below (halfUp M u) v (div-lt-iff-lt-mul (twice-pos u U) .1 (wide u v e U)))) (le-of-eq e)
+        where
+          twice-pos : (u : ℕ) → 0 < u → 0 < u * 2
+          twice-pos u h = omega arith
+
+          below : (a b : ℕ) → a < b + 1 → a ≤ b
+          below a b h = omega arith
+
+          wide : (u v : ℕ) → v * u ≡ 2 ^ 53 → 0 < u → M * 2 + u < (v + 1) * (u * 2)
+          wide u v e h = omega arith
+
+  kept-ge : 2 ^ 52 ≤ n * 2 ^ sh
+  kept-ge = go (eq-or-lt-of-le few)
+    where
+      twice-pos : (u : ℕ) → 0 < u → 0 < u * 2
+      twice-pos u h = omega arith
+
+      at : (u v : ℕ) → v * u ≡ 2 ^ 52 → 0 < u → 2 ^ 52 ≤ halfUp M u * u
+      at u v e U = le-trans (le-of-eq (sym e)) (mul-le-mul-right u (le-div-iff-mul-le (twice-pos u U) .1 (wide u v e)))
+        where
+          wide : (u v : ℕ) → v * u ≡ 2 ^ 52 → v * (u * 2) ≤ M * 2 + u
+          wide u v e = omega arith
+
+      one : sh ≡ 53 → 2 ^ 52 ≤ halfUp M (2 ^ 53) * 2 ^ 53
+      one e = omega arith
+
+      go : (sh ≡ 53) ⊎ (sh < 53) → 2 ^ 52 ≤ n * 2 ^ sh
+      go (inl e) = subst (λ (z : ℕ). 2 ^ 52 ≤ halfUp M (2 ^ z) * 2 ^ z) (sym e) (one e)
+      go (inr l) = at (2 ^ sh) (2 ^ (52 - sh)) (product (52 - sh) sh 52 (omega arith)) (pow-pos sh)
+
+-- ---- by the bits of the f64
+module _ (b : ℕ) where
+  by-value : field b < 2047 → roundBits b ≡ toBits binary64 (round binary64 (sign b) (halfUp (all b * 2 ^ (field b - 1)) (2 ^ 1074)) 1)
+  by-value h = ap (toBits binary64) (round-value (ofBits binary64 b) (sign b) (all b * 2 ^ (field b - 1)) (2 ^ 1074) (pow-pos 1074) (value b h))
+
+  all-lt : all b < 2 ^ 53
+  all-lt = digits-lt binary64 (field b) (tail b) (omega arith)
+
+  all-is : 0 < field b → all b ≡ 2 ^ 52 + tail b
+  all-is h = digits-normal binary64 (field b) (tail b) h
+
+  pub round-zero : field b < 1022 → roundBits b ≡ cond (sign b) (2 ^ 63) 0
+  round-zero h =
+      by-value (omega arith) ∙ ap (λ (n : ℕ). toBits binary64 (round binary64 (sign b) n 1)) (none (sign b) (all b) (field b - 1) all-lt (omega arith))
+      ∙ whole-bits (sign b) 0 0 0 0 0 (lit< tt) refl (lit< tt) refl (inl refl) (lit≤ tt)
+      ∙ add-zero (cond (sign b) (2 ^ 63) 0)
+
+  pub round-fraction : 1022 ≤ field b → field b < 1075 → roundBits b ≡ cond (sign b) (2 ^ 63) 0 + ((field b - 1) * 2 ^ 52 + halfUp (2 ^ 52 + tail b) (2 ^ (1075 - field b)) * 2 ^ (1075 - field b))
+  round-fraction h g =
+      let M = 2 ^ 52 + tail b in
+      let sh = 1075 - field b in
+      by-value (omega arith)
+      ∙ ap (λ (n : ℕ). toBits binary64 (round binary64 (sign b) n 1)) (some (sign b) (all b) (field b - 1) all-lt sh (omega arith) ∙ ap (λ (z : ℕ). halfUp z (2 ^ sh)) (all-is (omega arith)))
+      ∙ whole-bits (sign b) (halfUp M (2 ^ sh)) (halfUp M (2 ^ sh)) 0 (halfUp M (2 ^ sh) * 2 ^ sh) (field b - 1)
+      (n-lt M sh (omega arith) (omega arith) (omega arith) (omega arith)) (sym (mul-one (halfUp M (2 ^ sh)))) (lit< tt)
+      (ap (λ (z : ℕ). halfUp M (2 ^ sh) * 2 ^ z) (whole-is (field b) (omega arith) (omega arith)) ∙ ap (λ (z : ℕ). halfUp M (2 ^ sh) * z) (pow-add 2 sh (field b - 1)) ∙ sym (mul-assoc (halfUp M (2 ^ sh)) (2 ^ sh) (2 ^ (field b - 1))))
+      (inr (kept-ge M sh (omega arith) (omega arith) (omega arith) (omega arith)))
+      (kept-le M sh (omega arith) (omega arith) (omega arith) (omega arith))
+    where
+      whole-is : (e : ℕ) → 1022 ≤ e → e < 1075 → 1074 ≡ 1075 - e + (e - 1)
+      whole-is e l k = omega arith
+
+  pub round-whole : 1075 ≤ field b → b < 2 ^ 64 → b % 2 ^ 63 ≤ 2047 * 2 ^ 52 → roundBits b ≡ b
+  round-whole h l g = go (eq-or-lt-of-le (top-le g))
+    where
+      top-le : b % 2 ^ 63 ≤ 2047 * 2 ^ 52 → field b ≤ 2047
+      top-le l = omega arith
+
+      bare : field b ≡ 2047 → tail b ≡ 0
+      bare e = omega arith
+
+      again : toBits binary64 (ofBits binary64 b) ≡ b
+      again = toBits-ofBits binary64 b l (no-nan-below binary64 b g)
+
+      go : (field b ≡ 2047) ⊎ (field b < 2047) → roundBits b ≡ b
+      go (inl e) = ap (λ (x : Float). toBits binary64 (roundAway x)) (infinite b e (bare e)) ∙ ap (toBits binary64) (infinity (sign b) ∙ sym (infinite b e (bare e))) ∙ again
+      go (inr k) =
+          let j = field b - 1075 in
+          by-value k
+          ∙ ap (λ (n : ℕ). toBits binary64 (round binary64 (sign b) n 1)) (itself (sign b) (all b) (field b - 1) all-lt j (omega arith))
+          ∙ whole-bits (sign b) (all b * 2 ^ j) (all b) j (all b) (field b - 1) all-lt refl (omega arith)
+          (mul-assoc (all b) (2 ^ j) (2 ^ 1074) ∙ ap (λ (z : ℕ). all b * z) (sym (pow-add 2 j 1074) ∙ ap (λ (z : ℕ). 2 ^ z) (whole-is (field b) (omega arith))))
+          (inr (lead (all-is (omega arith)))) (most all-lt)
+          ∙ sym (exact-bits binary64 (ofBits binary64 b) (sign b) (all b) (field b - 1) (value b k) (inr (lead (all-is (omega arith)))) (most all-lt))
+          ∙ again
+        where
+          whole-is : (e : ℕ) → 1075 ≤ e → e - 1075 + 1074 ≡ e - 1
+          whole-is e l = omega arith
+
+          lead : all b ≡ 2 ^ 52 + tail b → 2 ^ 52 ≤ all b
+          lead e = omega arith
+
+          most : all b < 2 ^ 53 → all b ≤ 2 ^ 53
+          most l = omega arith
+
+  pub round-nan : 2047 * 2 ^ 52 < b % 2 ^ 63 → roundBits b ≡ 0x7ff8_0000_0000_0000
+  round-nan h = ap (λ (x : Float). toBits binary64 (roundAway x)) (nan-above binary64 b h) ∙ pattern-is
+    where
+      pattern-is : toBits binary64 (roundAway nan) ≡ 0x7ff8_0000_0000_0000
+      pattern-is = unfold toBits roundAway in refl

@@ -1,0 +1,29 @@
+-- `floats::round_f64` meets its contract. Assumes nothing.
+use mathlib.Core.Path.{sym, ap, _∙_, subst}
+use lib.Dec.{T}
+use lib.Ieee.{binary64}
+use Rattle.floats.specs.Floats.{f64}
+use Rattle.integral.specs.Integral.{roundAway, roundBits}
+use Rattle.floats.specs.Patterns.{through}
+use Rattle.integral.proofs.RoundBits.{round-away-fits}
+use borrow.Author.Needs.{needs}
+use Rattle.integral.proofs.integral.round_f64.Statement.{statement}
+use Rattle.integral.proofs.integral.round_f64.Tie as tie
+
+bits-of-f64-requires : tie.Need-bits-of-f64-requires
+bits-of-f64-requires c κs = search needs
+
+round-requires : tie.Need-round-requires
+round-requires c κs = search needs
+
+f64-of-bits-requires : tie.Need-f64-of-bits-requires
+f64-of-bits-requires c κs = search needs
+
+returns : tie.Need-returns
+returns c = let x = c .before .before .before .args .x in
+    c .f64-of-bits .ensures ∙ ap f64 (c .before .round .ensures ∙ ap roundBits (c .before .before .bits-of-f64 .ensures))
+    ∙ through binary64 binary64 roundAway x (subst T (sym (c .before .before .before .good .0 .1)) tt) (λ y f. round-away-fits y)
+
+pub round-f64-spec : {M : Type 1} → statement M
+round-f64-spec =
+    tie.close (tie.spec bits-of-f64-requires round-requires f64-of-bits-requires returns)

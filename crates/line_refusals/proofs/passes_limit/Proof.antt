@@ -1,0 +1,102 @@
+-- `passes_limit` meets its contract. Assumes nothing.
+use Rattle.line_refusals.proofs.OrderLaws.{limit-box, limit-default, limit-face, limit-fail, limit-material, limit-nodefault, limit-sag, limit-triangle, limit-vertex}
+use borrow.Author.Needs.{needs}
+use Rattle.line_refusals.proofs.passes_limit.Statement.{statement}
+use Rattle.line_refusals.proofs.passes_limit.Tie as tie
+
+enum-told : tie.Need-enum-told
+enum-told c = search needs
+
+enum-told-2 : tie.Need-enum-told-2
+enum-told-2 c = search needs
+
+enum-told-3 : tie.Need-enum-told-3
+enum-told-3 c = search needs
+
+enum-told-4 : tie.Need-enum-told-4
+enum-told-4 c = search needs
+
+enum-told-5 : tie.Need-enum-told-5
+enum-told-5 c = search needs
+
+shared-slice-read-result : tie.Need-shared-slice-read-result
+shared-slice-read-result c = search needs
+
+enum-told-6 : tie.Need-enum-told-6
+enum-told-6 c = search needs
+
+shared-slice-read-row-passes : tie.Need-shared-slice-read-row-passes
+shared-slice-read-row-passes c = search needs
+
+row-passes-requires : tie.Need-row-passes-requires
+row-passes-requires c κs = search needs
+
+enum-told-7 : tie.Need-enum-told-7
+enum-told-7 c = search needs
+
+enum-told-8 : tie.Need-enum-told-8
+enum-told-8 c = search needs
+
+enum-told-9 : tie.Need-enum-told-9
+enum-told-9 c = search needs
+
+shared-slice-read-row-passes-2 : tie.Need-shared-slice-read-row-passes-2
+shared-slice-read-row-passes-2 c = search needs
+
+row-passes-requires-2 : tie.Need-row-passes-requires-2
+row-passes-requires-2 c κs = search needs
+
+returns : tie.Need-returns
+returns c = search (needs, limit-box)
+
+returns-2 : tie.Need-returns-2
+returns-2 c = search (needs, limit-sag)
+
+returns-3 : tie.Need-returns-3
+returns-3 c = search (needs, limit-nodefault)
+
+returns-4 : tie.Need-returns-4
+returns-4 c = search (needs, limit-default)
+
+returns-5 : tie.Need-returns-5
+returns-5 c = search (needs, limit-material)
+
+returns-6 : tie.Need-returns-6
+returns-6 c = search (needs, limit-face)
+
+returns-7 : tie.Need-returns-7
+returns-7 c = search (needs, limit-vertex)
+
+returns-8 : tie.Need-returns-8
+returns-8 c = search (needs, limit-triangle)
+
+returns-9 : tie.Need-returns-9
+returns-9 c = search (needs, limit-fail)
+
+pub passes-limit-spec : {M : Type 1} → statement M
+passes-limit-spec =
+    tie.close
+    (tie.spec
+    enum-told
+    enum-told-2
+    enum-told-3
+    enum-told-4
+    enum-told-5
+    shared-slice-read-result
+    enum-told-6
+    shared-slice-read-row-passes
+    row-passes-requires
+    enum-told-7
+    enum-told-8
+    enum-told-9
+    shared-slice-read-row-passes-2
+    row-passes-requires-2
+    returns
+    returns-2
+    returns-3
+    returns-4
+    returns-5
+    returns-6
+    returns-7
+    returns-8
+    returns-9)

@@ -1,7 +1,0 @@
--- The laws that the proofs of this crate cite, by subject.
-pub mod ListLaws
-pub mod InsertLaws
-pub mod GatherLaws
-pub mod FlagLaws
-pub mod OpenStages
-pub mod OpenLaws

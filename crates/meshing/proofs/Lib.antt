@@ -1,0 +1,5 @@
+-- The laws that the proofs of this crate cite, by subject.
+pub mod SizeLaws
+pub mod BelowLaws
+pub mod TableLaws
+pub mod MeshLaws

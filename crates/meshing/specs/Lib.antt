@@ -1,0 +1,2 @@
+-- What writing the mesh asks and leaves.
+pub mod Written

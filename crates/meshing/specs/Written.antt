@@ -1,0 +1,98 @@
+-- What writing the mesh asks and leaves. Assumes nothing.
+use mathlib.Core.Path.{_≡_}
+use mathlib.Core.List.{List, [], flatMap}
+use mathlib.Core.Option.{none}
+use Prim.Native.Nat.{ℕ, _+_, _*_, _≤_, _<_}
+use lib.ListN.{length, getD, take, drop}
+use lib.Ieee.{Float}
+use Rattle.lists.specs.Lists.{sumOf, written}
+use Rattle.points.specs.Points.{bits}
+use Rattle.body.specs.Body.{rowsOf}
+use Rattle.checks.specs.Accepted.{Passed}
+use Rattle.body.specs.Patches.{noPatch}
+use Rattle.geometry.specs.declared.Aabb.{Aabb}
+use Rattle.acceptance.specs.declared.totals.Totals.{Totals}
+use Rattle.verdicts.specs.Failures.{failureOf}
+use Rattle.acceptance.specs.Acceptance.{failureNumbers}
+use Rattle.acceptance.specs.Judged.{acceptedRows, decisionsIn, failedOf, bare}
+use Rattle.acceptance.specs.Totals.{Totalled}
+use Rattle.mesh.specs.Mesh.{materialsOf, runsOf, partOf, rangesFrom}
+use Rattle.mesh.specs.JudgedRows.{judgedIn, numbersBy}
+use Rattle.mesh.specs.Parts.{laidIn}
+use Rattle.counts.specs.declared.tally.EdgeCounts.{EdgeCounts}
+use Rattle.counts.specs.Counts.{Counts, countsOf, closedBy}
+use Rattle.counts.specs.Tally.{countsIn}
+use Rattle.counts.specs.Mesh.{MeshReady}
+use Rattle.meshing.specs.declared.written.MeshCounts.{MeshCounts}
+use Rattle.meshing.specs.declared.written.Tables.{Tables}
+
+-- the decisions on the m rows of an accepted body, at the front of the work area W
+pub record Decided (table : List ℕ) (ps ns : List Float) (is : List ℕ) (box : Aabb) (W : List ℕ) (m : ℕ) : Type 0 where
+  pub passed : Passed table ps ns is (length W)
+  pub rows-are : m ≡ length (rowsOf table)
+  pub small : (k : ℕ) → k < length (rowsOf table) → getD W (0 + k) 0 ≤ 4294967296
+  pub others : (k : ℕ) → k < length (rowsOf table) → (getD W (0 + k) 0 ≡ 0 → ⊥) → failureOf box (getD (bare table ps is) k noPatch) ≡ none
+
+-- what writing the runs, parts, ranges and failures asks: decisions, and room
+pub record TablesReady (table : List ℕ) (ps : List Float) (is : List ℕ) (box : Aabb) (W : List ℕ) (m : ℕ) (I parts ranges failures : List ℕ) : Type 0 where
+  pub ns : List Float
+  pub decided : Decided table ps ns is box W m
+  pub indices-room : sumOf (λ l. length (l .indices)) (laidIn table W 0 is) ≤ length I
+  pub parts-room : 3 * m ≤ length parts
+  pub ranges-room : 3 * m ≤ length ranges
+  pub failures-room : 4 * m ≤ length failures
+
+-- what it leaves: each at the front of its slice, how many there are, and the work area behind the words kept as it was
+pub record TablesWritten (table : List ℕ) (ps : List Float) (is : List ℕ) (box : Aabb) (W E : List ℕ) (m : ℕ) (I I' parts parts' ranges ranges' failures failures' : List ℕ) (r : Tables) : Type 0 where
+  pub indices-are : I' ≡ written (runsOf (laidIn table W 0 is)) I
+  pub parts-are : parts' ≡ written (flatMap (partOf (laidIn table W 0 is)) (materialsOf (laidIn table W 0 is))) parts
+  pub ranges-are : ranges' ≡ written (rangesFrom (laidIn table W 0 is) [] (laidIn table W 0 is)) ranges
+  pub failures-are : failures' ≡ written (flatMap failureNumbers (flatMap (failedOf box) (bare table ps is))) failures
+  pub parts-count : r .parts ≡ length (materialsOf (laidIn table W 0 is))
+  pub ranges-count : r .ranges ≡ length (acceptedRows (decisionsIn table W 0) (rowsOf table))
+  pub failures-count : r .failures ≡ length (flatMap (failedOf box) (bare table ps is))
+  pub rest : drop (2 * m) E ≡ drop (2 * m) W
+  pub long : length E ≡ length W
+
+-- what counting the mesh at the front of the slices asks
+pub record CountReady (P : List Float) (I W : List ℕ) (vertices indices : ℕ) : Type 0 where
+  pub positions-in : 3 * vertices ≤ length P
+  pub indices-in : indices ≤ length I
+  pub mesh : MeshReady (take (3 * vertices) P) (take indices I) vertices W
+
+-- what it leaves
+pub record Counted (P : List Float) (I W E : List ℕ) (vertices indices : ℕ) (r : EdgeCounts) : Type 0 where
+  pub counts : countsIn r ≡ countsOf bits (take (3 * vertices) P) (take indices I)
+  pub rest : drop (4 * vertices + 4 * indices) E ≡ drop (4 * vertices + 4 * indices) W
+
+-- what writing the mesh asks: decisions, the totals of the accepted rows, and room
+pub record WriteReady (table : List ℕ) (ps ns : List Float) (is : List ℕ) (box : Aabb) (W : List ℕ) (m : ℕ) (t : Totals) (P N : List Float) (I parts ranges failures : List ℕ) : Type 0 where
+  pub decided : Decided table ps ns is box W m
+  pub totals : Totalled table W 0 t
+  pub positions-room : 3 * t .vertices ≤ length P
+  pub normals-room : 3 * t .vertices ≤ length N
+  pub indices-room : t .indices ≤ length I
+  pub parts-room : 3 * m ≤ length parts
+  pub ranges-room : 3 * m ≤ length ranges
+  pub failures-room : 4 * m ≤ length failures
+
+-- the counts in the answer
+abbrev pub countsOfMesh : MeshCounts → Counts
+countsOfMesh r = record { edges = r .edges; openEdges = r .opens; overEdges = r .overs }
+
+-- what it leaves: the mesh, its tables and failures at the front of their slices, and their counts
+pub record MeshWritten (table : List ℕ) (ps ns : List Float) (is : List ℕ) (box : Aabb) (W E : List ℕ) (m : ℕ) (t : Totals) (P P' N N' : List Float) (I I' parts parts' ranges ranges' failures failures' : List ℕ) (r : MeshCounts) : Type 0 where
+  pub positions-are : P' ≡ written (numbersBy (judgedIn table W 0) ps) P
+  pub normals-are : N' ≡ written (numbersBy (judgedIn table W 0) ns) N
+  pub indices-are : I' ≡ written (runsOf (laidIn table W 0 is)) I
+  pub parts-are : parts' ≡ written (flatMap (partOf (laidIn table W 0 is)) (materialsOf (laidIn table W 0 is))) parts
+  pub ranges-are : ranges' ≡ written (rangesFrom (laidIn table W 0 is) [] (laidIn table W 0 is)) ranges
+  pub failures-are : failures' ≡ written (flatMap failureNumbers (flatMap (failedOf box) (bare table ps is))) failures
+  pub vertices-count : r .vertices ≡ t .vertices
+  pub indices-count : r .indices ≡ t .indices
+  pub parts-count : r .parts ≡ length (materialsOf (laidIn table W 0 is))
+  pub ranges-count : r .ranges ≡ length (acceptedRows (decisionsIn table W 0) (rowsOf table))
+  pub failures-count : r .failures ≡ length (flatMap (failedOf box) (bare table ps is))
+  pub counts-are : countsOfMesh r ≡ countsOf bits (numbersBy (judgedIn table W 0) ps) (runsOf (laidIn table W 0 is))
+  pub closed-is : r .closed ≡ closedBy (countsOf bits (numbersBy (judgedIn table W 0) ps) (runsOf (laidIn table W 0 is)))
+  pub rest : drop (16 * length is + 16 * m + 4 * t .vertices) E ≡ drop (16 * length is + 16 * m + 4 * t .vertices) W

@@ -1,0 +1,7 @@
+// Checks 21 to 23: the patches' index counts, indices, positions and normals.
+
+mod patch;
+
+pub use patch::any_at_least;
+pub use patch::any_number_not_finite;
+pub use patch::patch_failing;

@@ -1,0 +1,10 @@
+-- A claim that says `unfolding evaluation` has every definition of this crate and of those below it computed. Assumes nothing.
+use Prim.Native.Nat.{ℕ}
+use Rattle.body.specs.Evaluation as Body
+use Rattle.geometry.specs.Evaluation as Geometry
+use Rattle.patch_volume.specs.Volume.{sumVolumes, patchVolume}
+
+-- every definition that computes
+unfoldable pub evaluation : ℕ
+unfolding Body.evaluation Geometry.evaluation sumVolumes patchVolume
+evaluation = 0

@@ -1,0 +1,2 @@
+pub mod ReverseLaws
+pub mod ReverseRows

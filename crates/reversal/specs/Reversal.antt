@@ -1,0 +1,26 @@
+-- Coloured rows reversed: corners swapped and normals negated. Assumes nothing.
+use mathlib.Core.Bool.{cond}
+use mathlib.Core.List.{List, [], _∷_, map}
+use Prim.Native.Nat.{ℕ}
+use lib.Dec.{eqb}
+use lib.Ieee.{neg}
+use Rattle.body.specs.Body.{Patch}
+use Rattle.walk.specs.Walk.{coloured}
+
+-- corners 1 and 2 of each triangle swapped
+unfoldable pub swapped : List ℕ → List ℕ
+swapped [] = []
+swapped (a ∷ []) = a ∷ []
+swapped (a ∷ b ∷ []) = a ∷ b ∷ []
+swapped (a ∷ b ∷ c ∷ is) = a ∷ c ∷ b ∷ swapped is
+
+-- A coloured row has corners 1 and 2 of each triangle swapped and its normals negated, those of unused vertices too.
+unfoldable pub turnedPatch : ℕ → Patch → Patch
+turnedPatch c p =
+    cond (eqb c coloured) (record { row = p .row; positions = p .positions; normals = map neg (p .normals); indices = swapped (p .indices) }) p
+
+-- each patch by its row's colour
+unfoldable pub turnedBody : List ℕ → List Patch → List Patch
+turnedBody [] ps = ps
+turnedBody (c ∷ cs) [] = []
+turnedBody (c ∷ cs) (p ∷ ps) = turnedPatch c p ∷ turnedBody cs ps

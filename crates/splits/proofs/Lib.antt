@@ -1,8 +1,0 @@
--- The laws that the proofs of this crate cite, by subject.
-pub mod EntryLaws
-pub mod PutLaws
-pub mod DropLaws
-pub mod FindingLaws
-pub mod PlacingLaws
-pub mod SideLaws
-mod TriangleLaws

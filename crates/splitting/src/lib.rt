@@ -1,0 +1,8 @@
+// The points that split a triangle: found by edge among the loose vertices, placed and kept.
+
+mod finding;
+mod placing;
+mod triangle;
+
+pub use triangle::Tally;
+pub use triangle::split_triangle;

@@ -1,0 +1,77 @@
+-- The stitched body: new vertices, the fan of each triangle, and its splits. Assumes nothing.
+use mathlib.Core.Bool.{cond}
+use mathlib.Core.List.{List, [], _∷_, _++_, map, flatMap}
+use Prim.Native.Nat.{ℕ, _+_}
+use lib.ListN.{length}
+use lib.Dec.{eqb}
+use lib.Ieee.{Float}
+use Rattle.lists.specs.Lists.{sumOf}
+use Rattle.body.specs.Body.{Patch}
+use Rattle.geometry.specs.declared.Vec3.{Vec3}
+use Rattle.geometry.specs.Geometry.{pointAt}
+use Rattle.projection.specs.Projection.{mixed}
+use Rattle.loose.specs.Loose.{Facet, facetsIn, looseIn}
+use Rattle.splits.specs.Splits.{Placed, SplitTriangle, splitTriangle}
+use Rattle.rings.specs.Rings.{fan}
+
+-- the normal of a new vertex
+unfoldable pub newNormal : List Float → Placed → List Float
+newNormal ns p = mixed (pointAt ns (p .side .start .index)) (pointAt ns (p .side .end .index)) (p .t)
+
+-- a point's coordinates
+unfoldable pub coordinates : Vec3 → List Float
+coordinates p = p .x ∷ p .y ∷ p .z ∷ []
+
+-- the numbers of the vertices that edge e keeps, the first of all being `next`
+unfoldable pub numbersOn : ℕ → ℕ → List Placed → List ℕ
+numbersOn e next [] = []
+numbersOn e next (p ∷ ps) = let rest = numbersOn e (next + 1) ps in cond (eqb (p .e) e) (next ∷ rest) rest
+
+-- the ring of a triangle: each corner, and the new vertices of the edge from it
+unfoldable pub ring : Facet → List Placed → ℕ → List ℕ
+ring f kept next =
+    (f .c₀ .index ∷ numbersOn 0 next kept) ++ (f .c₁ .index ∷ numbersOn 1 next kept) ++ (f .c₂ .index ∷ numbersOn 2 next kept)
+
+-- the indices of the triangles of a patch, the first new vertex being `next`
+unfoldable pub fanned : ℕ → List SplitTriangle → List ℕ
+fanned next [] = []
+fanned next (c ∷ cs) = fan (ring (c .facet) (c .kept) next) ++ fanned (next + length (c .kept)) cs
+
+-- New vertices follow the patch's own, edge by edge.
+unfoldable pub stitchedPatch : Patch → List SplitTriangle → Patch
+stitchedPatch p cs =
+    let indices = fanned (p .row .vertices) cs in
+    record {
+      row = record {
+        shell = p .row .shell;
+        face = p .row .face;
+        outcome = p .row .outcome;
+        vertices = p .row .vertices + sumOf (λ c. length (c .kept)) cs;
+        indices = length indices;
+      };
+      positions = p .positions ++ flatMap (λ c. flatMap (λ k. coordinates (k .point)) (c .kept)) cs;
+      normals = p .normals ++ flatMap (λ c. flatMap (newNormal (p .normals)) (c .kept)) cs;
+      indices = indices;
+    }
+
+-- each patch with its triangles' splits
+unfoldable pub stitchedPatches : List Patch → List (List SplitTriangle) → List Patch
+stitchedPatches [] css = []
+stitchedPatches (p ∷ ps) [] = p ∷ ps
+stitchedPatches (p ∷ ps) (cs ∷ css) = stitchedPatch p cs ∷ stitchedPatches ps css
+
+-- a stitched body, and its splits
+pub record StitchedBody : Type 0 where
+  pub patches : List Patch
+  pub splits : ℕ
+
+-- Each such point adds 1 to the splits.
+unfoldable pub stitchedBodyOf : List Patch → List (List SplitTriangle) → StitchedBody
+stitchedBodyOf patches css = record { patches = stitchedPatches patches css; splits = sumOf (λ cs. sumOf (λ c. c .found) cs) css }
+
+-- the body with every triangle's splits
+unfoldable pub stitchedBody : Float → List ℕ → List Patch → StitchedBody
+stitchedBody sag ns patches =
+    let fss = facetsIn ns patches in
+    let ls = looseIn fss in
+    stitchedBodyOf patches (map (λ fs. map (splitTriangle sag ls) fs) fss)

@@ -1,0 +1,5 @@
+// How many uses each edge has.
+
+mod counts;
+
+pub use counts::count_uses;
