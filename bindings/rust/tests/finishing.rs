@@ -1,6 +1,6 @@
 //! Bodies finished through the wrapper: owned, lent, one after another, and from several threads.
 
-use body_finisher::{Aabb, Body, Entry, FaceId, FaceRange, Failure, Finisher, MaterialId, Mesh, Part, Setting};
+use body_finisher::{Aabb, Body, BodyRef, Entry, FaceId, FaceRange, Failure, Finisher, MaterialId, Mesh, Part, Setting};
 
 const WALLS: [[usize; 4]; 6] = [[0, 2, 3, 1], [4, 5, 7, 6], [0, 1, 5, 4], [2, 6, 7, 3], [0, 4, 6, 2], [1, 3, 7, 5]];
 
@@ -101,6 +101,20 @@ fn bodies_of_every_order_and_a_kept_mesh_give_the_same() {
         assert_eq!(mesh, wanted.mesh);
     }
     assert!(kept.work_words() >= split_by(30).view().work_words());
+}
+
+#[test]
+fn slices_that_are_only_read_may_overlap() {
+    let (body, mut finisher) = (split_by(20), Finisher::new());
+    let copied = Body { normals: body.positions.clone(), ..body.clone() };
+    let shared = BodyRef { normals: &body.positions, ..body.view() };
+    let (mut one, mut other) = (Body::default(), Body::default());
+    assert_eq!(finisher.stitch(shared, 0.25, &mut one), finisher.stitch(copied.view(), 0.25, &mut other));
+    assert_eq!(one, other);
+    let setting = Setting::default();
+    let (mut one, mut other) = (Mesh::default(), Mesh::default());
+    assert_eq!(finisher.assemble(shared, &setting, &mut one), finisher.assemble(copied.view(), &setting, &mut other));
+    assert_eq!(one, other);
 }
 
 #[test]
