@@ -7,10 +7,11 @@ use std::fmt::Debug;
 /// Words before and behind a lent slice.
 const FENCE: usize = 5;
 
-/// Where a planted fault changes a slice: its first element, or the nearest word that isn't lent.
+/// Where a planted fault changes a slice: its first or last element, or the nearest word before or behind it that isn't lent.
 #[derive(Debug, Clone, Copy, PartialEq)]
 pub enum Place {
     Front,
+    Back,
     Before,
     Behind,
 }
@@ -148,8 +149,9 @@ impl<T: Word> Spoil for Fenced<'_, T> {
     fn spoil(&mut self, place: Place) {
         let end = self.fence + self.former.len();
         let k = match place {
-            Place::Front if self.former.is_empty() => return,
+            Place::Front | Place::Back if self.former.is_empty() => return,
             Place::Front => self.fence,
+            Place::Back => end - 1,
             Place::Before => self.fence.wrapping_sub(1),
             Place::Behind => end,
         };

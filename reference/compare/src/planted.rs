@@ -1,5 +1,5 @@
 //! Faults planted behind the library's calls, to see that the comparison finds them: an answer's field raised by one, or a bit changed
-//! in a slice, before it or behind it.
+//! in a slice's first or last element, before it or behind it.
 
 use crate::fences::{Place, Spoil};
 use crate::work::Work;
@@ -43,7 +43,7 @@ pub fn plant(fault: Option<Plant>) {
 
 /// Every fault there is.
 pub fn all() -> Vec<Plant> {
-    let places = [Place::Front, Place::Before, Place::Behind];
+    let places = [Place::Front, Place::Back, Place::Before, Place::Behind];
     let mut faults = Vec::new();
     for (call, fields, slices, work) in CALLS {
         let of_slices = (0..slices).flat_map(|k| places.map(|place| What::Slice(k, place)));

@@ -35,15 +35,17 @@ impl Work {
         Some(format!("word {at} of the work area, the first {cleared} to be 0: {:016X}, not {:016X}", want(k), self.all[k]))
     }
 
-    /// A word changed, if there is one: the first that is lent, or the nearest that isn't.
+    /// A word changed, if there is one: the first or last that is lent, or the nearest before or behind them that isn't.
     pub fn spoil(&mut self, place: Place) {
+        let end = self.all.len() - self.fence;
         let k = match place {
+            Place::Front | Place::Back if end == self.fence => return,
             Place::Front => self.fence,
+            Place::Back => end - 1,
             Place::Before => self.fence.wrapping_sub(1),
-            Place::Behind => self.all.len() - self.fence,
+            Place::Behind => end,
         };
-        let inside = place != Place::Front || self.all.len() > 2 * self.fence;
-        if let Some(word) = self.all.get_mut(k).filter(|_| inside) {
+        if let Some(word) = self.all.get_mut(k) {
             *word ^= 1 << 40;
         }
     }
