@@ -24,7 +24,9 @@
  *     A null pointer with a length above 0, or a length that is too large, is an access to memory that isn't yours.
  *   - An empty slice may have any pointer, a null pointer too: it isn't followed.
  *   - A slice that a call may write (a pointer without const) overlaps no other slice of that call. Slices that are only read may overlap.
- *   - A float may have any bits; positions and normals that aren't finite are refused with 23. flip is true or false.
+ *   - flip is true or false.
+ *   - The processor's floating-point state is the usual one: rounding to nearest, and subnormal numbers not flushed to zero. fesetround
+ *     changes the first, and some compilers change the second when a program is linked with -ffast-math.
  *
  * A BODY
  *
@@ -42,8 +44,8 @@
  * THE WORK AREA
  *
  * The three calls want CAD_WORK_WORDS(V, I, F) 64-bit words of work area, counted for the body handed to that call. It may hold
- * anything. Keep one for all bodies, of CAD_MOST_WORK_WORDS or as large as the largest of them needs: its used words come back zero,
- * and a new one costs more time than a small body takes.
+ * anything. Keep one for all bodies, of CAD_MOST_WORK_WORDS or as large as the largest of them needs: to make it anew for a large body
+ * costs about as much time as turning it.
  *
  * REFUSALS
  *

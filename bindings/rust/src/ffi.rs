@@ -2,7 +2,8 @@
 //!
 //! What the library takes for granted and cannot test is that a pointer with its length is a slice, aligned for its type, and that no
 //! slice that a call may write overlaps another. References give both: `&[T]` and `&mut [T]` are aligned, as long as they say, and
-//! a `&mut` overlaps nothing else that is lent. Each call ends before the references do, and the library keeps no pointer.
+//! a `&mut` overlaps nothing else that is lent. Each call ends before the references do, and the library keeps no pointer. It also takes
+//! the processor's usual floating-point state for granted, as Rust does everywhere.
 
 use crate::answers::{Assembled, Stitched, Turned};
 use crate::body::{BodyMut, BodyOut, BodyRef, Point};

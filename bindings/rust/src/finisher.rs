@@ -31,8 +31,8 @@ pub struct Finished {
     pub mesh: Mesh,
 }
 
-/// Turns, stitches and assembles bodies. It keeps a work area, as large as the largest body so far needed, since a new one costs more
-/// time than a small body takes. The calls on one finisher don't depend on one another.
+/// Turns, stitches and assembles bodies. It keeps a work area, as large as the largest body so far needed: to make it anew for a large
+/// body costs about as much time as turning it. The calls on one finisher don't depend on one another.
 ///
 /// ```
 /// use body_finisher::{Body, FaceId, Finisher, Setting};
