@@ -156,6 +156,11 @@ typedef struct CadJudged {
     uint32_t verdict; /* 1 for yes, 0 for no */
 } CadJudged;
 
+/* The library's layout of all these; a compiler that was told to pack structures, or isn't one for x86-64, stops here. */
+typedef char cad_layout_is_the_library_s[sizeof(float) == 4 && sizeof(double) == 8 && sizeof(size_t) == 8 && sizeof(bool) == 1 &&
+                                         sizeof(CadTurned) == 16 && sizeof(CadStitched) == 24 && sizeof(CadAssembled) == 56 &&
+                                         sizeof(CadMeasured) == 16 && sizeof(CadJudged) == 8 ? 1 : -1];
+
 /*
  * Turns the rows of a body so that neighbours of one shell agree on which side is outside; a group of neighbours whose volume comes
  * out below 0 is inverted. A turned row has corners 1 and 2 of each triangle swapped and its normals negated, where they stand.
