@@ -1,7 +1,7 @@
 //! Assembling: the end of the unchanged Rust's `tessellate_solid` with its three counts, without its other diagnostics, on its patches,
 //! and the library's assemble from its slices into others.
 
-use crate::race::{Times, race, timed};
+use bench::race::{Times, race, timed};
 use cad_ir::brep::Solid;
 use compare::library::{self, Assembled, Mesh, Setting};
 use driver::finish::{box_of, face_materials, faces_of};
@@ -11,7 +11,7 @@ use driver::tail::{Tail, tail};
 use std::time::Duration;
 
 /// Output slices with room for a body whose rows are all accepted.
-fn room(body: &Flat) -> Mesh {
+pub fn mesh_room(body: &Flat) -> Mesh {
     let rows = body.rows.len() / ROW;
     Mesh {
         positions: vec![0.0; body.positions.len()],
@@ -24,7 +24,7 @@ fn room(body: &Flat) -> Mesh {
 }
 
 /// The library's answer, as the Rust's results say it should be.
-fn answer_of(done: &Tail) -> Assembled {
+pub fn answer_of(done: &Tail) -> Assembled {
     Assembled {
         refusal: 0,
         vertices: done.mesh.positions.len() as u32,
@@ -52,7 +52,7 @@ fn both(sheet: &Sheet, rounds: usize, kept: bool) -> Times {
     let (solid, materials) = (Solid::new(Vec::new(), reference), face_materials(sheet));
     let entries = materials.iter().map(|m| m.map_or(0, |m| m.0 as u64 + 1)).collect();
     let setting = Setting { reference, materials: entries, default: 0 };
-    let (mut mesh, mut work) = (room(&body), vec![0; body.words()]);
+    let (mut mesh, mut work) = (mesh_room(&body), vec![0; body.words()]);
     let (mut wanted, mut answer) = (None, None);
     let rust = || -> Duration {
         let copy = faces.clone();
@@ -63,7 +63,7 @@ fn both(sheet: &Sheet, rounds: usize, kept: bool) -> Times {
     let ours = || -> Duration {
         let (time, made) = timed(|| match kept {
             true => library::assemble(&body, &setting, &mut mesh, &mut work),
-            false => library::assemble(&body, &setting, &mut room(&body), &mut vec![0; body.words()]),
+            false => library::assemble(&body, &setting, &mut mesh_room(&body), &mut vec![0; body.words()]),
         });
         answer = Some(made);
         time

@@ -48,3 +48,20 @@ pub fn with_open_edges() -> Vec<Body> {
     }
     all
 }
+
+/// A yard: sixty bodies of 300 triangles, each with other rows wound inward; a third of them stand four kilometres away and a third lack
+/// every fifth row.
+pub fn yard() -> Vec<Sheet> {
+    (0..60).map(|k| torus(&mut Random::new(k), 300, EVERY, k % 3 == 2, k % 3 == 1)).collect()
+}
+
+/// Closed bodies of rising size, with rounds.
+pub fn rising() -> Vec<Body> {
+    let sizes = [(300, 501), (1_000, 301), (3_000, 101), (10_000, 51), (30_000, 31), (100_000, 15), (160_000, 9)];
+    sizes.into_iter().map(|(triangles, rounds)| torus_body("closed", triangles, rounds, false, false)).collect()
+}
+
+/// Bodies of 40,000 triangles with ever more open edges.
+pub fn rising_open_edges() -> Vec<(usize, Body)> {
+    [125, 250, 500, 1_000].into_iter().map(|count| (4 * count, holes("open", 40_000, 7, count, false))).collect()
+}

@@ -1,18 +1,19 @@
 //! Times the library's stages beside the unchanged Rust's, in one process, on the same bodies, in turn.
 
 mod assemble;
-mod bodies;
-mod race;
+mod growth;
 mod stitch;
 mod turn;
+mod whole;
 
-use bodies::{Body, closed_and_open, with_open_edges};
+use bench::bodies::{Body, closed_and_open, with_open_edges, yard};
+use bench::race::Times;
+use bench::shown::{grouped, time};
 use driver::command::fail;
 use driver::sheet::Sheet;
-use race::Times;
 
 const USAGE: &str = "usage: bench [STAGE]   a table of each stage, or of one: turn, turn-new-work, stitch, stitch-new-slices,
-       assemble, assemble-new-slices, assemble-materials, assemble-materials-new-slices";
+       assemble, assemble-new-slices, assemble-materials, assemble-materials-new-slices, whole, whole-new-slices, yard, growth, growth-open";
 
 /// A stage's name, the bodies it is timed on, and how both sides are timed on a body, so many rounds.
 type Stage = (&'static str, fn() -> Vec<Body>, fn(&Sheet, usize) -> Times);
@@ -26,23 +27,20 @@ const STAGES: &[Stage] = &[
     ("assemble-new-slices", closed_and_open, assemble::times_with_new_slices),
     ("assemble-materials", closed_and_open, assemble::times_with_materials),
     ("assemble-materials-new-slices", closed_and_open, assemble::times_with_materials_and_new_slices),
+    ("whole", with_open_edges, whole::times),
+    ("whole-new-slices", with_open_edges, whole::times_with_new_slices),
 ];
 
-/// A number with a comma before every three digits.
-fn grouped(n: usize) -> String {
-    if n < 1000 { n.to_string() } else { format!("{},{:03}", grouped(n / 1000), n % 1000) }
-}
+/// Tables of another form.
+const OTHERS: &[(&str, fn())] = &[("yard", table_of_yard), ("growth", growth::table), ("growth-open", growth::table_of_open_edges)];
 
-/// Microseconds: whole ones from a hundred on.
-fn shown(time: f64) -> String {
-    if time < 100.0 { format!("{time:.1}") } else { grouped(time.round() as usize) }
-}
+const YARD_ROUNDS: usize = 101;
 
 fn row(stage: &Stage, body: Body) {
     let sheet = (body.make)();
     let Times { rust, ours } = stage.2(&sheet, body.rounds);
     let (triangles, rows) = (grouped(sheet.indices() / 3), grouped(sheet.rows.len()));
-    println!("| {triangles} | {rows} | {} | {} | {} | {:.2} |", body.name, shown(rust), shown(ours), ours / rust);
+    println!("| {triangles} | {rows} | {} | {} | {} | {:.2} |", body.name, time(rust), time(ours), ours / rust);
 }
 
 /// Free a large block, after which the allocator keeps freed pages: otherwise the Rust's maps cost more in the first rows than later.
@@ -55,15 +53,30 @@ fn table(stage: &Stage) {
     stage.1().into_iter().for_each(|body| row(stage, body));
 }
 
+/// Many small bodies one after another.
+fn table_of_yard() {
+    let sheets = yard();
+    let triangles: usize = sheets.iter().map(|sheet| sheet.indices() / 3).sum();
+    println!("\nyard:\n\n| bodies | triangles | slices | Rust, µs | ours, µs | ratio |\n|---|---|---|---|---|---|");
+    for (name, kept) in [("kept", true), ("made anew for each body", false)] {
+        let Times { rust, ours } = whole::times_of_all(&sheets, YARD_ROUNDS, kept);
+        println!("| {} | {} | {name} | {} | {} | {:.2} |", sheets.len(), grouped(triangles), time(rust), time(ours), ours / rust);
+    }
+}
+
 fn main() {
     let words: Vec<String> = std::env::args().skip(1).collect();
     settle_allocator();
     match words.iter().map(String::as_str).collect::<Vec<_>>()[..] {
-        [] => STAGES.iter().for_each(table),
+        [] => {
+            STAGES.iter().for_each(table);
+            OTHERS.iter().for_each(|(_, print)| print());
+        }
         ["--help"] => println!("{USAGE}"),
-        [name] => match STAGES.iter().find(|stage| stage.0 == name) {
-            Some(stage) => table(stage),
-            None => fail(&format!("bench: no stage {name}; see --help")),
+        [name] => match (STAGES.iter().find(|stage| stage.0 == name), OTHERS.iter().find(|other| other.0 == name)) {
+            (Some(stage), _) => table(stage),
+            (_, Some(other)) => other.1(),
+            _ => fail(&format!("bench: no stage {name}; see --help")),
         },
         _ => fail(USAGE),
     }

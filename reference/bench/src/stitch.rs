@@ -1,6 +1,6 @@
 //! Stitching: the unchanged Rust's `stitch_t_junctions` on its patches, and the library's stitch from its slices into others.
 
-use crate::race::{Times, race, timed};
+use bench::race::{Times, race, timed};
 use cad_tess::face::probe;
 use compare::library;
 use driver::finish::faces_of;
@@ -9,7 +9,7 @@ use driver::sheet::Sheet;
 use std::time::Duration;
 
 /// Output slices with room for the body and so many new vertices.
-fn room(body: &Flat, more: usize) -> Flat {
+pub fn stitched_room(body: &Flat, more: usize) -> Flat {
     let (rows, indices) = (vec![0; body.rows.len()], vec![0; body.indices.len() + 3 * more]);
     let coordinates = vec![0.0; body.positions.len() + 3 * more];
     Flat { rows, positions: coordinates.clone(), normals: coordinates, indices }
@@ -21,7 +21,7 @@ fn both(sheet: &Sheet, rounds: usize, kept: bool) -> Times {
     let (faces, body, sag) = (faces_of(sheet), Flat::of(sheet), f64::from_bits(sheet.sag));
     let mut copy = faces.clone();
     let splits = probe::stitch_t_junctions(&mut copy, sag);
-    let (mut out, mut work) = (room(&body, splits), vec![0; body.words()]);
+    let (mut out, mut work) = (stitched_room(&body, splits), vec![0; body.words()]);
     let rust = || -> Duration {
         let mut copy = faces.clone();
         let (time, found) = timed(|| probe::stitch_t_junctions(&mut copy, sag));
@@ -31,7 +31,7 @@ fn both(sheet: &Sheet, rounds: usize, kept: bool) -> Times {
     let ours = || -> Duration {
         let (time, answer) = timed(|| {
             if !kept {
-                (out, work) = (room(&body, splits), vec![0; body.words()]);
+                (out, work) = (stitched_room(&body, splits), vec![0; body.words()]);
             }
             library::stitch(&body, sag, &mut out, &mut work)
         });

@@ -1,6 +1,6 @@
 //! Turning: the unchanged Rust's `orient_shell` on its patches, and the library's turn on its slices.
 
-use crate::race::{Times, race, timed};
+use bench::race::{Times, race, timed};
 use cad_tess::face::probe;
 use compare::library::{self, Turned};
 use driver::finish::faces_of;

@@ -6,9 +6,10 @@ mod settings;
 mod slices;
 mod tally;
 
+use crate::lent;
 use crate::work::Work;
 use cases::{Case, as_given, finished, outputs};
-use compare::library::{self, Assembled, Mesh, Setting};
+use compare::library::{Assembled, Mesh, Setting};
 use driver::condition::open_triangles;
 use driver::flat::{Flat, ROW};
 use driver::random::Random;
@@ -17,7 +18,9 @@ use refusals::{is_small, refusals};
 use settings::varied;
 use slices::{unlike, written};
 
+pub use cases::{answer_of, mesh_of, mesh_room};
 pub use refusals::refused;
+pub use slices::{unlike as mesh_unlike, written as laid_over};
 pub use tally::Tally;
 
 /// Triangles with an open edge, at most, of a body that is stitched with its own sag: the time goes with their square.
@@ -26,8 +29,11 @@ const MOST_OPEN: usize = 1000;
 /// What is wrong with a call: its answer, the outputs it leaves, or the work area of which it should clear some words.
 fn wrong(body: &Flat, setting: &Setting, outputs: &Mesh, mut work: Work, want: Assembled, left: &Mesh, cleared: usize) -> Option<String> {
     let mut out = outputs.clone();
-    let got = library::assemble(body, setting, &mut out, &mut work.words);
-    let what = if got != want { Some(format!("{want:?}, not {got:?}")) } else { unlike(left, &out).or_else(|| work.wrong(cleared)) };
+    let what = match lent::assemble(body, setting, &mut out, &mut work) {
+        Err(what) => Some(what),
+        Ok(got) if got != want => Some(format!("{want:?}, not {got:?}")),
+        Ok(_) => unlike(left, &out).or_else(|| work.wrong(cleared)),
+    };
     what.map(|what| format!("assemble: {what}; {}", shown(body, setting)))
 }
 

@@ -49,7 +49,7 @@ pub struct Assembled {
     pub closed: u32,
 }
 
-mod raw {
+pub mod raw {
     use super::{Assembled, Judged, Measured, Stitched, Turned};
 
     #[rustfmt::skip]
@@ -105,25 +105,6 @@ pub struct Lone {
     pub positions: Vec<f32>,
     pub normals: Vec<f32>,
     pub indices: Vec<u32>,
-}
-
-impl Lone {
-    pub fn volume(&self, flip: bool) -> Measured {
-        let (p, n, i) = (&self.positions, &self.normals, &self.indices);
-        unsafe { raw::cad_patch_volume(p.as_ptr(), p.len(), n.as_ptr(), n.len(), i.as_ptr(), i.len(), flip) }
-    }
-
-    pub fn farthest(&self, b: &Aabb) -> Measured {
-        let (p, n, i) = (&self.positions, &self.normals, &self.indices);
-        let (a, c) = (b.min, b.max);
-        unsafe { raw::cad_farthest(p.as_ptr(), p.len(), n.as_ptr(), n.len(), i.as_ptr(), i.len(), a.x, a.y, a.z, c.x, c.y, c.z) }
-    }
-
-    pub fn escapes(&self, b: &Aabb) -> Judged {
-        let (p, n, i) = (&self.positions, &self.normals, &self.indices);
-        let (a, c) = (b.min, b.max);
-        unsafe { raw::cad_escapes_body(p.as_ptr(), p.len(), n.as_ptr(), n.len(), i.as_ptr(), i.len(), a.x, a.y, a.z, c.x, c.y, c.z) }
-    }
 }
 
 /// A body turned where it stands.

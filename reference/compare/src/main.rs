@@ -3,7 +3,10 @@
 
 mod assembling;
 mod faults;
+mod fences;
+mod lent;
 mod patches;
+mod planted;
 mod refusals;
 mod smallest;
 mod source_bodies;
@@ -11,6 +14,7 @@ mod steps;
 mod stitching;
 mod tally;
 mod turning;
+mod whole;
 mod work;
 mod worst;
 
@@ -20,16 +24,25 @@ use driver::generate::{KINDS, Kind, LARGE, SEAMS, body_of, kind};
 use driver::print;
 use driver::random::Random;
 use driver::sheet::{BENCH, Sheet, parse};
+use planted::{Plant, plant};
 use smallest::smallest;
+use std::ops::RangeInclusive;
+use stitching::Held;
 use tally::{Compared, Tally};
 
 const USAGE: &str = "usage: compare FIRST LAST [SIZE]
+       compare --small FIRST LAST [SIZE]
        compare --large FIRST LAST [TRIANGLES]
        compare --worst POINTS
+       compare --planted FIRST LAST
+       compare --without-fences ...
 The bodies of every kind with the seeds FIRST to LAST, small ones and some of a size that goes with the seed, or only those of SIZE
 pieces on each shape, 4096 at most. In the end, one body of every large kind with 100000 triangles and one at every limit.
+With --small none of the large bodies and none of those made by hand.
 With --large only bodies of the large kinds, with TRIANGLES triangles, 262144 at most; 100000 if left out.
-With --worst the bodies that ask the most of stitching, one with POINTS loose points on one edge, and the time that this one takes.";
+With --worst the bodies that ask the most of stitching, one with POINTS loose points on one edge, and the time that this one takes.
+With --planted faults are planted behind the library's calls, and the seeds FIRST to LAST must find each of them.
+With --without-fences before any of these each lent slice is a block of memory of its own, for a tool that watches memory.";
 
 /// Pieces on each shape, one of these for each seed besides the small body.
 const SIZES: [usize; 9] = [1, 2, 3, 5, 8, 13, 21, 34, 60];
@@ -53,9 +66,10 @@ struct Made<'a> {
 /// What was compared of a body, or where it differs. The random numbers are those of the seed, so that it can be asked again.
 fn compared(sheet: &Sheet, seed: u64) -> Result<Compared, String> {
     let r = &mut Random::new(seed);
-    turning::differs(sheet, r).map_or(Ok(()), Err)?;
+    turning::differs(sheet, r)?;
     let stitched = stitching::compared(sheet, r)?;
-    patches::differ(sheet, r).map_or(Ok(()), Err)?;
+    whole::compared(sheet, &stitched, seed)?;
+    patches::differ(sheet, r)?;
     let refusals = refusals::refusals(sheet, r)?;
     let assembled = assembling::compared(sheet, seed)?;
     Ok(Compared { stitched, assembled, refusals })
@@ -112,9 +126,8 @@ fn compare_worst(points: usize, tally: &mut Tally) {
     }
 }
 
-/// The bodies of a run without --large.
-fn compare_all(first: u64, last: u64, size: Option<usize>, tally: &mut Tally) {
-    compare_worst(WORST_POINTS, tally);
+/// The bodies of every kind that go with seeds.
+fn compare_seeds(first: u64, last: u64, size: Option<usize>, tally: &mut Tally) {
     for seed in first..=last {
         let sizes = size.map_or(vec![0, SIZES[(seed % SIZES.len() as u64) as usize]], |s| vec![s]);
         for size in sizes {
@@ -126,8 +139,41 @@ fn compare_all(first: u64, last: u64, size: Option<usize>, tally: &mut Tally) {
         }
         compare_steps(seed, tally);
     }
+}
+
+/// The bodies of a run without a word.
+fn compare_all(first: u64, last: u64, size: Option<usize>, tally: &mut Tally) {
+    compare_worst(WORST_POINTS, tally);
+    compare_seeds(first, last, size, tally);
     compare_kinds(LARGE, first, MANY_TRIANGLES, tally);
     compare_body(&Made { kind: named("large-full"), seed: first, size: MOST_TRIANGLES }, tally);
+}
+
+/// Whether a small body of a seed shows a planted fault.
+fn shows(fault: Plant, seeds: RangeInclusive<u64>, differs: fn(&Sheet, u64) -> bool) -> bool {
+    plant(Some(fault));
+    let mut bodies = seeds.flat_map(|seed| KINDS.iter().chain(SEAMS).filter_map(move |kind| Some((body_of(kind, seed, 0)?, seed))));
+    let found = bodies.any(|(sheet, seed)| check(&sheet).is_ok() && differs(&sheet, seed));
+    plant(None);
+    found
+}
+
+/// Plant each fault, and say how many the comparison finds, and the three calls in a row alone of those where a body is finished.
+fn find_planted(first: u64, last: u64) {
+    let all = planted::all();
+    let found = |fault: &&Plant| shows(**fault, first..=last, |sheet, seed| compared(sheet, seed).is_err());
+    let missed: Vec<&Plant> = all.iter().filter(|fault| !found(fault)).collect();
+    let chained: Vec<&Plant> = all.iter().filter(|fault| !fault.refused && ["turn", "stitch", "assemble"].contains(&fault.call)).collect();
+    let alone = |fault: &&&Plant| shows(***fault, first..=last, |sheet, seed| whole::compared(sheet, &Held::Outside, seed).is_err());
+    let in_a_row = chained.iter().filter(alone).count();
+    if !missed.is_empty() {
+        fail(&format!("compare: planted and not found: {missed:?}"));
+    }
+    println!(
+        "compare: {} planted faults, all found; {in_a_row} of the {} behind a finished call also by the three calls in a row alone",
+        all.len(),
+        chained.len()
+    );
 }
 
 /// The first and the last seed and a size that is not above a limit.
@@ -141,10 +187,18 @@ fn numbers(words: &[String], most: usize) -> (u64, u64, Option<usize>) {
 }
 
 fn main() {
-    let words: Vec<String> = std::env::args().skip(1).collect();
+    let mut words: Vec<String> = std::env::args().skip(1).collect();
+    if words.first().is_some_and(|word| word == "--without-fences") {
+        words.remove(0);
+        fences::without_fences();
+    }
     let tally = &mut Tally::default();
     match words.split_first() {
         Some((word, _)) if word == "--help" => return println!("{USAGE}"),
+        Some((word, rest)) if word == "--small" => {
+            let (first, last, size) = numbers(rest, MOST_ROWS);
+            compare_seeds(first, last, size, tally);
+        }
         Some((word, rest)) if word == "--large" => {
             let (first, last, size) = numbers(rest, MOST_TRIANGLES);
             (first..=last).for_each(|seed| compare_kinds(LARGE, seed, size.unwrap_or(MANY_TRIANGLES), tally));
@@ -157,6 +211,10 @@ fn main() {
                 "compare: {} bodies made by hand: no difference; {points} loose points on one edge: {seconds:.2} s",
                 tally.worst
             );
+        }
+        Some((word, rest)) if word == "--planted" => {
+            let (first, last, _) = numbers(rest, MOST_ROWS);
+            return find_planted(first, last);
         }
         _ => {
             let (first, last, size) = numbers(&words, MOST_ROWS);

@@ -1,5 +1,6 @@
 //! Each patch of a body alone: keys, cells, volume, reach and escape, and its refusals.
 
+use crate::lent;
 use cad_tess::face::{Patch, patch_of, probe};
 use compare::library::{self, Lone};
 use driver::check::MOST_INDICES;
@@ -19,27 +20,28 @@ fn same(a: f64, b: f64) -> bool {
     a.to_bits() == b.to_bits() || (a.is_nan() && b.is_nan())
 }
 
-/// What a row's answers should be and are, where they differ.
-fn differing(row: &Row, patch: &Patch, sheet: &Sheet) -> Option<String> {
+/// Where a row's answers aren't what they should be.
+fn differing(row: &Row, patch: &Patch, sheet: &Sheet) -> Result<(), String> {
     let reference = box_of(sheet);
     let own = lone(row);
     for p in &patch.positions {
         if library::key(*p) != source::key(p) || p.iter().any(|v| library::cell(*v) != source::cell(*v)) {
-            return Some(format!("key or cell of {p:?}"));
+            return Err(format!("key or cell of {p:?}"));
         }
     }
     for flip in [false, true] {
-        let (ours, theirs) = (own.volume(flip), probe::patch_volume(patch, flip));
+        let (ours, theirs) = (lent::volume(&own, flip)?, probe::patch_volume(patch, flip));
         if ours.refusal != 0 || !same(ours.value, theirs) {
-            return Some(format!("volume {theirs:?}, not {ours:?}"));
+            return Err(format!("volume {theirs:?}, not {ours:?}"));
         }
     }
-    let (ours, theirs) = (own.farthest(&reference), probe::farthest(patch, &reference));
+    let (ours, theirs) = (lent::farthest(&own, &reference)?, probe::farthest(patch, &reference));
     if ours.refusal != 0 || !same(ours.value, theirs) {
-        return Some(format!("reach {theirs:?}, not {ours:?}"));
+        return Err(format!("reach {theirs:?}, not {ours:?}"));
     }
-    let (ours, theirs) = (own.escapes(&reference), probe::escapes_body(patch, &reference));
-    (ours.refusal != 0 || (ours.verdict != 0) != theirs).then(|| format!("escape {theirs}, not {ours:?}"))
+    let (ours, theirs) = (lent::escapes(&own, &reference)?, probe::escapes_body(patch, &reference));
+    let same = ours.refusal == 0 && ours.verdict == theirs as u32;
+    if same { Ok(()) } else { Err(format!("escape {theirs}, not {ours:?}")) }
 }
 
 /// A patch spoiled in a way that document 01 refuses, with the number.
@@ -77,19 +79,21 @@ fn spoiled(own: &Lone, r: &mut Random) -> Option<(Lone, u32)> {
     Some((bad, number))
 }
 
-fn refusals_differ(row: &Row, sheet: &Sheet, r: &mut Random) -> Option<String> {
-    let (bad, number) = spoiled(&lone(row), r)?;
+fn refusals_differ(row: &Row, sheet: &Sheet, r: &mut Random) -> Result<(), String> {
+    let Some((bad, number)) = spoiled(&lone(row), r) else { return Ok(()) };
     let reference = box_of(sheet);
-    let (v, f, e) = (bad.volume(false), bad.farthest(&reference), bad.escapes(&reference));
+    let (v, f, e) = (lent::volume(&bad, false)?, lent::farthest(&bad, &reference)?, lent::escapes(&bad, &reference)?);
     let whole = [v.refusal, f.refusal, e.refusal] == [number; 3] && v.value.to_bits() == 0 && f.value.to_bits() == 0 && e.verdict == 0;
-    (!whole).then(|| format!("refusal {number}, not {v:?} {f:?} {e:?}"))
+    if whole { Ok(()) } else { Err(format!("refusal {number}, not {v:?} {f:?} {e:?}")) }
 }
 
 /// Where a patch of a body alone has another answer than it should, if one has.
-pub fn differ(sheet: &Sheet, r: &mut Random) -> Option<String> {
-    sheet.rows.iter().enumerate().find_map(|(i, row)| {
-        let patch = patch_of(outcome_of(row)).ok()?;
-        let at = |what: String| format!("row {i}: {what}");
-        differing(row, &patch, sheet).map(at).or_else(|| refusals_differ(row, sheet, r).map(at))
-    })
+pub fn differ(sheet: &Sheet, r: &mut Random) -> Result<(), String> {
+    for (i, row) in sheet.rows.iter().enumerate() {
+        if let Ok(patch) = patch_of(outcome_of(row)) {
+            let differs = differing(row, &patch, sheet).and_then(|()| refusals_differ(row, sheet, r));
+            differs.map_err(|what| format!("row {i}: {what}"))?;
+        }
+    }
+    Ok(())
 }

@@ -14,6 +14,7 @@ fn refused(body: &Flat, faults: &[&Fault], r: &mut Random) -> Result<bool, Strin
     let first = faults.iter().map(|f| f.number).min();
     assert_eq!(Some(number), first, "the first check that faults fail decides: {}", names(faults));
     let what = turning::refused(&before, words, number, r)
+        .err()
         .or_else(|| stitching::refused(&before, words, number, r))
         .or_else(|| assembling::refused(&before, words, number, r));
     what.map_or(Ok(true), |what| Err(format!("{}: {what}", names(faults))))

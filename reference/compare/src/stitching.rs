@@ -1,9 +1,10 @@
 //! Stitching against the unchanged Rust's, and its refusals.
 
+use crate::lent;
 use crate::source_bodies::{flat_of, unlike};
 use crate::work::Work;
 use cad_tess::face::probe;
-use compare::library::{self, Stitched};
+use compare::library::Stitched;
 use driver::check::{MOST_INDICES, MOST_VERTICES};
 use driver::condition::{Condition, condition, open_triangles};
 use driver::finish::faces_of;
@@ -33,7 +34,7 @@ pub fn case(sheet: &Sheet, sag: f64) -> Case {
 }
 
 /// Output slices of the lengths of a body, each some longer, with content that is a function of its place.
-fn outputs(body: &Flat, r: &mut Random) -> Flat {
+pub fn outputs(body: &Flat, r: &mut Random) -> Flat {
     let salt = r.next() as u32;
     let numbers = |n: usize| (0..n as u32).map(|k| k.wrapping_mul(0x9e37_79b9) ^ salt).collect::<Vec<u32>>();
     let floats = |n: usize| numbers(n).into_iter().map(f32::from_bits).collect::<Vec<f32>>();
@@ -62,11 +63,12 @@ pub fn written(body: &Flat, outputs: &Flat) -> Flat {
 /// What is wrong with a call: its answer, the outputs it leaves, or the work area of which it should clear some words.
 pub fn wrong(before: &Flat, sag: f64, outputs: &Flat, work: &mut Work, want: Stitched, left: &Flat, cleared: usize) -> Option<String> {
     let mut out = outputs.clone();
-    let got = library::stitch(before, sag, &mut out, &mut work.words);
-    if got != want {
-        return Some(format!("stitch: {want:?}, not {got:?}"));
-    }
-    unlike(left, &out).or_else(|| work.wrong(cleared)).map(|what| format!("stitch, sag {sag:?}: {what}"))
+    let what = match lent::stitch(before, sag, &mut out, work) {
+        Err(what) => Some(what),
+        Ok(got) if got != want => Some(format!("{want:?}, not {got:?}")),
+        Ok(_) => unlike(left, &out).or_else(|| work.wrong(cleared)),
+    };
+    what.map(|what| format!("stitch, sag {sag:?}: {what}"))
 }
 
 pub fn refusal(number: u32) -> Stitched {

@@ -53,11 +53,15 @@ impl Tally {
         }
     }
 
-    /// One line on a terminal, written over and over.
+    /// One line on a terminal, written over and over; elsewhere one a minute.
     pub fn show(&mut self, kind: &str, seed: u64) {
-        if self.shown.is_none_or(|t| t.elapsed() > Duration::from_millis(200)) && std::io::stderr().is_terminal() {
+        let terminal = std::io::stderr().is_terminal();
+        let pause = if terminal { Duration::from_millis(200) } else { Duration::from_secs(60) };
+        let shown = *self.shown.get_or_insert_with(Instant::now);
+        if shown.elapsed() > pause {
             self.shown = Some(Instant::now());
-            eprint!("\r\x1b[Kcompare: {} bodies, {} refusals, now {kind} of seed {seed}", self.bodies, self.refusals);
+            let (start, end) = if terminal { ("\r\x1b[K", "") } else { ("", "\n") };
+            eprint!("{start}compare: {} bodies, {} refusals, now {kind} of seed {seed}{end}", self.bodies, self.refusals);
         }
     }
 

@@ -33,7 +33,7 @@ fn failure_numbers((face, failure): &(u32, Failure)) -> [u64; 4] {
     [*face as u64, case, reach, span]
 }
 
-fn mesh_of(done: &Finished) -> Mesh {
+pub fn mesh_of(done: &Finished) -> Mesh {
     Mesh {
         positions: done.positions.as_flattened().to_vec(),
         normals: done.normals.as_flattened().to_vec(),
@@ -44,7 +44,7 @@ fn mesh_of(done: &Finished) -> Mesh {
     }
 }
 
-fn answer_of(done: &Finished) -> Assembled {
+pub fn answer_of(done: &Finished) -> Assembled {
     assert_eq!(done.ok, done.ranges.len(), "a range for each accepted row");
     Assembled {
         refusal: 0,
@@ -78,11 +78,21 @@ pub fn as_given(name: &'static str, sheet: &Sheet, r: &mut Random) -> Case {
     case(name, sheet, Flat::of(sheet), &tail::assemble(faces_of(sheet), sheet), r)
 }
 
+/// The lengths that no output may fall short of, for a mesh of a body of so many rows.
+fn room(mesh: &Mesh, rows: usize) -> Lengths {
+    let [positions, normals, indices, ..] = lengths(mesh);
+    [positions, normals, indices, 3 * rows, 3 * rows, 4 * rows]
+}
+
 /// The lengths that no output may fall short of.
 pub fn needed(case: &Case) -> Lengths {
-    let rows = case.body.rows.len() / ROW;
-    let [positions, normals, indices, ..] = lengths(&case.mesh);
-    [positions, normals, indices, 3 * rows, 3 * rows, 4 * rows]
+    room(&case.mesh, case.body.rows.len() / ROW)
+}
+
+/// Outputs for a body of so many rows as the Rust finished it, as long as they must be or each some longer.
+pub fn mesh_room(done: &Finished, rows: usize, r: &mut Random) -> Mesh {
+    let long = room(&mesh_of(done), rows).map(|length| length + r.size(0, 4));
+    filled(long, r)
 }
 
 /// Outputs as long as they must be, or each some longer.

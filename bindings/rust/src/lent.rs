@@ -1,0 +1,67 @@
+//! The calls with every slice lent, as C has them: nothing is allocated.
+//!
+//! ```
+//! use body_finisher::{lent, Body, FaceId};
+//!
+//! let mut body = Body::default();
+//! body.push_patch(0, FaceId(0), &[[0.0; 3], [1.0, 0.0, 0.0], [0.0, 1.0, 0.0]], &[[0.0, 0.0, 1.0]; 3], &[0, 1, 2]);
+//! let mut work = vec![0; body.view().work_words()];
+//! assert_eq!(lent::turn(body.view_mut(), &mut work)?.turned, 0);
+//! # Ok::<(), body_finisher::Refusal>(())
+//! ```
+
+use crate::answers::{Assembled, Stitched, Turned};
+use crate::body::{BodyMut, BodyOut, BodyRef, Point};
+use crate::ffi;
+use crate::mesh::{Aabb, MeshOut, Setting};
+use crate::refusal::Refusal;
+
+/// Turns the rows of a body so that neighbours of one shell agree on which side is outside: corners 1 and 2 of a turned row's triangles
+/// are swapped and its normals negated, where they stand. The first [`work_words`](crate::work_words) words of the work area come back
+/// zero, unless it is refused with 31 or a check before.
+pub fn turn(body: BodyMut<'_>, work: &mut [u64]) -> Result<Turned, Refusal> {
+    ffi::turn(body, work)
+}
+
+/// Stitches a body, which should be a turned one, into second slices. Points within the sag of an open edge split its triangle; a sag that
+/// isn't above 0 splits nothing. What stands behind the written part stays as it was.
+pub fn stitch(body: BodyRef<'_>, sag: f64, out: BodyOut<'_>, work: &mut [u64]) -> Result<Stitched, Refusal> {
+    ffi::stitch(body, sag, out, work)
+}
+
+/// Assembles a body, which should be a stitched one, into one mesh with its tables. What stands behind the written part stays as it was.
+pub fn assemble(body: BodyRef<'_>, setting: &Setting<'_>, out: MeshOut<'_>, work: &mut [u64]) -> Result<Assembled, Refusal> {
+    ffi::assemble(body, setting, out, work)
+}
+
+/// The volume between a patch and the origin; as if turned, where `flip` says so.
+///
+/// ```
+/// let corners = [[0.0; 3], [1.0, 0.0, 0.0], [0.0, 1.0, 0.0], [0.0, 0.0, 1.0]];
+/// let tetrahedron = [0, 2, 1, 0, 1, 3, 0, 3, 2, 1, 2, 3];
+/// let volume = body_finisher::patch_volume(&corners, &[[0.0; 3]; 4], &tetrahedron, false)?;
+/// assert_eq!(volume.to_bits(), 0x3FC5555555555555);
+/// # Ok::<(), body_finisher::Refusal>(())
+/// ```
+pub fn patch_volume(positions: &[Point], normals: &[Point], indices: &[u32], flip: bool) -> Result<f64, Refusal> {
+    ffi::patch_volume(positions, normals, indices, flip)
+}
+
+/// How far a patch's farthest vertex is from a box's centre.
+pub fn farthest(positions: &[Point], normals: &[Point], indices: &[u32], bounds: Aabb) -> Result<f64, Refusal> {
+    ffi::farthest(positions, normals, indices, bounds)
+}
+
+/// Whether a patch escapes a box: the box isn't empty, its diagonal is above 0, and the farthest vertex is farther than that.
+///
+/// ```
+/// use body_finisher::{escapes_body, Aabb};
+///
+/// let bounds = Aabb { min: [0.0; 3], max: [6.0, 8.0, 0.0] };
+/// assert!(!escapes_body(&[[13.0, 4.0, 0.0]], &[[0.0; 3]], &[], bounds)?);
+/// assert!(escapes_body(&[[13.000001, 4.0, 0.0]], &[[0.0; 3]], &[], bounds)?);
+/// # Ok::<(), body_finisher::Refusal>(())
+/// ```
+pub fn escapes_body(positions: &[Point], normals: &[Point], indices: &[u32], bounds: Aabb) -> Result<bool, Refusal> {
+    ffi::escapes_body(positions, normals, indices, bounds)
+}

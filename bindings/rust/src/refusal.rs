@@ -1,0 +1,109 @@
+//! Why a call is refused.
+
+use std::error::Error;
+use std::fmt;
+
+/// Why a call is refused: the first check that it fails, each over the whole body before the next. A refused call leaves bodies and
+/// outputs as they were.
+///
+/// ```
+/// use body_finisher::Refusal;
+///
+/// assert_eq!(Refusal::WorkArea.number(), 31);
+/// assert_eq!(Refusal::from_number(31), Some(Refusal::WorkArea));
+/// assert_eq!(Refusal::NotFinite.to_string(), "refused with 23: a position or normal isn't finite");
+/// ```
+#[derive(Debug, Clone, Copy, PartialEq, Eq, Hash)]
+pub enum Refusal {
+    /// 11: more than 4,096 rows. (In C also a table that isn't whole rows.)
+    Table,
+    /// 12: an outcome is above 255, or a failed row has a count other than 0.
+    Outcome,
+    /// 13: more than 262,144 vertices or 786,432 indices.
+    Limit,
+    /// 14: positions, normals or indices aren't as many as the rows say.
+    Lengths,
+    /// 21: a row's index count isn't a multiple of 3.
+    Triangles,
+    /// 22: an index isn't below its row's vertex count.
+    Index,
+    /// 23: a position or normal isn't finite.
+    NotFinite,
+    /// 31: the work area is too short.
+    WorkArea,
+    /// 33: the stitched body passes the limits of 13.
+    StitchedLimit,
+    /// 32: an output slice is shorter than the stitched body needs.
+    Output,
+    /// 42: a material entry or the default is above 2^32.
+    Material,
+    /// 41: a mesh slice is shorter than the accepted patches need, or a table has fewer rows than the body.
+    Mesh,
+}
+
+impl Refusal {
+    /// Every refusal, in the order in which the checks go.
+    pub const ALL: [Refusal; 12] = [
+        Refusal::Table,
+        Refusal::Outcome,
+        Refusal::Limit,
+        Refusal::Lengths,
+        Refusal::Triangles,
+        Refusal::Index,
+        Refusal::NotFinite,
+        Refusal::WorkArea,
+        Refusal::StitchedLimit,
+        Refusal::Output,
+        Refusal::Material,
+        Refusal::Mesh,
+    ];
+
+    /// The number that the C call gives.
+    pub const fn number(self) -> u32 {
+        match self {
+            Refusal::Table => 11,
+            Refusal::Outcome => 12,
+            Refusal::Limit => 13,
+            Refusal::Lengths => 14,
+            Refusal::Triangles => 21,
+            Refusal::Index => 22,
+            Refusal::NotFinite => 23,
+            Refusal::WorkArea => 31,
+            Refusal::StitchedLimit => 33,
+            Refusal::Output => 32,
+            Refusal::Material => 42,
+            Refusal::Mesh => 41,
+        }
+    }
+
+    /// The refusal with a number, if it is one.
+    pub fn from_number(number: u32) -> Option<Refusal> {
+        Refusal::ALL.into_iter().find(|refusal| refusal.number() == number)
+    }
+
+    /// What is wrong, in words.
+    pub const fn reason(self) -> &'static str {
+        match self {
+            Refusal::Table => "the row table isn't whole rows, or has more than 4,096",
+            Refusal::Outcome => "an outcome is above 255, or a failed row has a count other than 0",
+            Refusal::Limit => "there are more than 262,144 vertices or 786,432 indices",
+            Refusal::Lengths => "positions or normals aren't one a vertex, or indices aren't as many as the rows say",
+            Refusal::Triangles => "an index count isn't a multiple of 3",
+            Refusal::Index => "an index isn't below its row's vertex count",
+            Refusal::NotFinite => "a position or normal isn't finite",
+            Refusal::WorkArea => "the work area has fewer than 16 × indices + 16 × rows + 4 × vertices 64-bit words",
+            Refusal::StitchedLimit => "the stitched body has more than 262,144 vertices or 786,432 indices",
+            Refusal::Output => "an output slice is shorter than the stitched body needs",
+            Refusal::Material => "a material entry or the default is above 2^32",
+            Refusal::Mesh => "a mesh slice is shorter than the accepted patches need, or a table has fewer rows than the body",
+        }
+    }
+}
+
+impl fmt::Display for Refusal {
+    fn fmt(&self, f: &mut fmt::Formatter<'_>) -> fmt::Result {
+        write!(f, "refused with {}: {}", self.number(), self.reason())
+    }
+}
+
+impl Error for Refusal {}

@@ -1,0 +1,183 @@
+/* Every call once, and every refusal once, each with its answer. */
+#include "cad_tess.h"
+
+#include <inttypes.h>
+#include <stdio.h>
+#include <string.h>
+
+enum { ROWS = CAD_MOST_ROWS + 1, ROOM = 16, WORDS = 512 };
+
+/* A body and all that the three calls are lent with it. */
+struct lent {
+    uint32_t rows[ROWS * CAD_ROW_NUMBERS], out_rows[2 * CAD_ROW_NUMBERS];
+    float positions[3 * ROOM], normals[3 * ROOM], out_positions[3 * ROOM], out_normals[3 * ROOM];
+    uint32_t indices[3 * ROOM], out_indices[3 * ROOM], parts[2 * CAD_PART_NUMBERS], ranges[2 * CAD_RANGE_NUMBERS];
+    uint64_t failures[2 * CAD_FAILURE_NUMBERS], work[WORDS];
+    size_t rows_len, positions_len, indices_len, out_len, work_len;
+};
+
+static struct lent lent;
+
+/* Two rows: a triangle, and two triangles that meet in the middle of its first edge. */
+static void fresh(void)
+{
+    static const uint32_t rows[10] = {0, 0, 0, 3, 3, 0, 1, 0, 6, 6}, indices[9] = {0, 1, 2, 0, 1, 2, 3, 4, 5};
+    static const float positions[27] = {0, 0, 0, 10, 0, 0, 0, 10, 0, 0, 0, 0, 0, -10, 0, 5, 0, 0, 5, 0, 0, 0, -10, 0, 10, 0, 0};
+    memset(&lent, 0, sizeof lent);
+    memcpy(lent.rows, rows, sizeof rows);
+    memcpy(lent.positions, positions, sizeof positions);
+    memcpy(lent.indices, indices, sizeof indices);
+    lent.rows_len = 10;
+    lent.positions_len = 27;
+    lent.indices_len = 9;
+    lent.out_len = 3 * ROOM;
+    lent.work_len = CAD_WORK_WORDS(9, 9, 2);
+}
+
+static CadTurned turn(void)
+{
+    return cad_turn(lent.rows, lent.rows_len, lent.positions, lent.positions_len, lent.normals, lent.positions_len,
+                    lent.indices, lent.indices_len, lent.work, lent.work_len);
+}
+
+static CadStitched stitch(double sag)
+{
+    return cad_stitch(lent.rows, lent.rows_len, lent.positions, lent.positions_len, lent.normals, lent.positions_len,
+                      lent.indices, lent.indices_len, sag, lent.out_rows, 2 * CAD_ROW_NUMBERS, lent.out_positions, lent.out_len,
+                      lent.out_normals, 3 * ROOM, lent.out_indices, 3 * ROOM, lent.work, lent.work_len);
+}
+
+static CadAssembled assemble(uint64_t default_material)
+{
+    return cad_assemble(lent.rows, lent.rows_len, lent.positions, lent.positions_len, lent.normals, lent.positions_len,
+                        lent.indices, lent.indices_len, 0, 0, 0, 0, 0, 0, NULL, 0, default_material,
+                        lent.out_positions, lent.out_len, lent.out_normals, 3 * ROOM, lent.out_indices, 3 * ROOM,
+                        lent.parts, 2 * CAD_PART_NUMBERS, lent.ranges, 2 * CAD_RANGE_NUMBERS,
+                        lent.failures, 2 * CAD_FAILURE_NUMBERS, lent.work, lent.work_len);
+}
+
+/* A float's and a double's bits. */
+static uint32_t bits32(float v)
+{
+    uint32_t bits;
+    memcpy(&bits, &v, sizeof bits);
+    return bits;
+}
+
+static uint64_t bits64(double v)
+{
+    uint64_t bits;
+    memcpy(&bits, &v, sizeof bits);
+    return bits;
+}
+
+static void steps(void)
+{
+    printf("cell of 2^-7 and of 2^44: %" PRId64 " %" PRId64 "\n", cad_cell(0.0078125f), cad_cell(17592186044416.0f));
+    printf("key of (1, 2, 3): %016" PRIX64 "\n", cad_key(1.0f, 2.0f, 3.0f));
+    printf("root of 2: %016" PRIX64 "\n", cad_sqrt(bits64(2.0)));
+    printf("1 + 3 * 2^-24 narrowed: %08" PRIX32 "\n", cad_narrow(bits64(1.0 + 3.0 / 16777216.0)));
+    printf("-0.1 widened: %016" PRIX64 "\n", cad_widen(bits32(-0.1f)));
+    printf("-2.5 rounded: %016" PRIX64 "\n", cad_round(bits64(-2.5)));
+    printf("the larger of -0 and +0: %016" PRIX64 "\n", cad_larger(bits64(-0.0), bits64(0.0)));
+}
+
+/* A tetrahedron's volume both ways, and a vertex just beyond the diagonal of a box of 6 by 8. */
+static void patches(void)
+{
+    static const float corners[12] = {0, 0, 0, 1, 0, 0, 0, 1, 0, 0, 0, 1}, normals[12] = {0}, far[3] = {13.000001f, 4, 0};
+    static const uint32_t triangles[12] = {0, 2, 1, 0, 1, 3, 0, 3, 2, 1, 2, 3};
+    printf("volume: %016" PRIX64 "\n", bits64(cad_patch_volume(corners, 12, normals, 12, triangles, 12, false).value));
+    printf("reversed: %016" PRIX64 "\n", bits64(cad_patch_volume(corners, 12, normals, 12, triangles, 12, true).value));
+    printf("farthest: %016" PRIX64 "\n", bits64(cad_farthest(far, 3, normals, 3, NULL, 0, 0, 0, 0, 6, 8, 0).value));
+    printf("escapes: %" PRIu32 "\n", cad_escapes_body(far, 3, normals, 3, NULL, 0, 0, 0, 0, 6, 8, 0).verdict);
+    printf("a patch with a normal missing: refused with %" PRIu32 "\n", cad_patch_volume(corners, 12, normals, 9, triangles, 12, false).refusal);
+}
+
+static void done(void)
+{
+    fresh();
+    const CadTurned turned = turn();
+    printf("turn: %" PRIu32 ", turned %" PRIu32 ", against %" PRIu64 "\n", turned.refusal, turned.turned, turned.against);
+    const CadStitched sewn = stitch(0.25);
+    printf("stitch: %" PRIu32 ", %" PRIu32 " vertices, %" PRIu32 " indices, %" PRIu64 " splits\n", sewn.refusal, sewn.vertices, sewn.indices,
+           sewn.splits);
+    const CadAssembled mesh = assemble(CAD_MATERIAL(UINT32_MAX));
+    printf("assemble: %" PRIu32 ", %" PRIu32 " vertices, %" PRIu32 " indices, %" PRIu32 " parts, %" PRIu32 " ranges, %" PRIu32 " failures, ",
+           mesh.refusal, mesh.vertices, mesh.indices, mesh.parts, mesh.ranges, mesh.failures);
+    printf("%" PRIu64 " edges, %" PRIu64 " open, %" PRIu64 " over, closed %" PRIu32 ", material %" PRIu32 "\n", mesh.edges, mesh.opens, mesh.overs,
+           mesh.closed, lent.parts[0]);
+    const CadAssembled none = cad_assemble(NULL, 0, NULL, 0, NULL, 0, NULL, 0, 0, 0, 0, 0, 0, 0, NULL, 0, CAD_NO_MATERIAL, NULL, 0, NULL, 0,
+                                           NULL, 0, NULL, 0, NULL, 0, NULL, 0, NULL, 0);
+    printf("no rows, all pointers null: %" PRIu32 ", closed %" PRIu32 "\n", none.refusal, none.closed);
+}
+
+/* The same body with as many unused vertices as there may be, so that the new one is too many. */
+static uint32_t stitched_limit(void)
+{
+    static float positions[3 * CAD_MOST_VERTICES], normals[3 * CAD_MOST_VERTICES];
+    static uint64_t work[CAD_WORK_WORDS(CAD_MOST_VERTICES, 9, 2)];
+    memcpy(positions, lent.positions, sizeof lent.positions);
+    lent.rows[8] = CAD_MOST_VERTICES - 3;
+    return cad_stitch(lent.rows, lent.rows_len, positions, 3 * CAD_MOST_VERTICES, normals, 3 * CAD_MOST_VERTICES,
+                      lent.indices, lent.indices_len, 0.25, NULL, 0, NULL, 0, NULL, 0, NULL, 0, work, sizeof work / sizeof work[0]).refusal;
+}
+
+/* The body spoiled in the way of one refusal, and the call that gives it. */
+static uint32_t refused(enum CadRefusal refusal)
+{
+    fresh();
+    switch (refusal) {
+    case CAD_REFUSED_TABLE:
+        lent.rows_len = ROWS * CAD_ROW_NUMBERS;
+        return turn().refusal;
+    case CAD_REFUSED_OUTCOME:
+        lent.rows[2] = CAD_MOST_OUTCOME + 1;
+        return turn().refusal;
+    case CAD_REFUSED_LIMIT:
+        lent.rows[3] = CAD_MOST_VERTICES;
+        return turn().refusal;
+    case CAD_REFUSED_LENGTHS:
+        lent.positions_len -= 1;
+        return turn().refusal;
+    case CAD_REFUSED_TRIANGLES:
+        lent.rows[9] = 5;
+        lent.indices_len = 8;
+        return turn().refusal;
+    case CAD_REFUSED_INDEX:
+        lent.indices[0] = 3;
+        return turn().refusal;
+    case CAD_REFUSED_NOT_FINITE:
+        memset(lent.normals, 0xFF, sizeof lent.normals[0]);
+        return turn().refusal;
+    case CAD_REFUSED_WORK_AREA:
+        lent.work_len -= 1;
+        return turn().refusal;
+    case CAD_REFUSED_STITCHED_LIMIT:
+        return stitched_limit();
+    case CAD_REFUSED_OUTPUT:
+        lent.out_len = 29;
+        return stitch(0.25).refusal;
+    case CAD_REFUSED_MATERIAL:
+        return assemble(CAD_MATERIAL(UINT32_MAX) + 1).refusal;
+    case CAD_REFUSED_MESH:
+        lent.out_len = 26;
+        return assemble(CAD_NO_MATERIAL).refusal;
+    case CAD_DONE:
+        break;
+    }
+    return turn().refusal;
+}
+
+int main(void)
+{
+    static const enum CadRefusal all[] = {CAD_REFUSED_TABLE, CAD_REFUSED_OUTCOME, CAD_REFUSED_LIMIT, CAD_REFUSED_LENGTHS,
+                                          CAD_REFUSED_TRIANGLES, CAD_REFUSED_INDEX, CAD_REFUSED_NOT_FINITE, CAD_REFUSED_WORK_AREA,
+                                          CAD_REFUSED_STITCHED_LIMIT, CAD_REFUSED_OUTPUT, CAD_REFUSED_MATERIAL, CAD_REFUSED_MESH};
+    steps();
+    patches();
+    done();
+    for (size_t k = 0; k < sizeof all / sizeof all[0]; k++)
+        printf("refused with %" PRIu32 "\n", refused(all[k]));
+    return 0;
+}

@@ -1,0 +1,293 @@
+/*
+ * The body finisher: the face patches of one body, as a tessellator leaves them, turned to agree on which side is outside, stitched
+ * where neighbours leave cracks, and assembled into one mesh with its tables and edge counts.
+ *
+ * A body goes through three calls, in this order:
+ *
+ *     cad_turn      rewrites normals and indices where they stand
+ *     cad_stitch    writes the stitched body into second slices
+ *     cad_assemble  writes the mesh, its parts, ranges and failures
+ *
+ * The other calls ask about one patch alone, or are the float steps on which the three are built.
+ *
+ * No call allocates, keeps anything between calls, or has any state of its own: a caller lends every slice, and threads may call at
+ * once with slices of their own. What each call answers and what it leaves in each slice is proved against a definition, refusals
+ * included, for every content that the slices may have. Link with libcad_tess.a (x86-64, System V calling convention); it takes
+ * memcpy and memset from the C library and less than 4 KiB of stack.
+ *
+ * SLICES
+ *
+ * A slice is lent as a pointer and a length; the length counts elements, not bytes. What the proofs take for granted, and no call can
+ * test, is the caller's part:
+ *
+ *   - The pointer of a slice that isn't empty points to as many elements as its length says, aligned as C aligns their type.
+ *     A null pointer with a length above 0, or a length that is too large, is an access to memory that isn't yours.
+ *   - An empty slice may have any pointer, a null pointer too: it isn't followed.
+ *   - A slice that a call may write (a pointer without const) overlaps no other slice of that call. Slices that are only read may overlap.
+ *   - flip is true or false.
+ *   - The processor's floating-point state is the usual one: rounding to nearest, and subnormal numbers not flushed to zero. fesetround
+ *     changes the first, and some compilers change the second when a program is linked with -ffast-math.
+ *
+ * A BODY
+ *
+ * A body has F rows, V vertices and I indices, in four slices:
+ *
+ *     rows       5 * F numbers: for each row its shell, its face, its outcome, its vertex count and its index count. An outcome of 0
+ *                is a patch; 1 to 255 is a failure that came from upstream, and its row has no vertices and no indices.
+ *     positions  3 * V floats: x, y, z of each vertex; the rows' vertices follow one another without gaps
+ *     normals    3 * V floats, laid out likewise
+ *     indices    I numbers, three a triangle; the rows' indices follow one another, and count from 0 within their row's vertices
+ *
+ * V and I are the sums of the rows' counts. Input slices have exactly these lengths; output slices may be longer than what is
+ * written, and what stands behind it stays as it was.
+ *
+ * THE WORK AREA
+ *
+ * The three calls want CAD_WORK_WORDS(V, I, F) 64-bit words of work area, counted for the body handed to that call. It may hold
+ * anything. Keep one for all bodies, of CAD_MOST_WORK_WORDS or as large as the largest of them needs: to make it anew for a large body
+ * costs about as much time as turning it.
+ *
+ * REFUSALS
+ *
+ * Every answer begins with its refusal, 0 (CAD_DONE) for none. A refused call gives the number of the first check that fails, in the
+ * order of enum CadRefusal, and all its other fields are 0.
+ *
+ *     refusal            inputs and outputs    work area
+ *     11 to 31           unchanged             unchanged
+ *     33, 32, 42, 41     unchanged             its first CAD_WORK_WORDS(V, I, F) words are 0, the others unchanged
+ *     0                  as each call says     its first CAD_WORK_WORDS(V, I, F) words are 0, the others unchanged
+ */
+#ifndef CAD_TESS_H
+#define CAD_TESS_H
+
+#include <stdbool.h>
+#include <stddef.h>
+#include <stdint.h>
+
+#ifdef __cplusplus
+extern "C" {
+#endif
+
+/* Numbers a row, a part, a range and a failure take in their tables. */
+#define CAD_ROW_NUMBERS 5
+#define CAD_PART_NUMBERS 3
+#define CAD_RANGE_NUMBERS 3
+#define CAD_FAILURE_NUMBERS 4
+
+/* The most rows, vertices and indices of a body, and of a stitched one (checks 11, 13 and 33), and the largest outcome (12). */
+#define CAD_MOST_ROWS 4096
+#define CAD_MOST_VERTICES 262144
+#define CAD_MOST_INDICES 786432
+#define CAD_MOST_OUTCOME 255
+
+/* The work area that a body needs, in 64-bit words (check 31); its arguments are evaluated once. */
+#define CAD_WORK_WORDS(vertices, indices, rows) \
+    ((size_t)16 * (size_t)(indices) + (size_t)16 * (size_t)(rows) + (size_t)4 * (size_t)(vertices))
+
+/* A work area that is enough for every body: 13,697,024 words, 110 MB. */
+#define CAD_MOST_WORK_WORDS CAD_WORK_WORDS(CAD_MOST_VERTICES, CAD_MOST_INDICES, CAD_MOST_ROWS)
+
+/* An entry of the materials: none, or material n. The largest entry is that of material 2^32 - 1 (check 42). */
+#define CAD_NO_MATERIAL UINT64_C(0)
+#define CAD_MATERIAL(n) ((uint64_t)(uint32_t)(n) + UINT64_C(1))
+
+/* The second number of a failure: no triangles, upstream with its number (1 to 255), or an escape. */
+#define CAD_FAILURE_EMPTY UINT64_C(0)
+#define CAD_FAILURE_ESCAPE UINT64_C(256)
+
+/*
+ * Why a call is refused, in the order in which the checks go; each looks at the whole body before the next. Numbers 51 and 52 are
+ * the bench program's, for its text.
+ */
+enum CadRefusal {
+    CAD_DONE = 0,
+    CAD_REFUSED_TABLE = 11,          /* rows_len is no multiple of 5, or there are more than CAD_MOST_ROWS rows */
+    CAD_REFUSED_OUTCOME = 12,        /* an outcome is above 255, or a failed row has a count other than 0 */
+    CAD_REFUSED_LIMIT = 13,          /* more than CAD_MOST_VERTICES vertices or CAD_MOST_INDICES indices */
+    CAD_REFUSED_LENGTHS = 14,        /* positions or normals aren't 3 * V long, or indices not I */
+    CAD_REFUSED_TRIANGLES = 21,      /* a row's index count is no multiple of 3 */
+    CAD_REFUSED_INDEX = 22,          /* an index isn't below its row's vertex count */
+    CAD_REFUSED_NOT_FINITE = 23,     /* a position or normal is infinite or a NaN */
+    CAD_REFUSED_WORK_AREA = 31,      /* the work area has fewer than CAD_WORK_WORDS(V, I, F) words */
+    CAD_REFUSED_STITCHED_LIMIT = 33, /* cad_stitch: the stitched body passes the limits of 13 */
+    CAD_REFUSED_OUTPUT = 32,         /* cad_stitch: an output slice is shorter than the stitched body needs */
+    CAD_REFUSED_MATERIAL = 42,       /* cad_assemble: an entry, used or not, or the default is above 2^32 */
+    CAD_REFUSED_MESH = 41            /* cad_assemble: a mesh slice is shorter than the accepted patches need, or a table than F rows */
+};
+
+/* cad_turn's answer. */
+typedef struct CadTurned {
+    uint32_t refusal; /* enum CadRefusal */
+    uint32_t turned;  /* rows turned */
+    uint64_t against; /* how often a pair of rows that contradicts the sides chosen was met, once from each end; 0 if all agree */
+} CadTurned;
+
+/* cad_stitch's answer. */
+typedef struct CadStitched {
+    uint32_t refusal;  /* enum CadRefusal */
+    uint32_t vertices; /* vertices of the stitched body */
+    uint32_t indices;  /* its indices */
+    uint64_t splits;   /* points that split a triangle */
+} CadStitched;
+
+/* cad_assemble's answer. */
+typedef struct CadAssembled {
+    uint32_t refusal;  /* enum CadRefusal */
+    uint32_t vertices; /* vertices of the mesh */
+    uint32_t indices;  /* its indices */
+    uint32_t parts;    /* parts written, one a material */
+    uint32_t ranges;   /* ranges written, one an accepted row */
+    uint32_t failures; /* failures written, one for each other row */
+    uint64_t edges;    /* edges of the mesh; its points are the same if their bits agree, and an edge with equal ends doesn't count */
+    uint64_t opens;    /* those used by one triangle */
+    uint64_t overs;    /* those used by more than two */
+    uint32_t closed;   /* 1 if opens and overs are both 0, else 0 */
+} CadAssembled;
+
+/* The answer of a call that measures one patch. */
+typedef struct CadMeasured {
+    uint32_t refusal; /* enum CadRefusal */
+    double value;
+} CadMeasured;
+
+/* The answer of a call that judges one patch. */
+typedef struct CadJudged {
+    uint32_t refusal; /* enum CadRefusal */
+    uint32_t verdict; /* 1 for yes, 0 for no */
+} CadJudged;
+
+/* The library's layout of all these; a compiler that was told to pack structures, or isn't one for x86-64, stops here. */
+typedef char cad_layout_is_the_library_s[sizeof(float) == 4 && sizeof(double) == 8 && sizeof(size_t) == 8 && sizeof(bool) == 1 &&
+                                         sizeof(CadTurned) == 16 && sizeof(CadStitched) == 24 && sizeof(CadAssembled) == 56 &&
+                                         sizeof(CadMeasured) == 16 && sizeof(CadJudged) == 8 ? 1 : -1];
+
+/*
+ * Turns the rows of a body so that neighbours of one shell agree on which side is outside; a group of neighbours whose volume comes
+ * out below 0 is inverted. A turned row has corners 1 and 2 of each triangle swapped and its normals negated, where they stand.
+ *
+ *     rows_len 5 * F, positions_len 3 * V, normals_len 3 * V, indices_len I, work_len at least CAD_WORK_WORDS(V, I, F)
+ *
+ * Refusals: 11, 12, 13, 14, 21, 22, 23, 31.
+ */
+CadTurned cad_turn(const uint32_t *rows, size_t rows_len,
+                   const float *positions, size_t positions_len,
+                   float *normals, size_t normals_len,
+                   uint32_t *indices, size_t indices_len,
+                   uint64_t *work, size_t work_len);
+
+/*
+ * Stitches a body, which should be a turned one: where a corner of a triangle with an open edge lies within the sag of another open
+ * edge, that edge's triangle is split there. Each row keeps its place; its new vertices follow its own. A sag that isn't above 0
+ * (a NaN too) splits nothing, and the body is copied. The sag is in the unit of the positions.
+ *
+ *     rows_len 5 * F, positions_len 3 * V, normals_len 3 * V, indices_len I, work_len at least CAD_WORK_WORDS(V, I, F)
+ *     out_rows_len at least 5 * F, out_positions_len and out_normals_len at least 3 * the answer's vertices,
+ *     out_indices_len at least the answer's indices
+ *
+ * How large the stitched body is shows only when it is stitched: each new vertex comes with three new indices. Outputs of
+ * 3 * CAD_MOST_VERTICES floats and CAD_MOST_INDICES indices (9.4 MB in all) are never refused with 32; smaller ones may be, and the
+ * call can be made again with larger ones, since a refusal leaves the body as it was.
+ *
+ * Refusals: 11, 12, 13, 14, 21, 22, 23, 31, 33, 32.
+ */
+CadStitched cad_stitch(const uint32_t *rows, size_t rows_len,
+                       const float *positions, size_t positions_len,
+                       const float *normals, size_t normals_len,
+                       const uint32_t *indices, size_t indices_len,
+                       double sag,
+                       uint32_t *out_rows, size_t out_rows_len,
+                       float *out_positions, size_t out_positions_len,
+                       float *out_normals, size_t out_normals_len,
+                       uint32_t *out_indices, size_t out_indices_len,
+                       uint64_t *work, size_t work_len);
+
+/*
+ * Assembles a body, which should be a stitched one, into one mesh. A row is accepted if it has a patch with triangles that doesn't
+ * escape the box. Accepted vertices are laid in row order, indices in one run a material, materials rising.
+ *
+ *     rows_len 5 * F, positions_len 3 * V, normals_len 3 * V, indices_len I, work_len at least CAD_WORK_WORDS(V, I, F)
+ *     the box: its lowest and its highest corner; any doubles. If it is empty (a minimum above its maximum) nothing escapes
+ *     materials: entry k is that of face number k, CAD_NO_MATERIAL or CAD_MATERIAL(n); of any length. A face whose entry is none or
+ *         missing has the default, and material 0 if that is CAD_NO_MATERIAL too
+ *     mesh_positions_len and mesh_normals_len at least 3 * the accepted vertices (3 * V is enough),
+ *     mesh_indices_len at least the accepted indices (I is enough)
+ *     parts_len at least 3 * F: for each part its material, its start and its count in the mesh's indices
+ *     ranges_len at least 3 * F: for each accepted row its face, its first index in the mesh and one past its last
+ *     failures_len at least 4 * F: for each other row its face, its case (CAD_FAILURE_EMPTY, the upstream number, or
+ *         CAD_FAILURE_ESCAPE), and for an escape the bits of two doubles, how far the patch reaches from the box's centre and how
+ *         far it may, else 0 and 0
+ *
+ * Refusals: 11, 12, 13, 14, 21, 22, 23, 31, 42, 41.
+ */
+CadAssembled cad_assemble(const uint32_t *rows, size_t rows_len,
+                          const float *positions, size_t positions_len,
+                          const float *normals, size_t normals_len,
+                          const uint32_t *indices, size_t indices_len,
+                          double min_x, double min_y, double min_z,
+                          double max_x, double max_y, double max_z,
+                          const uint64_t *materials, size_t materials_len,
+                          uint64_t default_material,
+                          float *mesh_positions, size_t mesh_positions_len,
+                          float *mesh_normals, size_t mesh_normals_len,
+                          uint32_t *mesh_indices, size_t mesh_indices_len,
+                          uint32_t *parts, size_t parts_len,
+                          uint32_t *ranges, size_t ranges_len,
+                          uint64_t *failures, size_t failures_len,
+                          uint64_t *work, size_t work_len);
+
+/*
+ * One patch alone: a body of one row with positions_len / 3 vertices and indices_len indices. It needs no work area and nothing is
+ * written. Refusals: 13 (before the lengths are looked at), 14, 21, 22, 23.
+ */
+
+/* The volume between the patch and the origin, one sixth of the sum of its triangles' determinants; as if turned, where flip says so. */
+CadMeasured cad_patch_volume(const float *positions, size_t positions_len,
+                             const float *normals, size_t normals_len,
+                             const uint32_t *indices, size_t indices_len,
+                             bool flip);
+
+/* How far the patch's farthest vertex, used or not, is from the box's centre; 0 without a vertex or if the box is empty. */
+CadMeasured cad_farthest(const float *positions, size_t positions_len,
+                         const float *normals, size_t normals_len,
+                         const uint32_t *indices, size_t indices_len,
+                         double min_x, double min_y, double min_z,
+                         double max_x, double max_y, double max_z);
+
+/* Whether the patch escapes: the box isn't empty, its diagonal is above 0, and the farthest vertex is farther than that. */
+CadJudged cad_escapes_body(const float *positions, size_t positions_len,
+                           const float *normals, size_t normals_len,
+                           const uint32_t *indices, size_t indices_len,
+                           double min_x, double min_y, double min_z,
+                           double max_x, double max_y, double max_z);
+
+/*
+ * Float steps on bit patterns, of IEEE 754 binary32 (32 bits) and binary64 (64 bits); every pattern is taken. A result that is a NaN
+ * is 7FF8000000000000, narrowed 7FC00000.
+ */
+
+/* The binary64 of the same value. */
+uint64_t cad_widen(uint32_t bits);
+
+/* The nearest binary32, ties to even. */
+uint32_t cad_narrow(uint64_t bits);
+
+/* The binary64 nearest to the square root, ties to even. */
+uint64_t cad_sqrt(uint64_t bits);
+
+/* The nearest whole number, halves away from zero. */
+uint64_t cad_round(uint64_t bits);
+
+/* The larger of two: a NaN is ignored, and +0 is above -0. */
+uint64_t cad_larger(uint64_t a, uint64_t b);
+
+/* The whole number nearest to 1,000,000 * v, halves away from zero, clamped to 64 bits; 0 for a NaN. */
+int64_t cad_cell(float v);
+
+/* The key of a point, a digest of its three cells: points with one key are one point to cad_turn and cad_stitch. */
+uint64_t cad_key(float x, float y, float z);
+
+#ifdef __cplusplus
+}
+#endif
+
+#endif

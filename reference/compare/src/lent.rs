@@ -1,0 +1,115 @@
+//! The library's calls with every slice lent between fences. An error says what a call changed that it may not touch.
+
+use crate::fences::{Fenced, Spoil};
+use crate::planted;
+use crate::work::Work;
+use cad_ir::math::Aabb;
+use compare::library::{Assembled, Judged, Lone, Measured, Mesh, Setting, Stitched, Turned, raw};
+use driver::flat::Flat;
+
+/// A body turned where it stands.
+pub fn turn(body: &mut Flat, work: &mut Work) -> Result<Turned, String> {
+    let (mut rows, mut p) = (Fenced::new("rows", &body.rows), Fenced::new("positions", &body.positions));
+    let (mut n, mut i) = (Fenced::new("normals", &body.normals), Fenced::new("indices", &body.indices));
+    let (w, w_len) = (work.lent().as_mut_ptr(), work.lent().len());
+    // Sound: each pointer has as many elements behind it as the length says, in a block of its own.
+    #[rustfmt::skip]
+    let mut answer = unsafe {
+        raw::cad_turn(rows.start(), rows.len(), p.start(), p.len(), n.start(), n.len(), i.start(), i.len(), w, w_len)
+    };
+    planted::spoil("turn", &mut answer, &mut [&mut rows, &mut p, &mut n, &mut i], Some(work));
+    rows.kept()?;
+    p.kept()?;
+    (body.normals, body.indices) = (n.left()?, i.left()?);
+    Ok(answer)
+}
+
+/// A body stitched into another's slices.
+pub fn stitch(body: &Flat, sag: f64, out: &mut Flat, work: &mut Work) -> Result<Stitched, String> {
+    let (mut rows, mut p) = (Fenced::new("rows", &body.rows), Fenced::new("positions", &body.positions));
+    let (mut n, mut i) = (Fenced::new("normals", &body.normals), Fenced::new("indices", &body.indices));
+    let (mut or, mut op) = (Fenced::new("output rows", &out.rows), Fenced::new("output positions", &out.positions));
+    let (mut on, mut oi) = (Fenced::new("output normals", &out.normals), Fenced::new("output indices", &out.indices));
+    let (w, w_len) = (work.lent().as_mut_ptr(), work.lent().len());
+    // Sound: each pointer has as many elements behind it as the length says, in a block of its own.
+    #[rustfmt::skip]
+    let mut answer = unsafe {
+        raw::cad_stitch(rows.start(), rows.len(), p.start(), p.len(), n.start(), n.len(), i.start(), i.len(), sag,
+            or.start(), or.len(), op.start(), op.len(), on.start(), on.len(), oi.start(), oi.len(), w, w_len)
+    };
+    let slices: &mut [&mut dyn Spoil] = &mut [&mut rows, &mut p, &mut n, &mut i, &mut or, &mut op, &mut on, &mut oi];
+    planted::spoil("stitch", &mut answer, slices, Some(work));
+    rows.kept()?;
+    p.kept()?;
+    n.kept()?;
+    i.kept()?;
+    *out = Flat { rows: or.left()?, positions: op.left()?, normals: on.left()?, indices: oi.left()? };
+    Ok(answer)
+}
+
+/// A body laid into a mesh.
+pub fn assemble(body: &Flat, setting: &Setting, mesh: &mut Mesh, work: &mut Work) -> Result<Assembled, String> {
+    let (mut rows, mut p) = (Fenced::new("rows", &body.rows), Fenced::new("positions", &body.positions));
+    let (mut n, mut i) = (Fenced::new("normals", &body.normals), Fenced::new("indices", &body.indices));
+    let (a, c, mut m) = (setting.reference.min, setting.reference.max, Fenced::new("materials", &setting.materials));
+    let (mut mp, mut mn) = (Fenced::new("mesh positions", &mesh.positions), Fenced::new("mesh normals", &mesh.normals));
+    let (mut mi, mut parts) = (Fenced::new("mesh indices", &mesh.indices), Fenced::new("parts", &mesh.parts));
+    let (mut ranges, mut failures) = (Fenced::new("ranges", &mesh.ranges), Fenced::new("failures", &mesh.failures));
+    let (w, w_len) = (work.lent().as_mut_ptr(), work.lent().len());
+    // Sound: each pointer has as many elements behind it as the length says, in a block of its own.
+    #[rustfmt::skip]
+    let mut answer = unsafe {
+        raw::cad_assemble(rows.start(), rows.len(), p.start(), p.len(), n.start(), n.len(), i.start(), i.len(), a.x, a.y, a.z, c.x, c.y, c.z,
+            m.start(), m.len(), setting.default, mp.start(), mp.len(), mn.start(), mn.len(), mi.start(), mi.len(),
+            parts.start(), parts.len(), ranges.start(), ranges.len(), failures.start(), failures.len(), w, w_len)
+    };
+    let slices: &mut [&mut dyn Spoil] =
+        &mut [&mut rows, &mut p, &mut n, &mut i, &mut m, &mut mp, &mut mn, &mut mi, &mut parts, &mut ranges, &mut failures];
+    planted::spoil("assemble", &mut answer, slices, Some(work));
+    rows.kept()?;
+    p.kept()?;
+    n.kept()?;
+    i.kept()?;
+    m.kept()?;
+    *mesh = Mesh {
+        positions: mp.left()?,
+        normals: mn.left()?,
+        indices: mi.left()?,
+        parts: parts.left()?,
+        ranges: ranges.left()?,
+        failures: failures.left()?,
+    };
+    Ok(answer)
+}
+
+/// A patch's three slices lent to a call that only reads them.
+fn alone<A: planted::Answer>(
+    name: &str,
+    patch: &Lone,
+    call: impl Fn(*const f32, usize, *const f32, usize, *const u32, usize) -> A,
+) -> Result<A, String> {
+    let (mut p, mut n) = (Fenced::new("positions", &patch.positions), Fenced::new("normals", &patch.normals));
+    let mut i = Fenced::new("indices", &patch.indices);
+    let mut answer = call(p.start(), p.len(), n.start(), n.len(), i.start(), i.len());
+    planted::spoil(name, &mut answer, &mut [&mut p, &mut n, &mut i], None);
+    p.kept()?;
+    n.kept()?;
+    i.kept()?;
+    Ok(answer)
+}
+
+// Sound, in the three calls below: each pointer has as many elements behind it as the length says.
+
+pub fn volume(patch: &Lone, flip: bool) -> Result<Measured, String> {
+    alone("volume", patch, |p, pn, n, nn, i, ni| unsafe { raw::cad_patch_volume(p, pn, n, nn, i, ni, flip) })
+}
+
+pub fn farthest(patch: &Lone, b: &Aabb) -> Result<Measured, String> {
+    let (a, c) = (b.min, b.max);
+    alone("farthest", patch, |p, pn, n, nn, i, ni| unsafe { raw::cad_farthest(p, pn, n, nn, i, ni, a.x, a.y, a.z, c.x, c.y, c.z) })
+}
+
+pub fn escapes(patch: &Lone, b: &Aabb) -> Result<Judged, String> {
+    let (a, c) = (b.min, b.max);
+    alone("escapes", patch, |p, pn, n, nn, i, ni| unsafe { raw::cad_escapes_body(p, pn, n, nn, i, ni, a.x, a.y, a.z, c.x, c.y, c.z) })
+}

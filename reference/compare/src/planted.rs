@@ -1,0 +1,151 @@
+//! Faults planted behind the library's calls, to see that the comparison finds them: an answer's field raised by one, or a bit changed
+//! in a slice's first or last element, before it or behind it.
+
+use crate::fences::{Place, Spoil};
+use crate::work::Work;
+use compare::library::{Assembled, Judged, Measured, Stitched, Turned};
+use std::cell::Cell;
+
+/// What is changed: field k of the answer, slice k, or the work area.
+#[derive(Debug, Clone, Copy, PartialEq)]
+pub enum What {
+    Field(usize),
+    Slice(usize, Place),
+    Work(Place),
+}
+
+/// A fault behind one call, where it is done or where it is refused.
+#[derive(Debug, Clone, Copy, PartialEq)]
+pub struct Plant {
+    pub call: &'static str,
+    pub refused: bool,
+    pub what: What,
+}
+
+/// The calls, with how many fields their answers and how many slices besides the work area they have, and whether they have one.
+const CALLS: [(&str, usize, usize, bool); 6] = [
+    ("turn", 3, 4, true),
+    ("stitch", 4, 8, true),
+    ("assemble", 10, 11, true),
+    ("volume", 2, 3, false),
+    ("farthest", 2, 3, false),
+    ("escapes", 2, 3, false),
+];
+
+thread_local! {
+    static PLANTED: Cell<Option<Plant>> = const { Cell::new(None) };
+}
+
+/// Plant a fault from now on, or none.
+pub fn plant(fault: Option<Plant>) {
+    PLANTED.set(fault);
+}
+
+/// Every fault there is.
+pub fn all() -> Vec<Plant> {
+    let places = [Place::Front, Place::Back, Place::Before, Place::Behind];
+    let mut faults = Vec::new();
+    for (call, fields, slices, work) in CALLS {
+        let of_slices = (0..slices).flat_map(|k| places.map(|place| What::Slice(k, place)));
+        let of_work = places.map(What::Work).into_iter().filter(|_| work);
+        let whats: Vec<What> = (0..fields).map(What::Field).chain(of_slices).chain(of_work).collect();
+        faults.extend([false, true].iter().flat_map(|refused| whats.iter().map(|what| Plant { call, refused: *refused, what: *what })));
+    }
+    faults
+}
+
+/// An answer whose fields can be raised.
+pub trait Answer {
+    fn refusal(&self) -> u32;
+    fn raise(&mut self, field: usize);
+}
+
+impl Answer for Turned {
+    fn refusal(&self) -> u32 {
+        self.refusal
+    }
+
+    fn raise(&mut self, field: usize) {
+        match field {
+            0 => self.refusal += 1,
+            1 => self.turned += 1,
+            _ => self.against += 1,
+        }
+    }
+}
+
+impl Answer for Stitched {
+    fn refusal(&self) -> u32 {
+        self.refusal
+    }
+
+    fn raise(&mut self, field: usize) {
+        match field {
+            0 => self.refusal += 1,
+            1 => self.vertices += 1,
+            2 => self.indices += 1,
+            _ => self.splits += 1,
+        }
+    }
+}
+
+impl Answer for Assembled {
+    fn refusal(&self) -> u32 {
+        self.refusal
+    }
+
+    fn raise(&mut self, field: usize) {
+        match field {
+            0 => self.refusal += 1,
+            1 => self.vertices += 1,
+            2 => self.indices += 1,
+            3 => self.parts += 1,
+            4 => self.ranges += 1,
+            5 => self.failures += 1,
+            6 => self.edges += 1,
+            7 => self.opens += 1,
+            8 => self.overs += 1,
+            _ => self.closed += 1,
+        }
+    }
+}
+
+impl Answer for Measured {
+    fn refusal(&self) -> u32 {
+        self.refusal
+    }
+
+    fn raise(&mut self, field: usize) {
+        match field {
+            0 => self.refusal += 1,
+            _ => self.value += 1.0,
+        }
+    }
+}
+
+impl Answer for Judged {
+    fn refusal(&self) -> u32 {
+        self.refusal
+    }
+
+    fn raise(&mut self, field: usize) {
+        match field {
+            0 => self.refusal += 1,
+            _ => self.verdict += 1,
+        }
+    }
+}
+
+/// Change what the planted fault changes, if it is one of this call.
+pub fn spoil(call: &str, answer: &mut dyn Answer, slices: &mut [&mut dyn Spoil], work: Option<&mut Work>) {
+    let Some(fault) = PLANTED.get() else { return };
+    if fault.call != call || fault.refused != (answer.refusal() != 0) {
+        return;
+    }
+    match (fault.what, work) {
+        (What::Field(k), _) => answer.raise(k),
+        (What::Slice(k, place), _) => slices[k].spoil(place),
+        (What::Work(place), Some(work)) => work.spoil(place),
+        (What::Work(_), None) => {}
+    }
+}
