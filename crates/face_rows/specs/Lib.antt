@@ -1,0 +1,2 @@
+-- The face table as a slice of rows.
+pub mod FaceRows

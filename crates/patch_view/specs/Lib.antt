@@ -1,0 +1,2 @@
+-- What a view of a patch shows.
+pub mod Views
