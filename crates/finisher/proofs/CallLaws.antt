@@ -20,7 +20,8 @@ use Rattle.orient.specs.Turned.{Left, left, answerOf, answered}
 use Rattle.results.specs.declared.answer.Sizes.{Sizes}
 use Rattle.results.specs.declared.answer.Stitched.{Stitched}
 use Rattle.results.specs.declared.answer.Stitched.the-variants as StitchCase
-use Rattle.stitch.specs.Stitch.{AfterStitch, StitchSlices, stitchOf}
+use Rattle.results.specs.Slices.{AfterStitch, StitchSlices}
+use Rattle.stitch.specs.Stitch.{stitchOf}
 use Rattle.results.specs.Stitched.{LeftStitch, leftStitch, slicesOf, stitchAnswer, stitchAnswered}
 use Rattle.finish.specs.Finish.{benchRoom, area, stitchSlices}
 use Rattle.finisher.proofs.TextLaws.{told-refusal, zero-same}

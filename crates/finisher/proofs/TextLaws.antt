@@ -14,7 +14,8 @@ use Rattle.answer.specs.Answer.{Written, meshText, countText, refusalLine}
 use Rattle.meshing.specs.declared.written.MeshCounts.{MeshCounts}
 use Rattle.assemble.specs.declared.assembling.Assembled.{Assembled}
 use Rattle.assemble.specs.declared.assembling.Assembled.the-variants as A
-use Rattle.assemble.specs.Assemble.{AfterAssemble, MeshSlices, assembleOf}
+use Rattle.assemble.specs.Assemble.{AfterAssemble, assembleOf}
+use Rattle.room.specs.Slices.{MeshSlices}
 use Rattle.floats.specs.Floats.{f32}
 use Rattle.geometry.specs.declared.Aabb.{Aabb}
 use Rattle.geometry.specs.Geometry.{zero64}

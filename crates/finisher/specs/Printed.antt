@@ -9,7 +9,8 @@ use Rattle.floats.specs.Floats.{f32}
 use Rattle.answer.specs.Answer.{refusalLine}
 use Rattle.points.specs.Points.{key}
 use Rattle.orient.specs.Orient.{AfterTurn, turnOf}
-use Rattle.stitch.specs.Stitch.{AfterStitch, stitchOf}
+use Rattle.results.specs.Slices.{AfterStitch}
+use Rattle.stitch.specs.Stitch.{stitchOf}
 use Rattle.assemble.specs.Assemble.{AfterAssemble, assembleOf}
 use Rattle.finish.specs.Finish.{Sheet, Outcome, Refused, Finished, benchRoom, area, meshSlices, stitchSlices, assembleNext, stitchNext, finishIn, finish}
 use Rattle.sheet.specs.Bench.{printed}

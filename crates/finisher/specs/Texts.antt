@@ -16,7 +16,8 @@ use Rattle.orient.specs.declared.turning.Turned.{Turned}
 use Rattle.orient.specs.Orient.{AfterTurn, turnOf}
 use Rattle.orient.specs.Turned.{left, answered}
 use Rattle.results.specs.declared.answer.Stitched.{Stitched}
-use Rattle.stitch.specs.Stitch.{AfterStitch, stitchOf}
+use Rattle.results.specs.Slices.{AfterStitch}
+use Rattle.stitch.specs.Stitch.{stitchOf}
 use Rattle.results.specs.Stitched as S
 use Rattle.meshing.specs.declared.written.MeshCounts.{MeshCounts}
 use Rattle.assemble.specs.Assemble.{AfterAssemble, assembleOf}
