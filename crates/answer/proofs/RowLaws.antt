@@ -6,7 +6,7 @@ use native.Mathlib.Numerals.{add-one}
 use native.Mathlib.Omega.{arith}
 use borrow.Author.Tests.{eq-eqb, ne-eqb}
 use lib.Ieee.{Float, nan}
-use lib.ListN.{length, getD, take, drop, length-drop, length-map}
+use lib.ListN.{length, getD, drop, length-drop, length-map}
 use lib.Seq.{drop-cons}
 use Rattle.floats.specs.Floats.{bits32}
 use Rattle.digits.specs.Given.{Wrote}

@@ -1,13 +1,12 @@
 -- How long an answer is at the most, by the lengths of the slices that it is printed from. Assumes nothing.
 use mathlib.Core.Bool.{Bool, true, false, cond}
 use mathlib.Core.List.{List, [], _∷_, _++_, map}
-use mathlib.Core.Path.{_≡_, refl, sym, _∙_, ap}
+use mathlib.Core.Path.{_≡_, refl, ap}
 use Prim.Native.Nat.{ℕ, zero, suc, _+_, _*_, _^_, _≤_}
 use native.Mathlib.Omega.{arith}
 use lib.Dec.{ltb, eqb}
 use lib.Ieee.{Float}
 use lib.ListN.{length, take, length-append, length-map, length-take}
-use Rattle.digits.specs.Bytes.{bytes}
 use Rattle.digits.specs.Digits.{digits, decimalTo, decimal, hex}
 use Rattle.floats.specs.Floats.{bits32}
 use Rattle.lines.specs.Forms.{Piece, Word, Bits, Number, print, line, numbers, vertexForm, triangleForm}

@@ -5,7 +5,7 @@ use lines::put_line;
 ghost use mathlib.Core.Path.{_≡_};
 ghost use mathlib.Core.List.{map};
 ghost use Prim.Native.Nat.{_+_, _≤_};
-ghost use lib.ListN.{length, take};
+ghost use lib.ListN.{length};
 ghost use Rattle.floats.specs.Floats.{bits32};
 ghost use Rattle.digits.specs.Given.{Wrote};
 ghost use Rattle.lines.specs.Forms.{line, vertexForm};

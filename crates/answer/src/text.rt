@@ -10,12 +10,12 @@ use fronts::front_floats;
 use fronts::front_long;
 use lines::put_line;
 ghost use mathlib.Core.Bool.{cond};
-ghost use mathlib.Core.List.{_++_, _∷_, []};
+ghost use mathlib.Core.List.{_∷_, []};
 ghost use mathlib.Core.Path.{_≡_};
 ghost use Prim.Native.Nat.{_*_, _≤_};
-ghost use lib.ListN.{length, take};
+ghost use lib.ListN.{length};
 ghost use Rattle.digits.specs.Given.{Wrote};
-ghost use Rattle.lines.specs.Forms.{line, triangleForm};
+ghost use Rattle.lines.specs.Forms.{line};
 ghost use Rattle.lines.specs.Pattern.{pieces};
 ghost use Rattle.answer.specs.Answer.{countText, meshText};
 

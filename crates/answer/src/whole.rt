@@ -6,7 +6,6 @@ use crate::text::put_count;
 use crate::text::put_counts;
 use crate::text::put_mesh;
 ghost use mathlib.Core.List.{_++_};
-ghost use mathlib.Core.Path.{_≡_};
 ghost use Rattle.answer.specs.Answer.{Written, countText, meshText, refusalLine};
 
 // The mesh and the counts, cut off where `out` ends; answers how many bytes were written.

@@ -1,7 +1,7 @@
 // Numbers written to a slice behind what it holds already.
 
 ghost use mathlib.Core.List.{[], _∷_, map};
-ghost use Prim.Native.Nat.{_+_, _-_, _*_, _≤_};
+ghost use Prim.Native.Nat.{_+_, _-_, _≤_};
 ghost use lib.ListN.{length, take, drop};
 ghost use Rattle.append.specs.Appended.{Appended};
 ghost use Rattle.append.specs.Ready.{StretchReady, MovedReady};

@@ -2,13 +2,12 @@
 use mathlib.Core.Path.{_≡_, refl}
 use mathlib.Core.Bool.{Bool, true, false, _&&_, _||_, cond}
 use mathlib.Core.List.{List, [], _∷_, _++_}
-use Prim.Native.Nat.{ℕ, suc, _*_, _<_}
+use Prim.Native.Nat.{ℕ, suc, _<_}
 use native.Mathlib.Omega.{arith}
-use lib.ListN.{length}
 use lib.Dec.{ltb}
 use borrow.Author.Tests.{ltb-true}
 use Rattle.lists.specs.Lists.{all}
-use Rattle.body.specs.Body.{Check, check, allVertices, allIndices, firstFailing}
+use Rattle.body.specs.Body.{Check, check, firstFailing}
 
 -- ---- the first check that fails
 -- the first check fails

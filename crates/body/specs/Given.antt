@@ -1,5 +1,5 @@
 -- Small bodies written down for a claim: each row in one line, its points with whole coordinates. Assumes nothing.
-use mathlib.Core.List.{List, [], _∷_, _++_, map, flatMap}
+use mathlib.Core.List.{List, [], _∷_, map, flatMap}
 use Prim.Native.Nat.{ℕ}
 use lib.ListN.{length}
 use lib.IntN.{ℤ, pos, negℤ}

@@ -1,7 +1,7 @@
 -- The bench cases K1 to K10: one table, and one claim that the definitions yield each row. Assumes nothing.
-use mathlib.Core.Bool.{Bool, true, false, cond}
+use mathlib.Core.Bool.{Bool, false, cond}
 use mathlib.Core.List.{List, [], _∷_, _++_, map}
-use Prim.Native.Nat.{ℕ, zero, suc}
+use Prim.Native.Nat.{ℕ}
 use lib.ListN.{take}
 use lib.IntN.{pos, negℤ}
 use lib.Dec.{T}
@@ -12,18 +12,14 @@ use Rattle.floats.specs.Floats.{f32, f64, bits32, bits64}
 use Rattle.roots.specs.Roots.{sqrt}
 use Rattle.narrowing.specs.Narrow.{narrow}
 use Rattle.points.specs.Points.{cell, pattern}
-use Rattle.body.specs.Body.{Patch, rowsOf, patchesOf}
+use Rattle.body.specs.Body.{rowsOf, patchesOf}
 use Rattle.body.specs.Given.{Given, givenTable, givenPositions, givenIndices, K6, K6-reversed, K7, K8}
 use Rattle.geometry.specs.Geometry.{zero64}
 use Rattle.patch_volume.specs.Volume.{patchVolume}
 use Rattle.reach.specs.Reach.{escapesBody}
 use Rattle.geometry.specs.Given.{box68, onePoint, vertex}
-use Rattle.orient.specs.Orient.{AfterTurn}
 use Rattle.orient.specs.Claims.{turnGiven}
-use Rattle.results.specs.Slices.{StitchSlices, AfterStitch}
 use Rattle.stitch.specs.Claims.{roomy, stitchGiven}
-use Rattle.counts.specs.Counts.{Counts}
-use Rattle.assemble.specs.Assemble.{AfterAssemble}
 use Rattle.finish.specs.Evaluation.{evaluation}
 use Rattle.finish.specs.Finish.{Sheet, Outcome, Refused, Finished, finish}
 

@@ -1,24 +1,21 @@
 -- The refusals: one table of calls and the numbers that they give, and one claim. A body that fails two checks gets the first in table order.
 -- Assumes nothing.
-use mathlib.Core.Bool.{Bool, true, false}
+use mathlib.Core.Bool.{true, false}
 use mathlib.Core.List.{List, [], _∷_, _++_, map}
-use Prim.Native.Nat.{ℕ, zero, suc, _+_, _*_, _^_}
-use lib.ListN.{length, take, drop, replicate}
+use Prim.Native.Nat.{ℕ, _+_, _*_}
+use lib.ListN.{take, drop, replicate}
 use lib.Dec.{T}
 use lib.Ieee.{Float, nan, inf}
 use Rattle.lists.specs.Lists.{all}
 use Rattle.lists.specs.Table.{Case, case, agrees}
 use Rattle.points.specs.Points.{key}
-use Rattle.body.specs.Body.{Row, firstFailing}
-use Rattle.checks.specs.BodyChecks.{loneChecks}
-use Rattle.geometry.specs.declared.Vec3.{Vec3}
+use Rattle.body.specs.Body.{firstFailing}
 use Rattle.geometry.specs.declared.Aabb.{Aabb}
-use Rattle.alone.specs.Alone.{Alone, volumeAlone}
+use Rattle.alone.specs.Alone.{volumeAlone}
 use Rattle.geometry.specs.Geometry.{zero64, one64}
-use Rattle.orient.specs.Orient.{AfterTurn, turnOf}
+use Rattle.orient.specs.Orient.{turnOf}
 use Rattle.results.specs.Slices.{StitchSlices, AfterStitch, stitchChecks}
 use Rattle.stitch.specs.Stitch.{stitchOf}
-use Rattle.mesh.specs.Mesh.{Vertices}
 use Rattle.room.specs.Slices.{MeshSlices}
 use Rattle.assemble.specs.Assemble.{AfterAssemble, assembleOf}
 use Rattle.alone.specs.Evaluation as Lone

@@ -1,30 +1,26 @@
 -- Laws of counting splits: the sides of a triangle, one triangle, one row, all rows. Assumes nothing.
-use mathlib.Core.Path.{_≡_, refl, sym, ap, _∙_, subst}
-use mathlib.Core.Bool.{Bool, true, false, not, _&&_, _||_, cond}
+use mathlib.Core.Path.{_≡_, refl, sym, ap, _∙_}
+use mathlib.Core.Bool.{Bool, true, false, not, _||_}
 use mathlib.Core.List.{List, [], _∷_}
-use Prim.Native.Nat.{ℕ, zero, suc, _+_, _-_, _*_, _%_, _<_, _≤_}
+use Prim.Native.Nat.{ℕ, zero, suc, _+_, _-_, _*_, _<_}
 use native.Mathlib.Omega.{arith}
-use lib.ListN.{length, getD, take, drop, length-drop, drop-of-length-le}
-use lib.Seq.{getD-take, drop-drop, drop-cons, length-take-le}
+use lib.ListN.{getD, take, drop}
+use lib.Seq.{getD-take}
 use lib.Dec.{eqb}
 use lib.Ieee.{Float}
-use Rattle.lists.specs.Lists.{sumOf, countIf}
-use Rattle.lists.specs.Stretches.{stretch-front, stretch-three, stretch-kept, front-at, front-less, rest-less}
-use Rattle.body.specs.Body.{Row, trianglesOf, rowsOf, allVertices, allIndices}
-use Rattle.body.specs.Rows.{noRow, rowAt, verticesBefore, indicesBefore}
-use Rattle.body.specs.Patches.{vertices-next, indices-next, vertices-room, indices-room, indices-front}
+use Rattle.lists.specs.Lists.{countIf}
 use Rattle.geometry.specs.declared.Vec3.{Vec3}
 use Rattle.geometry.specs.Geometry.{vertexAt, pointAt}
 use Rattle.projection.specs.declared.Edge.{Edge}
 use Rattle.projection.specs.Projection.{edgeOf}
-use Rattle.loose.specs.Listed.{nameIn, anySet, Listed, CornerAt}
+use Rattle.loose.specs.Listed.{anySet}
 use Rattle.splits.specs.declared.sides.TriangleEdge.{TriangleEdge}
 use Rattle.splits.specs.declared.sides.Sides.{Sides}
-use Rattle.splits.specs.Entries.{Entry, entriesOf, entriesIn, keptEntries}
+use Rattle.splits.specs.Entries.{Entry, entriesOf, keptEntries}
 use Rattle.splits.specs.Found.{counts, countsOn, foundOnly, spotOf, withSpot, withVertex, entriesOn, foundCount, triangleFound, triangleKept}
 use Rattle.splitting.specs.Triangle.{Splittable, Split}
-use Rattle.counting.specs.Views.{View, edgeAt, sidesAt, viewOf, rowViews, bodyViews, foundIn, keptIn}
-use Rattle.counting.specs.Counting.{EdgeReady, SidesReady, sidesIn, Stands, TriangleReady, TriangleDone, viewsIn, RowReady, RowCounted, BodyReady, BodyCounted}
+use Rattle.counting.specs.Views.{edgeAt}
+use Rattle.counting.specs.Counting.{EdgeReady, SidesReady, sidesIn, TriangleReady, TriangleDone}
 
 -- ---- the sides of a triangle
 

@@ -1,18 +1,17 @@
 -- Laws of making the work area ready. Assumes nothing.
 use mathlib.Core.Path.{_≡_, refl, sym, ap, _∙_}
 use mathlib.Core.List.{List, [], map}
-use Prim.Native.Nat.{ℕ, _+_, _*_, _≤_}
+use Prim.Native.Nat.{ℕ, _+_, _*_}
 use native.Mathlib.Omega.{arith}
 use lib.ListN.{length, take, drop}
 use lib.Ieee.{Float}
 use Rattle.lists.specs.Stretches.{front-less, rest-less}
 use Rattle.points.specs.Rule.{names}
 use Rattle.points.specs.Points.{key}
-use Rattle.body.specs.Body.{rowsOf, allIndices}
+use Rattle.body.specs.Body.{rowsOf}
 use Rattle.projection.specs.Beyond.{Beyond}
 use Rattle.loose.specs.Listed.{bodyVertices, Gatherable, Gathered}
-use Rattle.loose.specs.Open.{Marked, Markable, bodyUses, flagOf}
-use Rattle.splits.specs.declared.finder.Finder.{Finder}
+use Rattle.loose.specs.Open.{Marked, bodyUses, flagOf}
 use Rattle.counting.specs.Prepared.{Preparable, Prepared}
 
 module _ {table : List ℕ} {ps : List Float} {is W : List ℕ} {v m : ℕ} (g : Preparable table ps is W v m) where

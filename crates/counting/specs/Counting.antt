@@ -3,7 +3,7 @@
 -- The names of v vertices are the first words, `count` loose vertices stand at `list`, the uses' flags at `flags`; the entries of one triangle at a time
 -- stand at `at` and their parameters at `ts`, behind all of these.
 use mathlib.Core.Path.{_≡_}
-use mathlib.Core.List.{List, []}
+use mathlib.Core.List.{List}
 use Prim.Native.Nat.{ℕ, _+_, _-_, _*_, _%_, _<_, _≤_}
 use lib.ListN.{length, getD, take, drop}
 use lib.Ieee.{Float}

@@ -1,30 +1,19 @@
 -- Laws of the triangles of one row: their views, and what stands in front of the entries is kept. Assumes nothing.
 use mathlib.Core.Path.{_≡_, refl, sym, ap, _∙_, subst}
-use mathlib.Core.Bool.{Bool, true, false, not, _&&_, _||_, cond}
 use mathlib.Core.List.{List, [], _∷_}
-use Prim.Native.Nat.{ℕ, zero, suc, _+_, _-_, _*_, _%_, _<_, _≤_}
+use Prim.Native.Nat.{ℕ, suc, _+_, _-_, _*_, _%_, _<_, _≤_}
 use native.Mathlib.Omega.{arith}
-use lib.ListN.{length, getD, take, drop, length-drop, drop-of-length-le}
-use lib.Seq.{getD-take, drop-drop, drop-cons, length-take-le}
-use lib.Dec.{eqb}
+use lib.ListN.{length, getD, take, drop, length-drop}
+use lib.Seq.{length-take-le}
 use lib.Ieee.{Float}
-use Rattle.lists.specs.Lists.{sumOf, countIf}
-use Rattle.lists.specs.Stretches.{stretch-front, stretch-three, stretch-kept, front-at, front-less, rest-less}
-use Rattle.body.specs.Body.{Row, trianglesOf, rowsOf, allVertices, allIndices}
-use Rattle.body.specs.Rows.{noRow, rowAt, verticesBefore, indicesBefore}
-use Rattle.body.specs.Patches.{vertices-next, indices-next, vertices-room, indices-room, indices-front}
-use Rattle.geometry.specs.declared.Vec3.{Vec3}
-use Rattle.geometry.specs.Geometry.{vertexAt, pointAt}
-use Rattle.projection.specs.declared.Edge.{Edge}
-use Rattle.projection.specs.Projection.{edgeOf}
-use Rattle.loose.specs.Listed.{nameIn, anySet, Listed, CornerAt}
-use Rattle.splits.specs.declared.sides.TriangleEdge.{TriangleEdge}
-use Rattle.splits.specs.declared.sides.Sides.{Sides}
-use Rattle.splits.specs.Entries.{Entry, entriesOf, entriesIn, keptEntries}
-use Rattle.splits.specs.Found.{counts, countsOn, foundOnly, spotOf, withSpot, withVertex, entriesOn, foundCount, triangleFound, triangleKept}
-use Rattle.splitting.specs.Triangle.{Splittable, Split}
-use Rattle.counting.specs.Views.{View, edgeAt, sidesAt, viewOf, rowViews, bodyViews, foundIn, keptIn}
-use Rattle.counting.specs.Counting.{EdgeReady, SidesReady, sidesIn, Stands, TriangleReady, TriangleDone, viewsIn, RowReady, RowCounted, BodyReady, BodyCounted}
+use Rattle.lists.specs.Lists.{sumOf}
+use Rattle.lists.specs.Stretches.{stretch-three, stretch-kept, front-at, front-less}
+use Rattle.body.specs.Body.{trianglesOf}
+use Rattle.loose.specs.Listed.{nameIn, CornerAt}
+use Rattle.splits.specs.Entries.{entriesOf, entriesIn}
+use Rattle.splits.specs.Found.{triangleFound, triangleKept}
+use Rattle.counting.specs.Views.{View, sidesAt, viewOf, rowViews, foundIn, keptIn}
+use Rattle.counting.specs.Counting.{sidesIn, Stands, TriangleReady, TriangleDone, viewsIn, RowReady, RowCounted}
 
 -- as many entries as words
 entries-many : (xs ys : List ℕ) → length xs ≡ length ys → length (entriesOf xs ys) ≡ length xs

@@ -1,5 +1,5 @@
 -- Laws of the stages: vertices joined by bits, uses named, their names joined and counted, and the words of the mesh's uses. Assumes nothing.
-use mathlib.Core.Path.{_≡_, refl, sym, ap, _∙_, subst}
+use mathlib.Core.Path.{_≡_, sym, ap, _∙_, subst}
 use mathlib.Core.List.{List, map}
 use Prim.Native.Nat.{ℕ, _+_, _-_, _*_, _%_, _<_, _≤_}
 use native.Mathlib.Decide.{decLt}
@@ -25,7 +25,7 @@ use Rattle.edges.specs.Counted.{CountReady, Counted}
 use Rattle.edges.specs.RowUses.{uses-agree, uses-count}
 use Rattle.edges.specs.UseLaws.{Apart, low-triangles, getD-map, length-named}
 use Rattle.counts.specs.declared.tally.EdgeCounts.{EdgeCounts}
-use Rattle.counts.specs.Counts.{Counts, countsOf}
+use Rattle.counts.specs.Counts.{countsOf}
 use Rattle.counts.specs.Tally.{countsIn, UseWords, CountsOver, Tallied}
 use Rattle.counts.specs.Mesh.{MeshReady, MeshCounted, meshUses, EdgesNamed, FirstsCounted}
 

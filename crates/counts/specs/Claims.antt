@@ -1,14 +1,13 @@
 -- Small meshes counted, each of which tells a reading of document 01 from a near miss. Assumes nothing.
-use mathlib.Core.Bool.{Bool, cond}
+use mathlib.Core.Bool.{cond}
 use mathlib.Core.List.{List, [], _∷_}
 use Prim.Native.Nat.{ℕ}
 use lib.Dec.{T}
-use lib.Ieee.{Float}
 use Rattle.lists.specs.Lists.{all}
 use Rattle.lists.specs.Table.{Case, case, agrees}
 use Rattle.points.specs.Points.{bits}
 use Rattle.body.specs.Given.{Given, at, below, row, givenPositions, givenIndices, K6}
-use Rattle.counts.specs.Counts.{Counts, countsOf, closedBy}
+use Rattle.counts.specs.Counts.{countsOf, closedBy}
 use Rattle.counts.specs.Evaluation.{evaluation}
 
 -- edges, open, over, closed

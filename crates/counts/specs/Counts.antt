@@ -9,7 +9,7 @@ use Rattle.lists.specs.Lists.{countIf}
 use Rattle.points.specs.Rule.{Rule, names}
 use Rattle.join.specs.Join.{joined}
 use Rattle.body.specs.Body.{trianglesOf}
-use Rattle.edges.specs.Edges.{Use, triangleUses, usesOf, firstUses}
+use Rattle.edges.specs.Edges.{triangleUses, usesOf, firstUses}
 
 -- edges, open (one use), over (more than two)
 pub record Counts : Type 0 where

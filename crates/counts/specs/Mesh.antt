@@ -13,7 +13,7 @@ use Rattle.body.specs.Body.{trianglesOf}
 use Rattle.edges.specs.Edges.{Use, triangleUses}
 use Rattle.edges.specs.Named.{useName}
 use Rattle.counts.specs.declared.tally.EdgeCounts.{EdgeCounts}
-use Rattle.counts.specs.Counts.{Counts, countsOf}
+use Rattle.counts.specs.Counts.{countsOf}
 use Rattle.counts.specs.Tally.{countsIn}
 
 -- what counting the edges of a mesh of v vertices asks: 01's limits, whole triangles, each index of a vertex, and room

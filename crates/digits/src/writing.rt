@@ -1,9 +1,9 @@
 // Numbers written at a place of a slice; what passes its end is left off.
 
 ghost use mathlib.Core.Path.{_≡_};
-ghost use mathlib.Core.List.{_++_, _∷_, []};
-ghost use Prim.Native.Nat.{_+_, _-_, _^_, _<_, _≤_};
-ghost use lib.ListN.{length, take, drop};
+ghost use mathlib.Core.List.{_∷_, []};
+ghost use Prim.Native.Nat.{_+_, _-_, _<_, _≤_};
+ghost use lib.ListN.{length};
 ghost use Rattle.digits.specs.Digits.{decimal, digitByte, digits, hex};
 ghost use Rattle.digits.specs.Given.{Digits, Filling, Wrote};
 

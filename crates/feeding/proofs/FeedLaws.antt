@@ -2,19 +2,19 @@
 use mathlib.Core.Bool.{Bool, true, false, not, _&&_, cond}
 use mathlib.Core.List.{List, [], _∷_, _++_, append-assoc, append-nil}
 use mathlib.Core.Path.{_≡_, refl, sym, _∙_, ap, subst}
-use Prim.Native.Nat.{ℕ, zero, suc, _+_, _%_, _≤_, _<_}
+use Prim.Native.Nat.{ℕ, suc, _+_, _%_, _≤_, _<_}
 use native.Mathlib.Numerals.{add-one}
 use native.Mathlib.Omega.{arith}
-use borrow.Author.Tests.{eqb-true, leb-true, leb-false, eq-eqb, ne-eqb}
+use borrow.Author.Tests.{eqb-true, leb-true, leb-false, ne-eqb}
 use lib.Dec.{T, leb, eqb}
-use lib.ListN.{length, getD, take, drop, set, replicate, length-append, length-set, length-take, length-replicate}
-use lib.Seq.{take-all, take-append-le, take-at, take-nil, take-suc, take-suc-set}
+use lib.ListN.{length, getD, take, set, length-append, length-set, length-take}
+use lib.Seq.{take-all, take-append-le, take-nil, take-suc, take-suc-set}
 use Rattle.digits.specs.ReadBack.{and-left, and-right}
 use Rattle.line_order.specs.Laws.{long-line, noLF, read-end, read-line}
-use Rattle.line_order.specs.Reading.{State, cut, finished, readFrom, readLine, sheetOf, start}
+use Rattle.line_order.specs.Reading.{State, cut, finished, readFrom, readLine, sheetOf}
 use Rattle.reader.specs.declared.Reader.{Reader}
-use Rattle.reader.specs.Kept.{Kept, Room, ended-state, kept-begin, kept-line}
-use Rattle.reader.specs.Slices.{Begun, Lent, ended, fits, fitsIn, lastFits, lent, readInto, readerOf, refused, stateOf}
+use Rattle.reader.specs.Kept.{Kept, ended-state, kept-line}
+use Rattle.reader.specs.Slices.{Lent, ended, fitsIn, lastFits, lent, readInto, refused, stateOf}
 use Rattle.sheet.specs.Bench.{bench, printed}
 use Rattle.sheet.specs.Meaning.{meant}
 use Rattle.finish.specs.Finish.{finish}

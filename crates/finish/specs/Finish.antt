@@ -1,5 +1,5 @@
 -- The three calls in a row, as the bench program makes them once its sheet is read: turn, stitch, assemble. Assumes nothing.
-use mathlib.Core.Bool.{Bool, true, false}
+use mathlib.Core.Bool.{true, false}
 use mathlib.Core.List.{List, map}
 use Prim.Native.Nat.{ℕ, _+_, _*_}
 use lib.ListN.{length, take, replicate}

@@ -1,21 +1,19 @@
 -- The three calls by parts, each of which can be evaluated alone: turning; the splits of some triangles; the rest, given the splits. Assumes nothing.
-use mathlib.Core.Bool.{Bool, true, false}
+use mathlib.Core.Bool.{true, false}
 use mathlib.Core.List.{List, [], _∷_, _++_, map, flatMap}
-use mathlib.Core.Option.{Option, none, some}
-use Prim.Native.Nat.{ℕ, zero, suc}
-use lib.ListN.{length}
+use mathlib.Core.Option.{none, some}
+use Prim.Native.Nat.{ℕ}
 use lib.Dec.{eqb}
 use Rattle.lists.specs.Lists.{itemAt, filterMap}
 use Rattle.floats.specs.Floats.{f32, f64, bits32, bits64}
 use Rattle.points.specs.Rule.{names}
 use Rattle.points.specs.Points.{key}
 use Rattle.body.specs.Body.{Patch, rowsOf, patchesOf}
-use Rattle.geometry.specs.declared.Vec3.{Vec3}
 use Rattle.geometry.specs.Geometry.{zero64}
-use Rattle.orient.specs.Orient.{AfterTurn, turnOf}
-use Rattle.loose.specs.Loose.{Facet, Loose, facetsIn, looseIn}
+use Rattle.orient.specs.Orient.{turnOf}
+use Rattle.loose.specs.Loose.{Facet, facetsIn, looseIn}
 use Rattle.splits.specs.Splits.{Side, Placed, SplitTriangle, sidesOf, splitTriangle}
-use Rattle.results.specs.Slices.{AfterStitch, stitchOrRefuse, clearedSlices}
+use Rattle.results.specs.Slices.{stitchOrRefuse, clearedSlices}
 use Rattle.stitched.specs.StitchedBody.{stitchedBodyOf}
 use Rattle.finish.specs.Finish.{Sheet, Room, Outcome, Refused, area, stitchSlices, assembleNext}
 

@@ -5,7 +5,7 @@ use Prim.Native.Nat.{ℕ, zero, suc, _+_, _≤_, _<_}
 use native.Mathlib.Numerals.{add-one}
 use native.Mathlib.Omega.{arith}
 use lib.ListN.{length, getD, take, drop, set, drop-of-length-le, length-set, take-append-drop}
-use lib.Seq.{drop-set-lt, length-take-le, take-all, take-suc, take-suc-set}
+use lib.Seq.{drop-set-lt, take-all, take-suc, take-suc-set}
 
 -- ---- numbers copied
 pub record Copied (B E W : List ℕ) (i : ℕ) : Type 0 where

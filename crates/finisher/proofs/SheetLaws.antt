@@ -5,7 +5,6 @@ use mathlib.Core.Path.{_≡_, refl, sym, _∙_, ap, subst}
 use Prim.Native.Nat.{ℕ, _*_, _≤_}
 use native.Mathlib.Omega.{arith}
 use borrow.Author.Tests.{eq-eqb, ne-eqb}
-use lib.Dec.{eqb}
 use lib.Ieee.{Float}
 use lib.ListN.{length, take, drop, length-map, length-take}
 use lib.Seq.{length-take-le, take-all, take-at}
@@ -14,7 +13,7 @@ use Rattle.floats.specs.Floats.{f32, f64}
 use Rattle.geometry.specs.declared.Aabb.{Aabb}
 use Rattle.finish.specs.Finish.{finish}
 use Rattle.reader.specs.declared.Reader.{Reader}
-use Rattle.reader.specs.Slices.{Lent, lent, patternsOf}
+use Rattle.reader.specs.Slices.{lent, patternsOf}
 use Rattle.sheet.specs.Bench.{printed}
 use Rattle.sheet.specs.Meaning.{boxOf, meant}
 use Rattle.finisher.proofs.TextLaws.{told-refusal}

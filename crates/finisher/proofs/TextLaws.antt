@@ -2,11 +2,11 @@
 use mathlib.Core.Bool.{Bool, true, false}
 use mathlib.Core.List.{List, _++_}
 use mathlib.Core.Path.{_≡_, refl, sym, _∙_, ap, subst}
-use Prim.Native.Nat.{ℕ, _*_}
+use Prim.Native.Nat.{ℕ}
 use native.Mathlib.Omega.{arith}
 use lib.Dec.{eqb}
 use lib.Ieee.{Float, ofBits}
-use lib.ListN.{length, take, replicate}
+use lib.ListN.{replicate}
 use Rattle.answer.specs.declared.Sizes.{Sizes}
 use Rattle.answer.specs.declared.Tallies.{Tallies}
 use Rattle.answer.specs.Longest.{MeshInLimits, answer-length, refusal-length}

@@ -1,7 +1,7 @@
 -- The text of the three calls is what the definition prints of a sheet. Assumes nothing.
 use mathlib.Core.Bool.{Bool, true, false}
 use mathlib.Core.List.{List, map}
-use mathlib.Core.Path.{_≡_, refl, sym, _∙_, ap}
+use mathlib.Core.Path.{_≡_, refl, _∙_}
 use Prim.Native.Nat.{ℕ, _*_}
 use lib.Dec.{eqb}
 use lib.ListN.{length, take}
@@ -11,7 +11,7 @@ use Rattle.points.specs.Points.{key}
 use Rattle.orient.specs.Orient.{AfterTurn, turnOf}
 use Rattle.results.specs.Slices.{AfterStitch}
 use Rattle.stitch.specs.Stitch.{stitchOf}
-use Rattle.assemble.specs.Assemble.{AfterAssemble, assembleOf}
+use Rattle.assemble.specs.Assemble.{assembleOf}
 use Rattle.finish.specs.Finish.{Sheet, Outcome, Refused, Finished, benchRoom, area, meshSlices, stitchSlices, assembleNext, stitchNext, finishIn, finish}
 use Rattle.sheet.specs.Bench.{printed}
 use Rattle.sheet.specs.Printing.{meshLines, countLines}

@@ -1,5 +1,5 @@
 -- A line that was printed reads back. Assumes nothing.
-use mathlib.Core.Bool.{Bool, true, false, not, _&&_}
+use mathlib.Core.Bool.{Bool, true, false, _&&_}
 use mathlib.Core.List.{List, [], _∷_, _++_}
 use mathlib.Core.Option.{some}
 use mathlib.Core.Path.{_≡_, refl}
@@ -7,7 +7,7 @@ use Prim.Native.Nat.{ℕ, _^_, _<_}
 use lib.Dec.{T, leb, ltb, eqb, ltb→lt}
 use borrow.Author.Tests.{eq-eqb}
 use Rattle.digits.specs.ReadBack.{and-left, and-right, readHex-hex, readDecimal-decimal, noDigit}
-use Rattle.digits.specs.Digits.{digitOf, decimal}
+use Rattle.digits.specs.Digits.{digitOf}
 use Rattle.lines.specs.Forms.{Piece, Word, Bits, Number, print, afterWord, spaced, read, form, numbers}
 use Rattle.lines.specs.declared.Kind.{Kind}
 use Rattle.lines.specs.declared.Kind.the-variants.{Box, Sag, NoDefault, Default, Material, Face, Vertex, Triangle, Fail}

@@ -4,7 +4,6 @@ use digits::Taken;
 use digits::missing;
 use digits::read_decimal;
 use digits::read_hex;
-ghost use mathlib.Core.Path.{_≡_};
 ghost use Prim.Native.Nat.{_+_, _<_, _≤_};
 ghost use lib.ListN.{length, drop};
 ghost use Rattle.digits.specs.Digits.{readDecimal, readHex};

@@ -1,5 +1,5 @@
 -- Open edges and loose points. Assumes nothing.
-use mathlib.Core.Bool.{Bool, true, false, cond}
+use mathlib.Core.Bool.{Bool, cond}
 use mathlib.Core.List.{List, [], _∷_, map, flatMap}
 use Prim.Native.Nat.{ℕ}
 use lib.ListN.{length, getD, drop}
@@ -9,7 +9,7 @@ use Rattle.join.specs.Join.{joined}
 use Rattle.body.specs.Body.{Patch, Triangle, trianglesOf}
 use Rattle.geometry.specs.declared.Vec3.{Vec3}
 use Rattle.geometry.specs.Geometry.{pointAt}
-use Rattle.edges.specs.Edges.{Use, usesFrom, isOpen}
+use Rattle.edges.specs.Edges.{usesFrom, isOpen}
 
 -- a corner of a triangle: its index, its point and the point's name, and whether the edge from it to the next corner is open
 pub record Corner : Type 0 where

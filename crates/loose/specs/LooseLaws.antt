@@ -1,12 +1,11 @@
 -- The gathered vertices are the definition's loose points. Assumes nothing.
-use mathlib.Core.Path.{_≡_, refl, sym, ap, _∙_, subst}
+use mathlib.Core.Path.{_≡_, refl, ap, _∙_}
 use mathlib.Core.Bool.{Bool, true, false, _||_, cond}
 use mathlib.Core.List.{List, [], _∷_, _++_, map, map-map, flatMap}
 use Prim.Native.Nat.{ℕ, zero, suc, _+_, _*_, _≤_, _<_}
-use native.Mathlib.Nat.{zero-add}
 use native.Mathlib.Omega.{arith}
-use lib.ListN.{length, getD, take, drop, length-take, length-drop}
-use lib.Seq.{getD-take, getD-drop, drop-drop, length-take-le}
+use lib.ListN.{length, getD, take, drop, length-drop}
+use lib.Seq.{getD-drop, drop-drop, length-take-le}
 use lib.Dec.{ltb, eqb}
 use lib.Ieee.{Float, nan}
 use Rattle.floats.specs.Floats.{widen}
@@ -14,7 +13,6 @@ use Rattle.lists.specs.Lists.{sumOf}
 use Rattle.lists.specs.Stretches.{stretch-at}
 use Rattle.join.specs.Join.{joined}
 use Rattle.body.specs.Body.{Row, trianglesOf, rowsOf, patchesOf, allIndices}
-use Rattle.body.specs.Rows.{noRow, indicesBefore}
 use Rattle.geometry.specs.Geometry.{pointAt}
 use Rattle.edges.specs.Edges.{Use, usesFrom, isOpen}
 use Rattle.edges.specs.RowUses.{Inside, inside-first, inside-rest}

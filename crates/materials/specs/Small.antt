@@ -1,7 +1,6 @@
 -- Entries and a default that are no more than 2 ^ 32. Assumes nothing.
 use mathlib.Core.List.{List}
-use mathlib.Core.Option.{none, some}
-use Prim.Native.Nat.{ℕ, suc, _≤_, _<_}
+use Prim.Native.Nat.{ℕ, _≤_, _<_}
 use lib.ListN.{length, getD}
 
 -- no entry and no default is above 2 ^ 32

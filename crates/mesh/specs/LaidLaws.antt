@@ -3,14 +3,14 @@ use mathlib.Core.Path.{_≡_, refl, sym, ap, _∙_}
 use mathlib.Core.Logic.{inl, inr}
 use mathlib.Core.Bool.{Bool, true, false, cond}
 use mathlib.Core.List.{List, [], _∷_, _++_, map, flatMap}
-use Prim.Native.Nat.{ℕ, zero, suc, _+_, _*_, _≤_, _<_}
+use Prim.Native.Nat.{ℕ, zero, suc, _+_, _*_, _≤_}
 use native.Mathlib.Omega.{arith}
-use lib.ListN.{length, getD, take, drop, length-append, length-drop, length-take, length-map}
+use lib.ListN.{length, take, drop, length-append, length-drop, length-take, length-map}
 use lib.Seq.{length-take-le}
 use lib.Dec.{eqb, eqb·zero-suc, eqb·suc-suc}
 use lib.Ieee.{Float}
 use Rattle.lists.specs.Lists.{sumOf}
-use Rattle.body.specs.Body.{Row, Patch, patchesOf, allIndices}
+use Rattle.body.specs.Body.{Row, patchesOf, allIndices}
 use Rattle.acceptance.specs.Acceptance.{Accepted, acceptedIndices}
 use Rattle.acceptance.specs.Judged.{acceptedBy}
 use Rattle.mesh.specs.Mesh.{Laid, laidFrom, runOf}

@@ -1,19 +1,17 @@
 -- Laws of rows with their decisions: what the rows from row k on begin with, and what one row more adds. Assumes nothing.
 use mathlib.Core.Path.{_≡_, refl, sym, ap, _∙_}
-use mathlib.Core.Bool.{cond}
 use mathlib.Core.List.{List, [], _∷_}
-use Prim.Native.Nat.{ℕ, zero, suc, _+_, _*_, _≤_, _<_}
+use Prim.Native.Nat.{ℕ, zero, suc, _+_, _≤_, _<_}
 use native.Mathlib.Omega.{arith}
 use lib.ListN.{length, getD, take, drop, length-drop}
 use lib.Seq.{length-take-le, getD-drop}
-use lib.Dec.{eqb}
 use Rattle.lists.specs.Lists.{sumOf}
 use Rattle.lists.specs.Any.{sum-more}
 use Rattle.body.specs.Body.{Row, rowsOf}
 use Rattle.body.specs.Rows.{noRow, rowAt}
 use Rattle.acceptance.specs.Judged.{decisionsIn}
 use Rattle.acceptance.specs.RestLaws.{rows-here, decisions-here}
-use Rattle.mesh.specs.JudgedRows.{JudgedRow, judgedRows, judgedIn, indicesWith}
+use Rattle.mesh.specs.JudgedRows.{JudgedRow, judgedRows, judgedIn}
 
 -- a row of nothing: what lies past the end
 abbrev pub noJudged : JudgedRow

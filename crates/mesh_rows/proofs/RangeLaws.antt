@@ -12,8 +12,7 @@ use Rattle.body.specs.Rows.{rowAt}
 use Rattle.append.specs.Appended.{Appended, appended-none, appended-written, appended-long, behind}
 use Rattle.acceptance.specs.Judged.{acceptedRows, decisionsIn}
 use Rattle.acceptance.specs.RestLaws.{rows-here, decisions-here, rows-no, rows-yes}
-use Rattle.acceptance.specs.JudgedLaws.{accepted-most}
-use Rattle.mesh.specs.JudgedRows.{JudgedRow, judgedIn, baseAfter, keptIf, rangesWith}
+use Rattle.mesh.specs.JudgedRows.{judgedIn, baseAfter, keptIf, rangesWith}
 use Rattle.mesh.specs.RowLaws.{judged-here, judged-long}
 use Rattle.mesh.specs.Ranges.{RowRangeable, RowRanged, RangesWritable, RangesWritten}
 

@@ -1,24 +1,24 @@
 -- Laws of writing the run of one material. Assumes nothing.
 use mathlib.Core.Path.{_≡_, refl, sym, ap, _∙_, subst}
 use mathlib.Core.Bool.{Bool, true, false, cond}
-use mathlib.Core.List.{List, [], _∷_, _++_, map, append-assoc, append-nil}
-use Prim.Native.Nat.{ℕ, zero, suc, _+_, _-_, _*_, _≤_, _<_}
+use mathlib.Core.List.{List, [], _++_, map, append-assoc, append-nil}
+use Prim.Native.Nat.{ℕ, _+_, _-_, _≤_, _<_}
 use native.Mathlib.Omega.{arith}
 use native.Mathlib.Decide.{ℕ-discrete}
 use borrow.Author.Tests.{eq-eqb, ne-eqb}
 use lib.ListN.{length, getD, take, drop, set, length-append, length-drop, length-map, length-set, drop-of-length-le}
 use lib.Seq.{drop-drop, length-take-le, getD-set-same, getD-set-other, take-set-le, drop-set-lt}
 use lib.Dec.{eqb}
-use Rattle.lists.specs.Lists.{sumOf, written}
+use Rattle.lists.specs.Lists.{sumOf}
 use Rattle.lists.specs.Any.{sum-front, sum-all}
-use Rattle.lists.specs.Stretches.{front-at, front-less}
-use Rattle.body.specs.Body.{Row, rowsOf, allVertices, allIndices}
+use Rattle.lists.specs.Stretches.{front-at}
+use Rattle.body.specs.Body.{Row, rowsOf, allIndices}
 use Rattle.body.specs.Rows.{rowAt, verticesBefore, indicesBefore}
 use Rattle.body.specs.Patches.{vertices-next, vertices-room, indices-next, indices-room}
 use Rattle.append.specs.Appended.{Appended, appended-none, appended-long, appended-twice}
 use Rattle.mesh.specs.JudgedRows.{JudgedRow, judgedIn, baseAfter, sameIf, runBy, indicesWith}
 use Rattle.mesh.specs.RowLaws.{judged-here, judged-long, sum-here}
-use Rattle.mesh.specs.Runs.{BaseSmall, RowRunnable, RowRun, Runnable, RunWritable, RunWritten}
+use Rattle.mesh.specs.Runs.{BaseSmall, RowRunnable, RowRun, RunWritable, RunWritten}
 use Rattle.mesh_runs.proofs.RowRunLaws.{after-low}
 
 -- what the rows before row k have that are wanted

@@ -1,7 +1,6 @@
 // The run of one material: the indices of its rows, in row order.
 
 ghost use mathlib.Core.Path.{_≡_};
-ghost use Prim.Native.Nat.{_≤_};
 ghost use Rattle.mesh.specs.JudgedRows.{baseAfter};
 ghost use Rattle.mesh.specs.Runs.{BaseSmall, RowRunnable, RowRun, RunWritable, RunWritten};
 

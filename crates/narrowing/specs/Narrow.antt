@@ -1,5 +1,5 @@
 -- Narrowing an f64 to an f32 (IEEE 754-2019). Assumes nothing.
-use Prim.Native.Nat.{ℕ, _+_, _-_, _*_, _/_, _^_}
+use Prim.Native.Nat.{ℕ, _*_}
 use lib.Ieee.{Float, nan, inf, fin, binary32, up, down, round}
 use Rattle.floats.specs.Floats.{f64, bits32}
 

@@ -1,28 +1,27 @@
 -- Laws of the uses laid out: what stands in the work area is the definition's uses, by first use, row and run. Assumes nothing.
 use mathlib.Core.Path.{_≡_, refl, sym, ap, _∙_, subst}
 use mathlib.Core.List.{List, [], _∷_, map}
-use Prim.Native.Nat.{ℕ, _+_, _*_, _≤_, _<_}
+use Prim.Native.Nat.{ℕ, _+_, _*_, _<_}
 use native.Mathlib.Decide.{decLt}
 use native.Mathlib.Omega.{arith}
 use lib.ListN.{length, getD, take, drop, length-map, length-drop, List·getD-eq-default}
 use lib.Seq.{getD-drop, drop-drop}
 use lib.Ieee.{Float}
-use Rattle.lists.specs.Stretches.{stretch-at, stretch-kept, rest-less}
+use Rattle.lists.specs.Stretches.{stretch-at, rest-less}
 use Rattle.points.specs.Rule.{names}
 use Rattle.points.specs.Points.{key}
 use Rattle.points.specs.Names.{names-length}
 use Rattle.body.specs.Body.{Row, rowsOf, patchesOf}
 use Rattle.body.specs.Rows.{noRow, rowAt}
-use Rattle.join.specs.Join.{indexOf, joined, firstIndex}
+use Rattle.join.specs.Join.{indexOf, joined}
 use Rattle.join.specs.Representatives.{index-found, rep-below, joined-length, joined-at}
-use Rattle.edges.specs.Edges.{Use, usesFrom}
-use Rattle.edges.specs.Named.{useName, useRun, useRow, rowUses, rowNumbers}
+use Rattle.edges.specs.Edges.{Use}
+use Rattle.edges.specs.Named.{useName, useRun, useRow, rowNumbers}
 use Rattle.edges.specs.FirstUsers.{UsersReady, usesIn}
 use Rattle.edges.specs.RowUses.{Inside, row-uses-agree, numbers-below}
 use Rattle.edges.specs.UseLaws.{inShell, nameBy, noUse, Apart, rows-uses, uses-in, low-uses, shells-uses, length-named}
 use Rattle.walk.specs.Uses.{Uses, pairsBy, own}
 use Rattle.walk.specs.Area.{usesOf, Sound}
-use Rattle.pairs.specs.Pairs.{pairsOf}
 use Rattle.pairs.specs.PairLaws.{listed, pairs-are}
 use Rattle.pairs.specs.Laid.{shellsOf, usesAt, usesEnd, keyUses, Joinable, BodyJoined, UsesListed, Layable, Laid}
 use Rattle.pairs.proofs.ShellLaws.{shell-at}

@@ -1,6 +1,6 @@
 -- Laws of joining the rows by shell. Assumes nothing.
 use mathlib.Core.Path.{_≡_, refl, sym, ap, _∙_, subst}
-use mathlib.Core.List.{List, [], _∷_, _++_, map, append-assoc}
+use mathlib.Core.List.{List, [], _∷_, _++_, append-assoc}
 use Prim.Native.Nat.{ℕ, zero, suc, _+_, _*_, _≤_, _<_}
 use native.Mathlib.Nat.{le-antisymm, not-suc-le-zero, le-of-suc-le-suc}
 use native.Mathlib.Numerals.{add-one}
@@ -10,8 +10,8 @@ use lib.Seq.{paste, paste-zero, paste-suc, drop-paste, length-take-le, take-all,
 use Rattle.lists.specs.Stretches.{rest-less}
 use Rattle.body.specs.Body.{Row, rowsOf}
 use Rattle.body.specs.Rows.{noRow, rowAt}
-use Rattle.join.specs.Join.{joined, RoomAt, JoinedAt}
-use Rattle.pairs.specs.Laid.{shellsOf, ShellsRoom, ShellsListed, ShellsReady, ShellsJoined}
+use Rattle.join.specs.Join.{joined, JoinedAt}
+use Rattle.pairs.specs.Laid.{shellsOf, ShellsRoom, ShellsListed, ShellsJoined}
 
 -- a number for each row
 shells-long : (rows : List Row) → length (shellsOf rows) ≡ length rows

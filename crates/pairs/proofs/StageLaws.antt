@@ -3,17 +3,16 @@ use mathlib.Core.Path.{_≡_, refl, sym, ap, _∙_, subst}
 use mathlib.Core.List.{List, map}
 use Prim.Native.Nat.{ℕ, _+_, _*_, _≤_, _<_}
 use native.Mathlib.Omega.{arith}
-use lib.ListN.{length, getD, take, drop, replicate, length-drop, length-map, length-replicate}
+use lib.ListN.{length, take, drop, replicate, length-drop, length-replicate}
 use lib.Seq.{sets, getD-drop, length-sets}
 use lib.Ieee.{Float}
 use Rattle.lists.specs.Sets.{take-sets, drop-sets}
 use Rattle.lists.specs.Stretches.{front-at, front-less, rest-less, stretch-kept, stretch-sets}
-use Rattle.body.specs.Body.{rowsOf, allVertices}
+use Rattle.body.specs.Body.{rowsOf}
 use Rattle.body.specs.Rows.{rowAt}
 use Rattle.join.specs.declared.vertices.Rule.the-variants.{Key}
 use Rattle.join.specs.Join.{joined}
 use Rattle.join.specs.Rules.{ruleOf, Fit, JoinedPoints}
-use Rattle.edges.specs.Edges.{Use}
 use Rattle.edges.specs.Named.{useRun, useRow, rowUses, rowNumbers, BodyReady, RowsRoom}
 use Rattle.edges.specs.FirstUsers.{UsersReady, FirstUsers, usesIn}
 use Rattle.edges.specs.RowUses.{Inside, uses-all, row-uses-agree, rows-listed, runs-listed}

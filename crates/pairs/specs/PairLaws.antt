@@ -1,25 +1,25 @@
 -- The pairs of uses that are listed by first use, row and run are the definition's pairs. Assumes nothing.
-use mathlib.Core.Path.{_≡_, refl, sym, ap, _∙_, subst}
-use mathlib.Core.Bool.{Bool, true, false, not, _||_, cond}
+use mathlib.Core.Path.{_≡_, sym, ap, _∙_}
+use mathlib.Core.Bool.{_||_, cond}
 use mathlib.Core.List.{List, [], _∷_, map}
 use mathlib.Core.Option.{Option, none, some}
-use Prim.Native.Nat.{ℕ, zero, suc, _+_, _<_, _≤_, min, max}
-use native.Mathlib.Nat.{zero-add, not-suc-le-zero}
+use Prim.Native.Nat.{ℕ, zero, suc, _<_, min, max}
+use native.Mathlib.Nat.{zero-add}
 use native.Mathlib.Omega.{arith}
 use native.Mathlib.Decide.{ℕ-discrete, decLt}
 use lib.ListN.{length, getD}
-use lib.Dec.{eqb, ltb}
+use lib.Dec.{eqb}
 use borrow.Author.Tests.{eq-eqb, ne-eqb, lt-ltb, le-ltb}
-use Rattle.lists.specs.Lists.{filterMap, itemAt}
+use Rattle.lists.specs.Lists.{itemAt}
 use Rattle.lists.specs.Any.{item-at}
 use Rattle.join.specs.Join.{joined, firstIndex}
 use Rattle.join.specs.Representatives.{rep-below, rep-name, joined-at}
 use Rattle.edges.specs.Edges.{Use, skipped, firstUser}
-use Rattle.edges.specs.Named.{runOf, useName, useRun, useRow}
+use Rattle.edges.specs.Named.{runOf, useRun, useRow}
 use Rattle.edges.specs.NameLaws.{lower-same, higher-same}
-use Rattle.edges.specs.UseLaws.{inShell, noUse, nameBy, Apart, apart-tells, first-at, getD-map, length-named}
+use Rattle.edges.specs.UseLaws.{noUse, nameBy, Apart, apart-tells, first-at, getD-map, length-named}
 use Rattle.walk.specs.Walk.{Pair}
-use Rattle.walk.specs.Uses.{Uses, own, far, records, agrees, pairAt, pairsBy, pairsFrom, records-skip, records-same, records-yes, agrees-yes, agrees-not, pairs-match}
+use Rattle.walk.specs.Uses.{Uses, own, far, records, agrees, pairAt, pairsBy, records-skip, records-same, records-yes, agrees-yes, agrees-not, pairs-match}
 use Rattle.pairs.specs.Pairs.{pairOf, pairsOf}
 
 -- uses listed by first use, row and run; their names have g's number for the shell

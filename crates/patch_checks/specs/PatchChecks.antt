@@ -2,7 +2,7 @@
 use mathlib.Core.Bool.{Bool, not}
 use mathlib.Core.List.{List, [], _∷_, _++_}
 use Prim.Native.Nat.{_%_}
-use lib.Dec.{leb, ltb, eqb}
+use lib.Dec.{leb, eqb}
 use Rattle.floats.specs.Floats.{finite}
 use Rattle.lists.specs.Lists.{any}
 use Rattle.body.specs.Body.{Patch, Check, check}

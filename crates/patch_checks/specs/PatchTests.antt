@@ -3,9 +3,9 @@ use Rattle.floats.specs.Floats.{finite}
 use mathlib.Core.Path.{_≡_, refl, sym, ap, _∙_}
 use mathlib.Core.Bool.{Bool, true, false, not}
 use mathlib.Core.List.{List, [], _∷_}
-use Prim.Native.Nat.{ℕ, _*_, _<_, _%_}
+use Prim.Native.Nat.{ℕ, _*_, _%_}
 use lib.ListN.{take, drop}
-use lib.Dec.{leb, ltb, eqb}
+use lib.Dec.{leb, eqb}
 use lib.Ieee.{Float}
 use Rattle.lists.specs.Lists.{any}
 use Rattle.body.specs.Body.{Row, patchesOf}

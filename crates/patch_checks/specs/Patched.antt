@@ -1,9 +1,7 @@
 -- What patches have once the checks 21 to 23 have passed. Assumes nothing.
 use mathlib.Core.Path.{_≡_}
 use mathlib.Core.Bool.{false}
-use mathlib.Core.List.{List, _∷_, _++_}
-use Prim.Native.Nat.{_<_}
-use lib.Dec.{ltb}
+use mathlib.Core.List.{List, _++_}
 use Rattle.lists.specs.Lists.{any}
 use Rattle.body.specs.Body.{Patch, firstFailing}
 use Rattle.patch_checks.specs.PatchChecks.{badIndices, patchChecks}

@@ -1,5 +1,5 @@
 -- Where a point projects on an edge, and the normal mixed there. Each operation on f64 rounds once. Assumes nothing.
-use mathlib.Core.Bool.{Bool, true, false, not, _&&_, cond}
+use mathlib.Core.Bool.{Bool, false, not, _&&_, cond}
 use mathlib.Core.List.{List, [], _∷_}
 use mathlib.Core.Option.{Option, none, some}
 use lib.Ieee.{Float, lt, eq}

@@ -10,7 +10,7 @@ use lib.Dec.{eqb}
 use lib.ListN.{length, take, drop, replicate, drop-of-length-le}
 use lib.Seq.{take-all}
 use Rattle.lines.specs.Exact.{line-fits}
-use Rattle.lines.specs.Forms.{Line, form, lineOf}
+use Rattle.lines.specs.Forms.{Line, lineOf}
 use Rattle.lines.specs.Scan.{given}
 use Rattle.lines.specs.declared.Kind.{Kind}
 use Rattle.lines.specs.declared.kinds.Given.{Given}

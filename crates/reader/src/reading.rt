@@ -10,7 +10,6 @@ use lines::Kind;
 use lines::line_of;
 ghost use mathlib.Core.Path.{_≡_};
 ghost use Prim.Native.Nat.{_<_};
-ghost use lib.ListN.{length};
 ghost use Rattle.reader.specs.Slices.{Begun, ended, lent, readForm, readInto, readRoomy, readerOf, refused};
 ghost use Rattle.line_order.specs.Reading.{start};
 ghost use Rattle.reader.specs.Added.{Fitting, Roomy};

@@ -7,10 +7,9 @@ use crate::storing::store_low;
 use crate::storing::store_row;
 use lines::Kind;
 ghost use mathlib.Core.Path.{_≡_};
-ghost use mathlib.Core.List.{_∷_, []};
-ghost use Prim.Native.Nat.{_+_, _*_, _%_, _^_, _<_, _≤_};
-ghost use lib.ListN.{length, getD, set};
-ghost use Rattle.reader.specs.Slices.{boxed, defaulted, lent, placed, sagged, takenUp};
+ghost use Prim.Native.Nat.{_+_, _*_, _%_, _^_, _<_};
+ghost use lib.ListN.{length, set};
+ghost use Rattle.reader.specs.Slices.{boxed, defaulted, lent, sagged, takenUp};
 ghost use Rattle.reader.specs.Added.{Ready, RowAdded, RowRoom, TriangleAdded, TriangleRoom, VertexAdded, VertexRoom};
 
 // The box, from six numbers.

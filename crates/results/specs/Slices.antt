@@ -1,5 +1,5 @@
 -- The slices that stitch is lent, checks 33 and 32, and the stitched body written to them or refused. Assumes nothing.
-use mathlib.Core.Bool.{true, false, not, _&&_, _||_}
+use mathlib.Core.Bool.{true, false, _||_}
 use mathlib.Core.List.{List, [], _∷_, map, flatMap}
 use Prim.Native.Nat.{ℕ, _*_}
 use lib.ListN.{length}

@@ -1,7 +1,7 @@
 -- What a triangle's new vertices and fan add to the slices of the stitched body. Assumes nothing.
 use mathlib.Core.Path.{_≡_}
 use mathlib.Core.Bool.{false}
-use mathlib.Core.List.{List, _++_}
+use mathlib.Core.List.{List}
 use Prim.Native.Nat.{ℕ, _+_, _*_, _%_, _<_, _≤_}
 use lib.ListN.{length, getD}
 use lib.Ieee.{Float}

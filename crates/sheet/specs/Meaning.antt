@@ -2,7 +2,6 @@
 use mathlib.Core.List.{List}
 use Prim.Native.Nat.{ℕ}
 use Rattle.floats.specs.Floats.{f64}
-use Rattle.geometry.specs.declared.Vec3.{Vec3}
 use Rattle.geometry.specs.declared.Aabb.{Aabb}
 use Rattle.finish.specs.Finish.{Sheet}
 use Rattle.line_order.specs.Reading.{Patterns, at}

@@ -6,7 +6,6 @@ use Rattle.answer.specs.declared.Tallies.{Tallies}
 use Rattle.answer.specs.Answer.{countText, meshText}
 use Rattle.orient.specs.Orient.{AfterTurn}
 use Rattle.results.specs.Slices.{AfterStitch}
-use Rattle.mesh.specs.Mesh.{Vertices}
 use Rattle.assemble.specs.Assemble.{AfterAssemble}
 
 -- how much assemble wrote

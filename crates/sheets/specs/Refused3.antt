@@ -1,5 +1,5 @@
 -- The sheet refused-3, and what the Rust prints for it. Made by reference/evaluate. Assumes nothing.
-use mathlib.Core.List.{List, [], _∷_, _++_}
+use mathlib.Core.List.{List, [], _∷_}
 use mathlib.Core.Path.{_≡_, refl}
 use Prim.Native.Nat.{ℕ}
 use Rattle.digits.specs.Bytes.{bytes, lines}

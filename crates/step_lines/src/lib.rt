@@ -6,10 +6,10 @@ use integral::round;
 use narrowing::narrow;
 use roots::sqrt;
 ghost use mathlib.Core.Path.{_≡_};
-ghost use Prim.Native.Nat.{_+_, _^_, _<_, _≤_};
-ghost use lib.ListN.{length, take, drop};
+ghost use Prim.Native.Nat.{_+_, _<_, _≤_};
+ghost use lib.ListN.{length, drop};
 ghost use mathlib.Core.List.{_++_, _∷_, []};
-ghost use Rattle.step_lines.specs.Lines.{digitByte, digitOf, hex, hexOf, largerReply, printed, replyTo, startsWith};
+ghost use Rattle.step_lines.specs.Lines.{digitByte, digitOf, hex, largerReply, printed, replyTo, startsWith};
 ghost use Rattle.step_lines.specs.Given.{Number, Operand, Written};
 
 // What a line comes to: the bits of an f64 or of an f32, or a refusal.

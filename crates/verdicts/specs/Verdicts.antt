@@ -1,6 +1,5 @@
 -- The failure that a verdict tells of. Assumes nothing.
 use mathlib.Core.Option.{Option, none, some}
-use lib.ListN.{length}
 use Rattle.verdicts.specs.declared.Failure.{Failure}
 use Rattle.verdicts.specs.declared.verdict.Verdict.{Verdict}
 use Rattle.verdicts.specs.declared.verdict.Verdict.the-variants as verdict

@@ -1,31 +1,30 @@
 -- What the checks 11 to 23 give for each row of an accepted body. Assumes nothing.
 use mathlib.Core.Path.{_≡_, refl, sym, ap, _∙_, subst}
-use mathlib.Core.Logic.{_⊎_, inl, inr}
-use mathlib.Core.List.{List, [], _∷_, _++_, map}
-use Prim.Native.Nat.{ℕ, zero, suc, _+_, _-_, _*_, _/_, _%_, _^_, _≤_, _<_, max, min}
-use native.Mathlib.Nat.{le-trans, le-max-left, le-max-right, max-le, le-of-suc-le-suc, not-suc-le-zero, min-eq-left, mul-le-mul-right}
+use mathlib.Core.List.{List, [], _∷_, _++_}
+use Prim.Native.Nat.{ℕ, zero, suc, _+_, _-_, _*_, _%_, _^_, _≤_, _<_}
+use native.Mathlib.Nat.{le-trans, le-max-left, le-max-right, max-le, le-of-suc-le-suc, not-suc-le-zero}
 use native.Mathlib.Omega.{arith}
-use mathlib.Core.Bool.{Bool, true, false, not, _&&_, _||_, cond}
-use lib.Dec.{T, leb, ltb, eqb, leb→le, nleb→lt, nltb→le, eqb→eq, lit<, lit≤}
-use lib.ListN.{getD, length, take, drop, length-take, length-drop, length-append, List·getD-append}
+use mathlib.Core.Bool.{Bool, true, false, not, _&&_, _||_}
+use lib.Dec.{T, leb, ltb, eqb, nleb→lt, nltb→le, eqb→eq, lit<, lit≤}
+use lib.ListN.{getD, length, take, drop, length-drop, length-append, List·getD-append}
 use lib.Seq.{length-take-le, getD-take, getD-drop}
-use lib.IntN.{ℤ, natAbs}
+use lib.IntN.{natAbs}
 use lib.Ieee.{Float, nan, inf, fin, fits, binary32}
 use lib.Ieee.Scale as Scale
 use Rattle.floats.specs.Floats as Floats
 use Rattle.lists.specs.Lists.{any, sumOf}
-use Rattle.body.specs.Body.{Row, Patch, Check, check, rowsOf, patchesOf, allVertices, allIndices, trianglesOf, firstFailing, workNeeded}
-use Rattle.table_checks.specs.TableChecks.{badRow, tooLarge, tableChecks}
+use Rattle.body.specs.Body.{Row, Patch, Check, check, rowsOf, patchesOf, allVertices, allIndices, firstFailing}
+use Rattle.table_checks.specs.TableChecks.{tooLarge, tableChecks}
 use Rattle.patch_checks.specs.PatchChecks.{badIndices, patchChecks}
 use Rattle.checks.specs.BodyChecks.{bodyChecks}
 use Rattle.inversion.specs.Inversion.{patchAt}
 use Rattle.orient.specs.Orient.{AfterTurn, refuseTurn, turnOf, turnBody, walksOf}
 use Rattle.points.specs.Rule.{Rule, names}
 use Rattle.join.specs.Join.{joined}
-use Rattle.volume.specs.Exact.{Whole, wholeOf, wholeAt, largest, largestOf, largestIn, trianglesIn}
+use Rattle.volume.specs.Exact.{wholeOf, wholeAt, largest, largestOf}
 use Rattle.rounding.specs.Tri.{Coord}
-use Rattle.volume.specs.Det.{size, coord, whole-size, size-under, Corner}
-use Rattle.volume.specs.Sums.{Corners, none, more, Rows, end, next}
+use Rattle.volume.specs.Det.{coord, whole-size, size-under, Corner}
+use Rattle.volume.specs.Sums.{Corners, none, more}
 use Rattle.volume.specs.Sign as Sign
 use Rattle.volume.specs.Sign.{All}
 

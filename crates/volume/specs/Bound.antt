@@ -1,22 +1,20 @@
 -- From the error of the sum to the bound T * T * M * M * M / 2 ^ 50. Assumes nothing.
-use mathlib.Core.Path.{_≡_, refl, sym, ap, _∙_, subst}
-use mathlib.Core.List.{List, [], _∷_, map}
-use Prim.Native.Nat.{ℕ, zero, suc, _+_, _-_, _*_, _/_, _%_, _^_, _≤_, _<_, max}
-use native.Mathlib.Nat.{le-trans, le-of-eq, mul-comm, mul-assoc, zero-add, le-of-mul-le-mul-right, mul-zero, add-zero, zero-mul}
+use mathlib.Core.Path.{_≡_, refl, sym, ap, subst}
+use mathlib.Core.List.{List, map}
+use Prim.Native.Nat.{ℕ, _+_, _-_, _*_, _^_, _≤_, _<_}
+use native.Mathlib.Nat.{zero-add, le-of-mul-le-mul-right}
 use native.Mathlib.Omega.{arith}
-use mathlib.Core.Bool.{Bool, true, false, _&&_, cond}
-use lib.Dec.{T, lit<, eqb, leb, le→leb}
-use lib.Pow.{pow-pos}
-use lib.ListN.{getD, length}
-use lib.IntN.{ℤ, pos, negsuc, negℤ, natAbs, _+ℤ_, _-ℤ_, _*ℤ_, +ℤ-assoc, +ℤ-idr, +ℤ-idl}
-use lib.Ieee.{Float, nan, binary64, ofBits}
+use mathlib.Core.Bool.{Bool, true, false, _&&_}
+use lib.Dec.{T, lit<, leb, le→leb}
+use lib.ListN.{getD}
+use lib.IntN.{ℤ, pos, natAbs, _+ℤ_, _-ℤ_, _*ℤ_, +ℤ-idl}
+use lib.Ieee.{Float}
 use Rattle.rounding.specs.Near.{plus, less}
-use Rattle.rounding.specs.Tri.{sixteenth, Fine}
-use Rattle.rounding.specs.Sum.{Sixth, Total, total-bound}
+use Rattle.rounding.specs.Tri.{sixteenth}
+use Rattle.rounding.specs.Sum.{Sixth, total-bound}
 use Rattle.rounding.specs.Whole.{fine-of}
 use Rattle.body.specs.Body.{Patch}
 use Rattle.geometry.specs.Geometry.{zero64}
-use Rattle.groups.specs.Groups.{Group}
 use Rattle.inversion.specs.Inversion.{volumeFrom}
 use Rattle.walk.specs.Walk.{unvisited}
 use Rattle.volume.specs.Exact.{wholeOf, isWhole, exactRows, trianglesIn, largestIn, exactVolume, bound, volumeOf, withinBound}

@@ -1,8 +1,7 @@
 -- E, T, M, the bound and V of the groups of small bodies, in the units of VolumeRule. Assumes nothing.
-use mathlib.Core.Bool.{Bool, true, false, cond}
-use mathlib.Core.List.{List, [], _∷_, _++_, map, flatMap}
+use mathlib.Core.Bool.{cond}
+use mathlib.Core.List.{List, [], _∷_, _++_, flatMap}
 use Prim.Native.Nat.{ℕ, _+_, _*_, _^_}
-use lib.ListN.{length}
 use lib.IntN.{ℤ, pos, negsuc, natAbs}
 use lib.Dec.{T}
 use Rattle.lists.specs.Lists.{all}
@@ -12,11 +11,11 @@ use Rattle.points.specs.Rule.{names}
 use Rattle.join.specs.Join.{joined}
 use Rattle.points.specs.Points.{key}
 use Rattle.body.specs.Body.{Patch, rowsOf, patchesOf}
-use Rattle.body.specs.Given.{Given, at, below, row, triangle, givenTable, givenPositions, givenIndices, K6-reversed}
-use Rattle.groups.specs.Groups.{Group, Walks}
-use Rattle.orient.specs.Orient.{AfterTurn, walksOf}
+use Rattle.body.specs.Given.{Given, at, row, triangle, givenTable, givenPositions, givenIndices, K6-reversed}
+use Rattle.groups.specs.Groups.{Group}
+use Rattle.orient.specs.Orient.{walksOf}
 use Rattle.orient.specs.Claims.{turnGiven}
-use Rattle.volume.specs.Exact.{exactRows, trianglesIn, largestIn, exactVolume, bound, volumeOf, volumeLeft, ruleHolds}
+use Rattle.volume.specs.Exact.{exactRows, trianglesIn, largestIn, bound, volumeLeft, ruleHolds}
 use Rattle.volume.specs.Evaluation.{evaluation}
 
 -- 1 for a number below 0

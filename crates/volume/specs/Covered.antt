@@ -1,18 +1,17 @@
 -- Every row with indices is in some group. Assumes nothing.
-use mathlib.Core.Path.{_≡_, refl, sym, ap, _∙_, subst}
+use mathlib.Core.Path.{_≡_, refl, sym, subst}
 use mathlib.Core.Logic.{_⊎_, inl, inr}
 use mathlib.Core.Bool.{Bool, true, false, not, _||_, cond}
 use mathlib.Core.List.{List, [], _∷_, _++_}
-use Prim.Native.Nat.{ℕ, zero, suc, _+_, _≤_, _<_}
+use Prim.Native.Nat.{ℕ, zero, suc, _+_, _<_}
 use native.Mathlib.Nat.{not-suc-le-zero, le-of-suc-le-suc}
 use native.Mathlib.Omega.{arith}
-use lib.Dec.{T, eqb, ltb, eqb→eq}
+use lib.Dec.{eqb, ltb}
 use lib.ListN.{getD, length, set, replicate}
 use lib.Seq.{getD-set-other}
 use borrow.Author.Tests.{eqb-true, eqb-false}
 use Rattle.body.specs.Body.{Patch}
 use Rattle.geometry.specs.Geometry.{zero64}
-use Rattle.pairs.specs.Pairs.{pairsOf}
 use Rattle.groups.specs.Groups.{Walks, Group, addGroup, walksFrom}
 use Rattle.inversion.specs.Inversion.{patchAt, volumeFrom, inverts}
 use Rattle.orient.specs.Orient.{walksOf}

@@ -1,25 +1,24 @@
 -- The determinant of three corners as a whole number, and how near the f64 one is. Assumes nothing.
 use mathlib.Core.Path.{_≡_, refl, sym, ap, _∙_, subst}
 use mathlib.Core.List.{List}
-use Prim.Native.Nat.{ℕ, zero, suc, _+_, _-_, _*_, _/_, _%_, _^_, _≤_, _<_, max}
-use native.Mathlib.Nat.{mul-div-cancel, mul-mod-left, mul-add, le-trans, le-of-lt, le-of-eq}
+use Prim.Native.Nat.{ℕ, zero, suc, _+_, _-_, _*_, _/_, _%_, _^_, _≤_}
+use native.Mathlib.Nat.{mul-div-cancel, mul-mod-left, le-of-lt}
 use native.Mathlib.Omega.{arith}
 use mathlib.Core.Bool.{Bool, true, false, cond}
-use lib.Dec.{T, lit<, eqb, eqb-refl}
-use lib.ListN.{getD, length}
-use lib.IntN.{ℤ, pos, negsuc, negℤ, natAbs, _+ℤ_, _-ℤ_, _*ℤ_}
-use lib.Ieee.{Float, nan, inf, fin, binary32, binary64, up, down, add, sub, mul, fits, ofBits}
+use lib.Dec.{T, eqb, eqb-refl}
+use lib.ListN.{getD}
+use lib.IntN.{ℤ, pos, negℤ, natAbs, _-ℤ_, _*ℤ_}
+use lib.Ieee.{Float, nan, inf, fin, binary32, up, down, fits}
 use lib.Ieee.Fits.{down-pos}
 use lib.Ieee.Exact.{HasValue}
 use lib.Ieee.Scale.{finite}
 use Rattle.rounding.specs.Near.{plus, less, Size}
-use Rattle.rounding.specs.Held.{Held, held}
-use Rattle.rounding.specs.Approx.{Approx, turnP, top64}
-use Rattle.rounding.specs.Tri.{Coord, Diff, sg, sz, point, times, minusD, plusD, triple, det, det64, det-approx, det-size, Fine, sixteenth, recast}
-use Rattle.body.specs.Body.{Triangle}
+use Rattle.rounding.specs.Held.{held}
+use Rattle.rounding.specs.Approx.{Approx, turnP}
+use Rattle.rounding.specs.Tri.{Coord, Diff, sg, sz, point, times, minusD, plusD, triple, det, det64, det-approx, det-size, Fine, sixteenth}
 use Rattle.geometry.specs.Geometry as G
 use Rattle.patch_volume.specs.Volume as Volume
-use Rattle.volume.specs.Exact.{wholeOf, isWhole, Whole, wholeAt, exactDet, largest}
+use Rattle.volume.specs.Exact.{wholeOf, isWhole, wholeAt, exactDet}
 use Rattle.volume.specs.Ints.{Is, is-pos, is-neg, is-add, is-sub, is-mul}
 
 -- ---- the words of the contract

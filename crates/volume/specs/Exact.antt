@@ -1,5 +1,5 @@
 -- The words of the volume rule: E, T, M, the bound and V, as whole numbers; VolumeRule.antt says in which units and why. Assumes nothing.
-use mathlib.Core.Bool.{Bool, true, false, _&&_, _||_, cond}
+use mathlib.Core.Bool.{Bool, false, _&&_, _||_, cond}
 use mathlib.Core.List.{List, [], _∷_}
 use Prim.Native.Nat.{ℕ, _+_, _*_, _/_, _%_, _^_, _<_, max}
 use lib.ListN.{length, getD}

@@ -1,26 +1,22 @@
 -- The groups of a body: their rows, their colours, and what turn leaves of them. Assumes nothing.
 use mathlib.Core.Path.{_≡_, refl, sym, ap, _∙_, subst}
-use mathlib.Core.Logic.{_⊎_, inl, inr}
-use mathlib.Core.List.{List, [], _∷_, _++_, map}
-use Prim.Native.Nat.{ℕ, zero, suc, _+_, _-_, _*_, _≤_, _<_}
-use native.Mathlib.Nat.{not-suc-le-zero, le-of-suc-le-suc, eq-zero-or-pos, add-zero, add-suc, zero-add}
+use mathlib.Core.List.{List, [], _∷_, map}
+use Prim.Native.Nat.{ℕ, zero, suc, _+_, _-_, _≤_, _<_}
+use native.Mathlib.Nat.{add-zero, zero-add}
 use native.Mathlib.Omega.{arith}
-use mathlib.Core.Bool.{Bool, true, false, not, _&&_, _||_, cond}
-use lib.Dec.{T, eqb, eqb→eq, eqb-refl}
-use lib.ListN.{getD, length, set, replicate, length-replicate}
+use mathlib.Core.Bool.{Bool, true, false, not, _||_, cond}
+use lib.Dec.{T, eqb, eqb→eq}
+use lib.ListN.{getD, length, set, length-replicate}
 use Rattle.body.specs.Body.{Patch}
-use Rattle.edges.specs.Edges.{usesFrom}
 use Rattle.geometry.specs.Geometry.{zero64}
-use Rattle.pairs.specs.Pairs.{pairsOf}
 use Rattle.groups.specs.Groups.{Walks, Group, addGroup, walksFrom}
 use Rattle.inversion.specs.Inversion.{patchAt, volumeFrom, inverts}
 use Rattle.orient.specs.Orient.{walksOf}
 use Rattle.walk.specs.Walk.{Pair, Walk, unvisited, plain, opposite, walk, inverted}
 use Rattle.volume.specs.Sign as All
 use Rattle.volume.specs.Sign.{All, Settled}
-use Rattle.volume.specs.Accepted.{nor-l, nor-r, double}
-use Rattle.volume.specs.Pairs.{all-append, all-at, all-map, Each, last, then, Ends, uses-each, pairs-ends}
-use Rattle.volume.specs.Walks.{Two, two-opposite, two-pos, zeros, Found, Walking, walk-walking, start-walking, length-inverted, inverted-other, inverted-rows}
+use Rattle.volume.specs.Pairs.{all-append, all-map, Each, last, then, Ends, uses-each, pairs-ends}
+use Rattle.volume.specs.Walks.{two-opposite, two-pos, Found, Walking, walk-walking, start-walking, length-inverted, inverted-other, inverted-rows}
 
 -- a row with triangles
 pub record Taking (patches : List Patch) (n : ℕ) : Type 0 where

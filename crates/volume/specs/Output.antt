@@ -1,11 +1,11 @@
 -- The slices that turn leaves, read as patches, are the turned body. Assumes nothing.
-use mathlib.Core.Path.{_≡_, refl, sym, ap, _∙_, subst}
-use mathlib.Core.List.{List, [], _∷_, _++_, map, flatMap}
-use Prim.Native.Nat.{ℕ, zero, suc, _+_, _-_, _*_, _≤_, _<_}
+use mathlib.Core.Path.{_≡_, refl, sym, ap, _∙_}
+use mathlib.Core.List.{List, [], _∷_, map, flatMap}
+use Prim.Native.Nat.{ℕ, suc, _-_, _*_, _≤_}
 use native.Mathlib.Omega.{arith}
-use mathlib.Core.Bool.{Bool, true, false, not, cond}
-use lib.Dec.{T, eqb}
-use lib.ListN.{getD, length, take, drop, length-take, length-drop, length-map}
+use mathlib.Core.Bool.{Bool, true, false, cond}
+use lib.Dec.{eqb}
+use lib.ListN.{length, take, drop, length-drop, length-map}
 use lib.Seq.{take-at, drop-at, length-take-le}
 use lib.Ieee.{Float, neg}
 use Rattle.lists.specs.Lists.{sumOf}
@@ -13,7 +13,6 @@ use Rattle.points.specs.Rule.{Rule, names}
 use Rattle.join.specs.Join.{joined}
 use Rattle.body.specs.Body.{Row, Patch, rowsOf, patchesOf, allVertices, allIndices, firstFailing}
 use Rattle.checks.specs.BodyChecks.{bodyChecks}
-use Rattle.groups.specs.Groups.{Walks}
 use Rattle.orient.specs.Orient.{AfterTurn, walksOf, turnBody, refuseTurn, turnOf}
 use Rattle.reversal.specs.Reversal.{swapped, turnedPatch, turnedBody}
 use Rattle.walk.specs.Walk.{coloured}

@@ -1,16 +1,15 @@
 -- If E is further from zero than the bound, V has its sign, and the group as turn leaves it has E, sign dropped. Assumes nothing.
 use mathlib.Core.Path.{_≡_, refl, sym, ap, _∙_, subst}
 use mathlib.Core.Logic.{_⊎_, inl, inr}
-use mathlib.Core.List.{List, [], _∷_, map}
-use Prim.Native.Nat.{ℕ, zero, suc, _+_, _-_, _*_, _/_, _%_, _^_, _≤_, _<_, max}
-use native.Mathlib.Nat.{eq-zero-or-pos, zero-mul, zero-div, mul-pos}
+use mathlib.Core.List.{List, map}
+use Prim.Native.Nat.{ℕ, suc, _+_, _-_, _*_, _/_, _^_, _≤_, _<_}
+use native.Mathlib.Nat.{eq-zero-or-pos, zero-mul, zero-div}
 use native.Mathlib.Omega.{arith}
-use mathlib.Core.Bool.{Bool, true, false, not, _&&_, _||_, cond}
-use lib.Dec.{T, leb, ltb, eqb, leb→le, nleb→lt, ltb→lt, lt→ltb, eqb-refl}
-use lib.ListN.{getD, length}
-use lib.IntN.{ℤ, pos, negsuc, negℤ, natAbs, _+ℤ_, _-ℤ_, _*ℤ_}
+use mathlib.Core.Bool.{Bool, true, false, not, _&&_, _||_}
+use lib.Dec.{T, leb, ltb, leb→le, nleb→lt, ltb→lt, lt→ltb, eqb-refl}
+use lib.ListN.{getD}
+use lib.IntN.{ℤ, pos, negsuc, negℤ, natAbs, _-ℤ_, _*ℤ_}
 use lib.Ieee.{Float, nan, inf, fin, up, down, lt, ofBits}
-use lib.Ieee.Fits.{down-pos}
 use Rattle.points.specs.Points.{sameℤ}
 use Rattle.body.specs.Body.{Patch}
 use Rattle.geometry.specs.Geometry.{zero64}
@@ -19,7 +18,7 @@ use Rattle.inversion.specs.Inversion.{indicesOn, inverts}
 use Rattle.reversal.specs.Reversal.{turnedBody}
 use Rattle.walk.specs.Walk.{coloured, plain, unvisited}
 use Rattle.volume.specs.Exact.{wholeOf, isWhole, exactRows, exactVolume, bound, volumeOf, withinBound, exactLeft, volumeLeft, leftOutward}
-use Rattle.volume.specs.Ints.{Is, above, below, is-pos, is-neg, is-add, is-sub, is-mul, is-same, is-cast, abs-le}
+use Rattle.volume.specs.Ints.{Is, above, below, is-pos, is-neg, is-sub, is-mul, is-same}
 use Rattle.volume.specs.Bound.{times-unit}
 use Rattle.volume.specs.Sign.{is-self, opposed, Settled, All, rows-left}
 

@@ -1,6 +1,6 @@
 -- Without its premise, that positions are values of f32, the volume rule would be false: three points at 2 ^ 400 on the axes. Assumes nothing.
 use mathlib.Core.Path.{_≡_, refl}
-use mathlib.Core.Bool.{Bool, true, false}
+use mathlib.Core.Bool.{false}
 use mathlib.Core.List.{List, [], _∷_}
 use Prim.Native.Nat.{ℕ}
 use lib.ListN.{replicate}
@@ -11,9 +11,8 @@ use Rattle.lists.specs.Lists.{all}
 use Rattle.points.specs.Rule.{Rule, names}
 use Rattle.join.specs.Join.{joined}
 use Rattle.points.specs.Points.{key}
-use Rattle.body.specs.Body.{Patch, rowsOf, patchesOf}
-use Rattle.orient.specs.Orient.{AfterTurn, walksOf, turnOf}
-use Rattle.groups.specs.Groups.{Walks}
+use Rattle.body.specs.Body.{rowsOf, patchesOf}
+use Rattle.orient.specs.Orient.{walksOf, turnOf}
 use Rattle.volume.specs.Exact.{ruleHolds}
 use Rattle.volume.specs.Evaluation.{evaluation}
 

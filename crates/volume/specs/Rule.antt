@@ -1,36 +1,36 @@
 -- The volume rule holds. Assumes nothing.
-use mathlib.Core.Path.{_≡_, refl, sym, ap, _∙_, subst}
+use mathlib.Core.Path.{_≡_, sym, ap, _∙_, subst}
 use mathlib.Core.List.{List, [], _∷_, _++_, map}
-use Prim.Native.Nat.{ℕ, zero, suc, _+_, _-_, _*_, _/_, _%_, _^_, _≤_, _<_, max}
-use native.Mathlib.Nat.{le-trans, le-refl, le-max-left, le-max-right, max-le, not-suc-le-zero, le-of-suc-le-suc}
+use Prim.Native.Nat.{ℕ, _+_, _-_, _*_, _%_, _^_, _≤_, _<_}
+use native.Mathlib.Nat.{le-trans, le-refl, le-max-left, le-max-right, max-le}
 use native.Mathlib.Omega.{arith}
-use mathlib.Core.Bool.{Bool, true, false, not, _&&_, _||_, cond}
-use lib.Dec.{T, eqb, eqb→eq, leb, lit≤}
+use mathlib.Core.Bool.{Bool, true, false, not, _&&_}
+use lib.Dec.{T, eqb, eqb→eq, lit≤}
 use lib.ListN.{getD, length}
-use lib.Ieee.{Float, nan, fits, binary32}
+use lib.Ieee.{Float}
 use Rattle.floats.specs.Floats as Floats
 use Rattle.lists.specs.Lists.{any, all}
-use Rattle.points.specs.Rule.{Rule, names}
+use Rattle.points.specs.Rule.{names}
 use Rattle.join.specs.Join.{joined}
-use Rattle.body.specs.Body.{Row, Patch, trianglesOf, rowsOf, patchesOf, allIndices, allVertices}
+use Rattle.body.specs.Body.{Patch, trianglesOf, rowsOf, patchesOf}
 use Rattle.patch_checks.specs.PatchChecks.{badIndices}
 use Rattle.geometry.specs.Geometry.{zero64}
-use Rattle.groups.specs.Groups.{Group, Walks}
-use Rattle.orient.specs.Orient.{AfterTurn, walksOf, turnOf}
-use Rattle.inversion.specs.Inversion.{patchAt, volumeFrom, inverts}
+use Rattle.groups.specs.Groups.{Group}
+use Rattle.orient.specs.Orient.{walksOf}
+use Rattle.inversion.specs.Inversion.{patchAt, volumeFrom}
 use Rattle.reversal.specs.Reversal.{turnedBody}
 use Rattle.walk.specs.Walk.{unvisited}
-use Rattle.volume.specs.Exact.{trianglesIn, largestIn, largestOf, withinBound, leftOutward, ruleHolds, F32s}
+use Rattle.volume.specs.Exact.{trianglesIn, largestIn, withinBound, leftOutward, ruleHolds, F32s}
 use Rattle.volume.specs.VolumeRule.{VolumeRule}
 use Rattle.volume.specs.Sums.{Rows, end, next}
 use Rattle.volume.specs.Bound.{within}
 use Rattle.volume.specs.Sign as All
-use Rattle.volume.specs.Sign.{All, Settled}
+use Rattle.volume.specs.Sign.{All}
 use Rattle.volume.specs.Outward.{left-outward}
-use Rattle.volume.specs.Accepted.{any-at, double, Passed, passed, accepted, PatchOf, patch-of, patches-length, Vertex, vertices, corners, corners-under}
+use Rattle.volume.specs.Accepted.{any-at, double, Passed, passed, accepted, patch-of, patches-length, Vertex, vertices, corners, corners-under}
 use Rattle.volume.specs.Pairs.{all-map}
 use Rattle.volume.specs.Output.{output-is}
-use Rattle.volume.specs.Groups.{Taking, GroupOk, State, groups-ok}
+use Rattle.volume.specs.Groups.{Taking, GroupOk, groups-ok}
 
 -- ---- a row's patch in an accepted body
 pub record PatchGood (p : Patch) : Type 0 where

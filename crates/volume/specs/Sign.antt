@@ -1,22 +1,21 @@
 -- A swapped triangle has the opposite determinant; so a turned group has E or its opposite. Assumes nothing.
-use mathlib.Core.Path.{_≡_, refl, sym, ap, _∙_, subst}
+use mathlib.Core.Path.{_≡_, refl, sym, ap, _∙_}
 use mathlib.Core.Logic.{_⊎_, inl, inr}
 use mathlib.Core.List.{List, [], _∷_, map}
-use Prim.Native.Nat.{ℕ, zero, suc, _+_, _-_, _*_, _/_, _%_, _^_, _≤_, _<_, max}
-use native.Mathlib.Nat.{mul-comm, le-of-suc-le-suc, not-suc-le-zero}
+use Prim.Native.Nat.{ℕ, zero, suc, _+_, _-_, _*_, _<_}
+use native.Mathlib.Nat.{le-of-suc-le-suc, not-suc-le-zero}
 use native.Mathlib.Omega.{arith}
 use mathlib.Core.Bool.{Bool, true, false, not, cond}
-use lib.Dec.{T, lit<, eqb}
+use lib.Dec.{eqb}
 use lib.ListN.{getD, length}
-use lib.IntN.{ℤ, pos, negsuc, negℤ, natAbs, _+ℤ_, _-ℤ_, _*ℤ_, *ℤ-comm}
+use lib.IntN.{ℤ, pos, negsuc, negℤ, _+ℤ_, _-ℤ_, _*ℤ_, *ℤ-comm}
 use lib.Ieee.{Float, neg}
 use Rattle.body.specs.Body.{Patch, Triangle, trianglesOf}
-use Rattle.patch_volume.specs.Volume.{reversed}
 use Rattle.inversion.specs.Inversion.{patchAt}
 use Rattle.reversal.specs.Reversal.{swapped, turnedPatch, turnedBody}
 use Rattle.walk.specs.Walk.{coloured, unvisited, opposite}
 use Rattle.volume.specs.Exact.{Whole, wholeAt, exactDet, exactTriangles, exactRows, exactLeft}
-use Rattle.volume.specs.Ints.{Is, above, below, is-pos, is-neg, is-add, is-sub, is-mul, is-same, is-cast}
+use Rattle.volume.specs.Ints.{Is, above, below, is-neg, is-add, is-sub, is-mul, is-same, is-cast}
 
 -- ---- what is needed of whole numbers
 pub is-self : (z : ℤ) → Is z (above z) (below z)

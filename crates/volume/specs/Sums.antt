@@ -2,19 +2,19 @@
 use mathlib.Core.Path.{_≡_, refl, sym, ap, _∙_, subst}
 use mathlib.Core.Logic.{_⊎_, inl, inr}
 use mathlib.Core.List.{List, [], _∷_, map}
-use Prim.Native.Nat.{ℕ, zero, suc, _+_, _-_, _*_, _/_, _%_, _^_, _≤_, _<_, max}
-use native.Mathlib.Nat.{mul-add, add-zero, add-suc, eq-zero-or-pos, zero-mul, zero-add, add-assoc}
+use Prim.Native.Nat.{ℕ, suc, _+_, _-_, _*_, _^_, _≤_, _<_}
+use native.Mathlib.Nat.{mul-add, add-zero, eq-zero-or-pos, zero-mul, zero-add, add-assoc}
 use native.Mathlib.Omega.{arith}
 use mathlib.Core.Bool.{Bool, true, false, cond}
-use lib.Dec.{T, lit<, eqb}
+use lib.Dec.{eqb}
 use lib.ListN.{getD, length}
-use lib.IntN.{ℤ, pos, negsuc, negℤ, natAbs, _+ℤ_, _-ℤ_, _*ℤ_, +ℤ-assoc, +ℤ-idr, +ℤ-idl}
-use lib.Ieee.{Float, nan, binary64, ofBits}
+use lib.IntN.{ℤ, pos, _+ℤ_, +ℤ-assoc, +ℤ-idr, +ℤ-idl}
+use lib.Ieee.{Float, ofBits}
 use lib.Ieee.Exact.{HasValue}
 use Rattle.rounding.specs.Near.{Size}
-use Rattle.rounding.specs.Approx.{Approx, top64}
+use Rattle.rounding.specs.Approx.{Approx}
 use Rattle.rounding.specs.Tri.{sixteenth, Fine, v-big}
-use Rattle.rounding.specs.Sum.{Patch, Part, Total, patch-zero, patch-more, patch-sixth, total-zero, total-more}
+use Rattle.rounding.specs.Sum.{Patch, Total, patch-zero, patch-more, patch-sixth, total-zero, total-more}
 use Rattle.body.specs.Body as Body
 use Rattle.body.specs.Body.{Triangle, trianglesOf}
 use Rattle.geometry.specs.Geometry as G

@@ -10,7 +10,7 @@
 --
 -- So V and E are compared as the whole numbers `volumeOf` and `exactVolume`, and the bound is the whole number `bound`.
 use mathlib.Core.Path.{_≡_}
-use mathlib.Core.List.{List, [], _∷_}
+use mathlib.Core.List.{List, _∷_}
 use Prim.Native.Nat.{ℕ, _<_}
 use lib.Dec.{T}
 use lib.ListN.{length}
@@ -19,8 +19,8 @@ use Rattle.lists.specs.Lists.{all}
 use Rattle.points.specs.Rule.{Rule, names}
 use Rattle.join.specs.Join.{joined}
 use Rattle.body.specs.Body.{Patch, rowsOf, patchesOf}
-use Rattle.groups.specs.Groups.{Group, Walks}
-use Rattle.orient.specs.Orient.{AfterTurn, walksOf, turnOf}
+use Rattle.groups.specs.Groups.{Group}
+use Rattle.orient.specs.Orient.{walksOf, turnOf}
 use Rattle.inversion.specs.Inversion.{patchAt}
 use Rattle.volume.specs.Exact.{F32s, ruleHolds}
 

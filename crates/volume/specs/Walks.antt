@@ -1,12 +1,12 @@
 -- A walk finds each row once, and leaves the rows of earlier walks alone. Assumes nothing.
 use mathlib.Core.Path.{_≡_, refl, sym, ap, _∙_, subst}
 use mathlib.Core.Logic.{_⊎_, inl, inr}
-use mathlib.Core.List.{List, [], _∷_, _++_, map}
-use Prim.Native.Nat.{ℕ, zero, suc, _+_, _-_, _*_, _≤_, _<_}
+use mathlib.Core.List.{List, [], _∷_, _++_}
+use Prim.Native.Nat.{ℕ, zero, suc, _+_, _-_, _≤_, _<_}
 use native.Mathlib.Nat.{not-suc-le-zero, le-of-suc-le-suc, eq-zero-or-pos}
 use native.Mathlib.Omega.{arith}
-use mathlib.Core.Bool.{Bool, true, false, not, _&&_, _||_, cond}
-use lib.Dec.{T, eqb, ltb, ltb→lt, eqb→eq, eqb-refl}
+use mathlib.Core.Bool.{Bool, true, false, cond}
+use lib.Dec.{T, eqb, ltb, ltb→lt, eqb→eq}
 use lib.ListN.{getD, length, set, length-set, length-append}
 use borrow.Author.Tests.{le-ltb}
 use lib.Seq.{getD-set-same, getD-set-other}

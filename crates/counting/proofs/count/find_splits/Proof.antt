@@ -1,5 +1,5 @@
 -- `find_splits` meets its contract. Assumes nothing.
-use Rattle.counting.proofs.CountLaws.{sides-ready, splittable, triangle-done, triangle-closed}
+use Rattle.counting.proofs.CountLaws.{triangle-done, triangle-closed}
 use borrow.Author.Needs.{needs}
 use Rattle.counting.proofs.count.find_splits.Statement.{statement}
 use Rattle.counting.proofs.count.find_splits.Tie as tie

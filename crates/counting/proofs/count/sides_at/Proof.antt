@@ -1,5 +1,5 @@
 -- `sides_at` meets its contract. Assumes nothing.
-use Rattle.counting.proofs.CountLaws.{first-edge, second-edge, third-edge, sides-made}
+use Rattle.counting.proofs.CountLaws.{third-edge, sides-made}
 use borrow.Author.Needs.{needs}
 use Rattle.counting.proofs.count.sides_at.Statement.{statement}
 use Rattle.counting.proofs.count.sides_at.Tie as tie

@@ -1,5 +1,5 @@
 -- `prepare` meets its contract. Assumes nothing.
-use Rattle.counting.proofs.PrepareLaws.{gatherable, all-prepared}
+use Rattle.counting.proofs.PrepareLaws.{all-prepared}
 use borrow.Author.Needs.{needs}
 use Rattle.counting.proofs.prepare.prepare.Statement.{statement}
 use Rattle.counting.proofs.prepare.prepare.Tie as tie

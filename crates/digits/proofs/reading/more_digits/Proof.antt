@@ -1,6 +1,5 @@
 -- `more_digits` meets its contract. Assumes nothing.
 use Prim.Native.Nat.{_-_}
-use native.Mathlib.Omega.{arith}
 use lib.ListN.{length}
 use Rattle.digits.proofs.ReadLaws.{Tens, tens-none, tens-stop, tens-more, tens-large, tens-all}
 use borrow.Author.Needs.{needs}

@@ -2,7 +2,6 @@
 use Prim.Native.Nat.{_-_}
 use lib.ListN.{length}
 use Rattle.lines.proofs.ScanLaws.{Scanning, scanning-all, scanning-more, scanning-none, scanning-other, scanning-place, scanning-room}
-use native.Mathlib.Omega.{arith}
 use borrow.Author.Needs.{needs}
 use Rattle.lines.proofs.scanning.scan.Statement.{statement}
 use Rattle.lines.proofs.scanning.scan.Tie as tie

@@ -1,5 +1,4 @@
 -- `write_vertices` meets its contract. With k rows done, their numbers are written and those of the rest are left. Assumes nothing.
-use mathlib.Core.Path.{refl}
 use Prim.Native.Nat.{_-_}
 use native.Mathlib.Omega.{arith}
 use Rattle.mesh_rows.proofs.VertexLaws.{Copying, inside, copying-none, copying-ready, copying-more, copying-all}
