@@ -10,7 +10,7 @@ use Rattle.lists.specs.Stretches.{stretch-at}
 use Rattle.body.specs.Body.{Row, Patch, rowsOf, patchesOf}
 use Rattle.body.specs.Rows.{noRow, rowAt}
 use Rattle.body.specs.Patches.{patchFrom}
-use Rattle.acceptance.specs.Judged.{acceptedBy, acceptedRows, decisionsIn}
+use Rattle.acceptance.specs.Judged.{acceptedRows, decisionsIn}
 
 -- the patches from row k on, whose vertices start at `base` and whose indices at i
 abbrev pub restOf : List ℕ → List Float → List Float → List ℕ → ℕ → ℕ → ℕ → List Patch
@@ -41,19 +41,6 @@ decisions-here table W at k h room =
     let f : suc k ≡ k + 1 = omega arith in
     drop-cons (decisionsIn table W at) k 0 (omega arith)
     ∙ (λ j. stretch-at at m W k 0 h j ∷ drop (f j) (decisionsIn table W at))
-
--- a patch whose decision is 0 is not accepted
-pub accepted-no : {ds es : List ℕ} {ps qs : List Patch} {d : ℕ} {p : Patch} → ds ≡ d ∷ es → ps ≡ p ∷ qs → d ≡ 0 → acceptedBy ds ps ≡ acceptedBy es qs
-unfolding acceptedBy
-accepted-no {ds} {es} {ps} {qs} {d} {p} e f z = (λ j. acceptedBy (e j) (f j)) ∙ ap (λ (x : ℕ). acceptedBy (x ∷ es) (p ∷ qs)) z
-
--- one with another decision is, with the material that the decision tells
-pub accepted-yes : {ds es : List ℕ} {ps qs : List Patch} (d : ℕ) {p : Patch} → ds ≡ d ∷ es → ps ≡ p ∷ qs → (d ≡ 0 → ⊥) → acceptedBy ds ps ≡ record { patch = p; material = d - 1 } ∷ acceptedBy es qs
-unfolding acceptedBy
-accepted-yes zero e f n = absurd (n refl)
-accepted-yes {es = es} {qs = qs} (suc m) {p = p} e f n =
-    let k : m ≡ suc m - 1 = omega arith in
-    (λ j. acceptedBy (e j) (f j)) ∙ ap (λ (x : ℕ). record { patch = p; material = x } ∷ acceptedBy es qs) k
 
 -- the same of rows
 pub rows-no : {ds es : List ℕ} {rs ss : List Row} {d : ℕ} {r : Row} → ds ≡ d ∷ es → rs ≡ r ∷ ss → d ≡ 0 → acceptedRows ds rs ≡ acceptedRows es ss

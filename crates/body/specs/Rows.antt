@@ -1,13 +1,10 @@
 -- Row k of a flat table, where its numbers stand, and where its vertices and indices start. Assumes nothing.
 use mathlib.Core.Path.{_≡_, refl, _∙_}
 use mathlib.Core.List.{List, [], _∷_}
-use mathlib.Core.Option.{some}
 use Prim.Native.Nat.{ℕ, zero, suc, _+_, _*_, _/_, _≤_, _<_}
 use native.Mathlib.Nat.{le-of-suc-le-suc, not-suc-le-zero}
 use native.Mathlib.Omega.{arith}
 use lib.ListN.{length, getD, take, drop}
-use Rattle.lists.specs.Lists.{itemAt}
-use Rattle.lists.specs.Any.{item-at}
 use Rattle.body.specs.Body.{Row, rowsOf, allVertices, allIndices}
 
 -- a row of zeros: what lies past the end
@@ -97,8 +94,3 @@ row-flat (s ∷ f ∷ o ∷ v ∷ i ∷ rest) (suc k) h =
 
     e4 : suc (suc (suc (suc (suc (5 * k + 4))))) ≡ 5 * suc k + 4
     e4 = omega arith
-
--- row k is an item of the rows
-pub row-item : (table : List ℕ) (k : ℕ) → k < length (rowsOf table) → itemAt (rowsOf table) k ≡ some (rowAt table k)
-unfolding rowAt
-row-item table k h = item-at (rowsOf table) k noRow h

@@ -18,7 +18,7 @@ use Rattle.splits.specs.declared.sides.TriangleEdge.{TriangleEdge}
 use Rattle.splits.specs.declared.sides.Sides.{Sides}
 use Rattle.splits.specs.Entries.{Entry, entriesOf, keptEntries}
 use Rattle.splits.specs.Found.{counts, countsOn, foundOnly, spotOf, withSpot, withVertex, entriesOn, foundCount, triangleFound, triangleKept}
-use Rattle.splitting.specs.Triangle.{Splittable, Split}
+use Rattle.splitting.specs.Triangle.{Split}
 use Rattle.counting.specs.Views.{edgeAt}
 use Rattle.counting.specs.Counting.{EdgeReady, SidesReady, sidesIn, TriangleReady, TriangleDone}
 
@@ -39,12 +39,6 @@ module _ {ps : List Float} {is : List ℕ} {v flags base k : ℕ} {W : List ℕ}
 
     pub c-low : c < v
     c-low = omega (arith, g .in-c .low)
-
-    pub first-edge : EdgeReady ps v a b W
-    first-edge = record { all = g .all; names = g .names; start = a-low; end = b-low }
-
-    pub second-edge : EdgeReady ps v b c W
-    second-edge = record { all = g .all; names = g .names; start = b-low; end = c-low }
 
     pub third-edge : EdgeReady ps v c a W
     third-edge = record { all = g .all; names = g .names; start = c-low; end = a-low }
@@ -115,30 +109,6 @@ none-set o p q = go (not (eqb o 0)) (not (eqb p 0)) (not (eqb q 0))
     go true b c e = absurd (let z : _≡_ {A = ℕ} 0 1 = cc in omega arith)
 
 module _ {ps : List Float} {is : List ℕ} {sag beyond : Float} {n v list count at ts flags base k : ℕ} {W : List ℕ} (g : TriangleReady ps is sag beyond n v list count at ts flags base k W) where
-  pub sides-ready : SidesReady ps is v flags base k W
-  sides-ready =
-      record {
-        all = g .stands .all;
-        names = omega (arith, g .stands .listed .behind, g .stands .listed .room);
-        room = omega (arith, g .inside, g .stands .behind, g .stands .apart, g .stands .room);
-        in-a = g .in-a;
-        in-b = g .in-b;
-        in-c = g .in-c;
-      }
-
-  pub splittable : Splittable ps sag beyond v list count at ts W
-  splittable =
-      record {
-        listed = g .stands .listed;
-        few = g .stands .few;
-        all = g .stands .all;
-        behind = omega (arith, g .stands .flags-behind, g .stands .behind);
-        apart = g .stands .apart;
-        room = g .stands .room;
-        small = g .stands .small;
-        far = g .stands .far;
-      }
-
   -- it was split
   pub triangle-done : {s : Sides} {E : List ℕ} {found kept : ℕ} → s ≡ sidesIn ps is v flags base k W → Split ps sag s v list count at ts W E found kept
       → TriangleDone ps is sag v list count at ts flags base k W E found kept

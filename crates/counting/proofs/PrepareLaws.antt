@@ -10,28 +10,12 @@ use Rattle.points.specs.Rule.{names}
 use Rattle.points.specs.Points.{key}
 use Rattle.body.specs.Body.{rowsOf}
 use Rattle.projection.specs.Beyond.{Beyond}
-use Rattle.loose.specs.Listed.{bodyVertices, Gatherable, Gathered}
+use Rattle.loose.specs.Listed.{bodyVertices, Gathered}
 use Rattle.loose.specs.Open.{Marked, bodyUses, flagOf}
 use Rattle.counting.specs.Prepared.{Preparable, Prepared}
 
 module _ {table : List ℕ} {ps : List Float} {is W : List ℕ} {v m : ℕ} (g : Preparable table ps is W v m) where
   module _ {n list flags : ℕ} (en : n ≡ length is) (el : list ≡ 4 * v + 4 * m) (ef : flags ≡ list + 3 * n) {X : List ℕ} (k : Marked table ps is v m W X) (ex : length X ≡ length W) where
-    -- the loose vertices can be gathered
-    pub gatherable : Gatherable table is v list flags X
-    gatherable =
-        record {
-          rows = g .body .rows;
-          vertices = g .body .vertices;
-          all = g .body .all-indices;
-          few = g .body .few-indices;
-          few-vertices = g .body .few-vertices;
-          threes = g .body .threes;
-          inside = g .body .inside;
-          behind = omega arith;
-          apart = omega arith;
-          room = omega (arith, g .enough);
-        }
-
     -- all is in its place
     pub all-prepared : {count : ℕ} {E : List ℕ} {sag beyond : Float} → Gathered table is v list flags X E count → length E ≡ length X → Beyond sag beyond
         → Prepared table ps is sag v m W E (record { sag = sag; beyond = beyond; v = v; list = list; count = count; at = list + 4 * n; ts = list + 7 * n; flags = flags })

@@ -16,13 +16,7 @@ use Rattle.loose.specs.Listed.{insertVertex, insertTriangle, anySet, withTriang
 -- ---- the corners of a triangle
 
 module _ {v at count a b c : ℕ} {W : List ℕ} (t : TriangleInsertable v at count a b c W) where
-  pub first-insertable : Insertable v at count a W
-  first-insertable = record { listed = t .listed; room = omega (arith, t .room); vertex = t .in-a }
-
   module _ {one : ℕ} {X : List ℕ} (i : Inserted v at count a W X one) (ex : length X ≡ length W) where
-    pub second-insertable : Insertable v at one b X
-    second-insertable = record { listed = i .listed; room = omega (arith, t .room, i .few); vertex = t .in-b }
-
     module _ {two : ℕ} {Y : List ℕ} (j : Inserted v at one b X Y two) (ey : length Y ≡ length X) where
       pub third-insertable : Insertable v at two c Y
       third-insertable = record { listed = j .listed; room = omega (arith, t .room, i .few, j .few); vertex = t .in-c }
@@ -48,11 +42,6 @@ module _ {v at count a b c : ℕ} {W : List ℕ} (t : TriangleInsertable v at co
 
 module _ {is : List ℕ} {v at count base k flags : ℕ} {W : List ℕ} (g : TriangleGatherable is v at count base k flags W) {t : Bool}
     (e : t ≡ anySet (getD W (flags + k) 0) (getD W (flags + k + 1) 0) (getD W (flags + k + 2) 0)) where
-  -- the corners can be inserted
-  pub corners-insertable : {a b c : ℕ} → a ≡ base + getD is k 0 → b ≡ base + getD is (k + 1) 0 → c ≡ base + getD is (k + 2) 0 → TriangleInsertable v at count a b c W
-  corners-insertable ea eb ec =
-      record { listed = g .listed; room = g .room; in-a = omega (arith, g .in-a .low); in-b = omega (arith, g .in-b .low); in-c = omega (arith, g .in-c .low) }
-
   -- a flag is set, and they were
   pub triangle-gathered : {a b c r : ℕ} {E : List ℕ} → t ≡ true → a ≡ base + getD is k 0 → b ≡ base + getD is (k + 1) 0 → c ≡ base + getD is (k + 2) 0
       → TriangleInserted v at count a b c W E r → TriangleGathered is v at count base k flags W E r

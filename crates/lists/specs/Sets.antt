@@ -5,7 +5,7 @@ use Prim.Native.Nat.{ℕ, zero, suc, _+_, _≤_, _<_}
 use native.Mathlib.Nat.{add-zero, add-suc, suc-add}
 use native.Mathlib.Omega.{arith}
 use lib.ListN.{length, getD, set, take, drop, length-set}
-use lib.Seq.{sets, getD-set-same, getD-set-other, set-comm, take-take, take-set-le, drop-set-lt}
+use lib.Seq.{sets, getD-set-same, getD-set-other, take-take, take-set-le, drop-set-lt}
 
 module _ {A : Type 0} where
   -- below the run nothing changed
@@ -35,18 +35,6 @@ module _ {A : Type 0} where
   sets-append l i (x ∷ xs) ys =
       sets-append (set l i x) (suc i) xs ys
       ∙ ap (λ (n : ℕ). sets (sets (set l i x) (suc i) xs) n ys) (suc-add i (length xs) ∙ sym (add-suc i (length xs)))
-
-  -- a store below a run may come first
-  pub set-sets-below : (l : List A) (i : ℕ) (vs : List A) (k : ℕ) (a : A) → k < i → set (sets l i vs) k a ≡ sets (set l k a) i vs
-  set-sets-below l i [] k a h = refl
-  set-sets-below l i (v ∷ vs) k a h =
-      set-sets-below (set l i v) (suc i) vs k a (omega arith) ∙ ap (λ (m : List A). sets m (suc i) vs) (set-comm l i k v a (omega arith))
-
-  -- one run of stores below another may come first
-  pub sets-sets-below : (l : List A) (i : ℕ) (vs : List A) (k : ℕ) (us : List A) → k + length us ≤ i → sets (sets l i vs) k us ≡ sets (sets l k us) i vs
-  sets-sets-below l i vs k [] h = refl
-  sets-sets-below l i vs k (u ∷ us) h =
-      ap (λ (m : List A). sets m (suc k) us) (set-sets-below l i vs k u (omega arith)) ∙ sets-sets-below (set l k u) i vs (suc k) us (omega arith)
 
   -- what lies in front of a run is as it was
   pub take-sets : (l : List A) (i : ℕ) (vs : List A) → take i (sets l i vs) ≡ take i l

@@ -75,10 +75,6 @@ module _ {A : Type 0} where
       ∙ ap (take n) (drop-at (take at W) (vs ++ drop (at + length vs) W) at (length-take-le at W (omega arith)))
       ∙ take-at vs (drop (at + length vs) W) n e
 
-  -- a stretch of the part from b up to e is a stretch of the list
-  pub stretch-part : (b e k n : ℕ) (W : List A) → k + n ≤ e - b → take n (drop k (midOf b (e - b) W)) ≡ take n (drop (b + k) W)
-  stretch-part b e k n W h = stretch-front k n (e - b) (drop b W) h ∙ ap (take n) (drop-drop k b W)
-
   -- a part of a list, from b up to e, came back as ys
   module _ (b e : ℕ) (W ys : List A) (lo : b ≤ e) (hi : e ≤ length W) (l : length ys ≡ length (midOf b (e - b) W)) where
     -- it is as long as it was

@@ -90,12 +90,6 @@ unfolding laidFrom acceptedIndices sumOf
 laid-total base [] = refl
 laid-total base (a ∷ rest) = λ j. length-map (a .patch .indices) (λ i. base + i) j + laid-total (base + a .patch .row .vertices) rest j
 
--- as many as accepted patches
-pub laid-count : (base : ℕ) (accepted : List Accepted) → length (laidFrom base accepted) ≡ length accepted
-unfolding laidFrom
-laid-count base [] = refl
-laid-count base (a ∷ rest) = ap suc (laid-count (base + a .patch .row .vertices) rest)
-
 -- no more indices than the rows have
 pub laid-low : (base : ℕ) (js : List JudgedRow) (is : List ℕ) → sumOf (λ l. length (l .indices)) (laidBy base js is) ≤ judgedIndices js
 unfolding laidBy sumOf baseAfter

@@ -82,9 +82,6 @@ module _ {ps : List Float} {v list count j : ℕ} {W : List ℕ} (t : PointReady
 -- ---- one vertex
 
 module _ {ps : List Float} {sag beyond : Float} {v list count j e at ts found placed : ℕ} {W : List ℕ} (t : TryReady ps sag beyond v list count j e at ts found placed W) where
-  pub name-there : NameAt v list count j W
-  name-there = record { listed = t .listed; inside = t .inside }
-
   module _ {g : ℕ} (eg : g ≡ getD W (list + j) 0) where
     -- the vertex is one of them
     pub vertex-low : g < v
@@ -329,21 +326,6 @@ unfolding entriesOf
 none-there W at ts = refl
 
 module _ {ps : List Float} {sag beyond : Float} {v list count at ts : ℕ} {W : List ℕ} (g : Splittable ps sag beyond v list count at ts W) (s : Sides) where
-  -- the first edge
-  pub first-ready : FindOn ps sag beyond v list count 0 at ts 0 0 W
-  first-ready =
-      record {
-        listed = g .listed;
-        few = g .few;
-        all = g .all;
-        behind = g .behind;
-        apart = omega (arith, g .apart);
-        room = omega (arith, g .room);
-        edge = omega arith;
-        countable = omega (arith, g .small);
-        far = g .far;
-      }
-
   module _ {f₁ p₁ : ℕ} {X : List ℕ} (a : FoundAll ps sag s v list count 0 at ts 0 0 W X f₁ p₁) (ex : length X ≡ length W) where
     -- the second
     pub second-ready : FindOn ps sag beyond v list count 1 at ts f₁ p₁ X

@@ -29,9 +29,6 @@ use Rattle.volume.specs.Sign as Sign
 use Rattle.volume.specs.Sign.{All}
 
 -- ---- tests
-pub nor-l : (a b : Bool) → T (not (a || b)) → T (not a)
-nor-l true b h = h
-nor-l false b h = tt
 
 pub nor-r : (a b : Bool) → T (not (a || b)) → T (not b)
 nor-r true b h = absurd h
@@ -126,9 +123,6 @@ pub record PatchOf (most : ℕ) (p : Patch) : Type 0 where
   pub count : length (p .indices) ≡ p .row .indices
   pub few : length (p .indices) ≤ most
   pub fit : (k : ℕ) → k < length (p .positions) → T (fits binary32 (getD (p .positions) k nan))
-
-pub Fits32 : List Float → Type 0
-Fits32 ps = (k : ℕ) → k < length ps → T (fits binary32 (getD ps k nan))
 
 take-fits : (n : ℕ) (ps : List Float) → ((k : ℕ) → k < length ps → T (fits binary32 (getD ps k nan))) → n ≤ length ps
     → (k : ℕ) → k < length (take n ps) → T (fits binary32 (getD (take n ps) k nan))

@@ -107,12 +107,6 @@ module _ (sag : Float) (ps : List Float) (nms gs : List ℕ) where
       length (viewedPositions xs rows qs views) ≡ 3 * (allVertices rows + sumOf keptIn views)
   viewed-positions-length base flags rows is xs qs e = positions-all xs rows qs (bodyViews sag ps nms gs base flags rows is) (views-many base flags rows is) e
 
-  -- So are its normals.
-  pub viewed-normals-length : (base : ℕ) (flags : List ℕ) (rows : List Row) (is : List ℕ) (xs : List Float) (from : ℕ) (qs : List Float) → length qs ≡ 3 * allVertices rows
-      → let views = bodyViews sag ps nms gs base flags rows is in
-      length (viewedNormals xs from rows qs views) ≡ 3 * (allVertices rows + sumOf keptIn views)
-  viewed-normals-length base flags rows is xs from qs e = normals-all xs from rows qs (bodyViews sag ps nms gs base flags rows is) (views-many base flags rows is) e
-
   -- Its indices are those that there were, and three for each new vertex.
   pub viewed-indices-length : (base : ℕ) (flags : List ℕ) (rows : List Row) (is : List ℕ) → length is ≡ allIndices rows → length flags ≡ length is
       → ((k : ℕ) → k < length rows → getD rows k noRow .indices % 3 ≡ 0)
