@@ -127,7 +127,7 @@ fn assemble_accepted(
         work,
         m,
     );
-    body::clear(work, 16 * n + 16 * m + 4 * v);
+    zeros::clear(work, 16 * n + 16 * m + 4 * v);
     answer
 }
 

@@ -1,5 +1,4 @@
 -- The laws that the proofs of this crate cite, by subject.
-pub mod Filling
 pub mod Reading
 pub mod Summing
 pub mod Starting

@@ -1,11 +1,9 @@
-// A body: its flat table of rows, its sizes, where each row's patch starts, and the work area.
+// A body: its flat table of rows, its sizes, and where each row's patch starts.
 
-mod area;
 mod bases;
 mod rows;
 mod totals;
 
-pub use area::clear;
 pub use bases::index_bases;
 pub use bases::vertex_bases;
 pub use rows::ROW_WIDTH;

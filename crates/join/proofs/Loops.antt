@@ -5,32 +5,12 @@ use Prim.Native.Nat.{ℕ, zero, suc, _+_, _<_, _≤_}
 use native.Mathlib.Nat.{le-antisymm, not-suc-le-zero, le-of-suc-le-suc}
 use native.Mathlib.Numerals.{add-one}
 use native.Mathlib.Omega.{arith}
-use lib.ListN.{length, getD, take, drop, set, replicate, length-set}
+use lib.ListN.{length, getD, take, drop, set, length-set}
 use lib.Seq.{take-all}
-use borrow.Author.Fill.{fill-more}
 
 -- at a counting loop's end the counter is the end
 pub at-end : (P : ℕ → Type 0) {i n : ℕ} → i ≤ n → n ≤ i → P i → P n
 at-end P lo hi p = subst P (le-antisymm lo hi) p
-
--- `clear`, of n words, with i of them done: v became w
-pub record Filled (n : ℕ) (v : List ℕ) (i : ℕ) (w : List ℕ) : Type 0 where
-  pub low : i ≤ n
-  pub list : w ≡ replicate i 0 ++ drop i v
-  pub long : length w ≡ length v
-
--- one word more
-pub filled-more : {n i : ℕ} {w v : List ℕ} → n ≤ length v → Filled n v i w → i < n → Filled n v (i + 1) (set w i 0)
-filled-more {n} {i} {w} {v} r f h =
-    record {
-      low = omega arith;
-      list = ap (λ (l : List ℕ). set l i 0) (f .list) ∙ fill-more i 0 v (omega arith);
-      long = simp length-set (f .long);
-    }
-
--- all words
-pub filled-all : {n i : ℕ} {w v : List ℕ} → Filled n v i w → n ≤ i → w ≡ replicate n 0 ++ drop n v
-filled-all {n} {i} {w} {v} f h = at-end (λ k. w ≡ replicate k 0 ++ drop k v) (f .low) h (f .list)
 
 -- one more word written in front of what was there
 write-suc : (n : ℕ) (xs v : List ℕ) → n < length xs → n < length v → set (take n xs ++ drop n v) n (getD xs n 0) ≡ take (suc n) xs ++ drop (suc n) v

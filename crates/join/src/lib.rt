@@ -1,5 +1,4 @@
 // Joining: for each of n named items, the first item of the same name.
-pub mod clear;
 pub mod table;
 pub mod vertices;
 pub mod words;

@@ -1,8 +1,8 @@
--- `body::area::clear` meets its contract. With i words done the front is zeros and the rest as it was. Assumes nothing.
+-- `clear` meets its contract. With i words done the front is zeros and the rest as it was. Assumes nothing.
 use Prim.Native.Nat.{_-_}
-use Rattle.body.proofs.Filling.{Filled, filled-more, filled-all}
-use Rattle.body.proofs.area.clear.Statement.{statement}
-use Rattle.body.proofs.area.clear.Tie as tie
+use Rattle.zeros.proofs.Filling.{Filled, filled-more, filled-all}
+use Rattle.zeros.proofs.clear.Statement.{statement}
+use Rattle.zeros.proofs.clear.Tie as tie
 use borrow.Author.Needs.{needs}
 
 abbrev Inv-loop : tie.InvT-loop
