@@ -131,3 +131,8 @@ any-number f (r ∷ rs) ps ns is h k =
     (λ j. elim (any-append f (take v ps) (take v ns) j) [ true ↦ true | false ↦ rest j ])
     ∙ either (any f (take v ps)) (any f (take v ns)) (any f (drop v ps)) (any f (drop v ns))
     ∙ (λ j. any-split f v ps j || any-split f v ns j)
+
+-- the first row's vertices and indices start at 0
+pub before-none : (rows : List Row) → (verticesBefore rows 0 ≡ 0) × (indicesBefore rows 0 ≡ 0)
+unfolding verticesBefore indicesBefore allVertices allIndices sumOf
+before-none rows = (refl, refl)

@@ -5,12 +5,11 @@ use Prim.Native.Nat.{ℕ, suc, _+_, _-_, _%_, _≤_, _<_}
 use native.Mathlib.Omega.{arith}
 use lib.ListN.{length, getD, take, drop, replicate, length-append, length-take, length-drop, length-replicate, drop-of-length-le}
 use lib.Seq.{sets, length-sets, drop-cons, drop-drop, getD-drop, getD-take, length-take-le}
-use Rattle.lists.specs.Lists.{sumOf}
 use Rattle.lists.specs.Any.{sum-all}
 use Rattle.lists.specs.Sets.{getD-sets-below, sets-append}
 use Rattle.body.specs.Body.{Row, rowsOf, trianglesOf, allVertices, allIndices}
 use Rattle.body.specs.Rows.{noRow, rowAt, verticesBefore, indicesBefore}
-use Rattle.body.specs.Patches.{vertices-next, indices-next, vertices-front, indices-front}
+use Rattle.body.specs.Patches.{before-none, indices-front, indices-next, vertices-front, vertices-next}
 use Rattle.edges.specs.Edges.{Use, triangleUses}
 use Rattle.edges.specs.RowUses.{uses-agree, names-any-row, runs-any, uses-count}
 use Rattle.edges.specs.Named.{useName, useRun, rowUses, rowNumbers, RowReady, NameReady, BodyReady, NamesReady, RowsRoom}
@@ -27,10 +26,6 @@ module _ (table : List ℕ) (k : ℕ) (h : k < length (rowsOf table)) where
 pub indices-end : (rows : List Row) (k : ℕ) → length rows ≤ k → indicesBefore rows k ≡ allIndices rows
 unfolding indicesBefore allIndices
 indices-end rows k h = sum-all (λ r. r .indices) rows k h
-
-pub before-none : (rows : List Row) → (verticesBefore rows 0 ≡ 0) × (indicesBefore rows 0 ≡ 0)
-unfolding verticesBefore indicesBefore allVertices allIndices sumOf
-before-none rows = (refl, refl)
 
 -- ---- the loop
 

@@ -8,9 +8,9 @@ use lib.Seq.{drop-drop, drop-cons}
 use lib.Ieee.{Float}
 use Rattle.lists.specs.Lists.{sumOf}
 use Rattle.lists.specs.Stretches.{stretch-front, stretch-kept, front-less}
-use Rattle.body.specs.Body.{Row, trianglesOf, rowsOf, allVertices, allIndices}
+use Rattle.body.specs.Body.{Row, trianglesOf, rowsOf}
 use Rattle.body.specs.Rows.{noRow, rowAt, verticesBefore, indicesBefore}
-use Rattle.body.specs.Patches.{vertices-next, indices-next, vertices-room, indices-room, indices-front}
+use Rattle.body.specs.Patches.{before-none, indices-front, indices-next, indices-room, vertices-next, vertices-room}
 use Rattle.counting.specs.Views.{View, rowViews, bodyViews, foundIn, keptIn}
 use Rattle.counting.specs.Counting.{Stands, viewsIn, RowReady, RowCounted, BodyReady, BodyCounted}
 use Rattle.counting.specs.RowLaws.{stands-kept}
@@ -32,19 +32,14 @@ pub record CountingRows (table : List ℕ) (ps : List Float) (is : List ℕ) (sa
   pub rest : drop (ts + 3 * count) E ≡ drop (ts + 3 * count) W
   pub long : length E ≡ length W
 
--- the first row starts at 0
-starts : (rows : List Row) → (verticesBefore rows 0 ≡ 0) × (indicesBefore rows 0 ≡ 0)
-unfolding verticesBefore indicesBefore allVertices allIndices sumOf
-starts rows = (refl, refl)
-
 module _ {table : List ℕ} {ps : List Float} {is : List ℕ} {sag beyond : Float} {v list count at ts flags : ℕ} {W : List ℕ} (g : BodyReady table ps is sag beyond v list count at ts flags W) where
   -- none is counted yet
   pub rows-none : CountingRows table ps is sag v list count at ts flags W 0 0 0 0 0 W
   rows-none =
       record {
         low = omega arith;
-        at-v = sym (starts (rowsOf table) .0);
-        at-i = sym (starts (rowsOf table) .1);
+        at-v = sym (before-none (rowsOf table) .0);
+        at-i = sym (before-none (rowsOf table) .1);
         found-is = omega arith;
         kept-is = omega arith;
         found-low = omega arith;

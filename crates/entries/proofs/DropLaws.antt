@@ -7,7 +7,7 @@ use native.Mathlib.Omega.{arith}
 use lib.ListN.{length, getD, take, drop, set, length-set, length-drop}
 use lib.Seq.{drop-cons, take-suc, getD-drop, getD-set-same, getD-set-other, length-take-le, take-set-le, drop-set-lt}
 use Rattle.lists.specs.Stretches.{stretch-kept}
-use Rattle.splits.specs.Entries.{Entry, entryOf, entriesOf, entriesIn, entryAt, closeTo, copied, dropAfter, keptEntries, EntriesHeld, EntriesKept}
+use Rattle.splits.specs.Entries.{EntriesHeld, EntriesKept, Entry, closeTo, copied, dropAfter, entries-append, entriesIn, entriesOf, entryAt, entryOf, keptEntries}
 
 -- the entries from place j up to `count`
 abbrev entriesFrom : List ℕ → ℕ → ℕ → ℕ → ℕ → List Entry
@@ -30,14 +30,6 @@ words-snoc W at k l =
     ∙ take-suc (drop at W) k 0 (omega (arith, length-drop at W))
     ∙ ap (λ (x : ℕ). take k (drop at W) ++ x ∷ []) (getD-drop at W k 0)
 
--- the entries of lists with a word more
-entries-more : (X Y : List ℕ) (x y : ℕ) → length X ≡ length Y → entriesOf (X ++ x ∷ []) (Y ++ y ∷ []) ≡ entriesOf X Y ++ entryOf x y ∷ []
-unfolding entriesOf
-entries-more [] [] x y e = refl
-entries-more [] (b ∷ Y) x y e = absurd (omega arith)
-entries-more (a ∷ X) [] x y e = absurd (omega arith)
-entries-more (a ∷ X) (b ∷ Y) x y e = ap (λ (r : List Entry). entryOf a b ∷ r) (entries-more X Y x y (omega arith))
-
 module _ {at ts count : ℕ} {W : List ℕ} (h : EntriesHeld at ts count W) where
   -- the entries from place j begin with that at j
   entries-cons : (j : ℕ) → j < count → entriesFrom W at ts j count ≡ entryAt W at ts j ∷ entriesFrom W at ts (j + 1) count
@@ -58,7 +50,7 @@ module _ {at ts count : ℕ} {W : List ℕ} (h : EntriesHeld at ts count W) wher
   entries-snoc k l =
       ap (λ (v : List ℕ). entriesOf v (take (k + 1) (drop ts W))) (words-snoc W at k (omega (arith, h .apart, h .room)))
       ∙ ap (entriesOf (take k (drop at W) ++ getD W (at + k) 0 ∷ [])) (words-snoc W ts k (omega (arith, h .room)))
-      ∙ entries-more (take k (drop at W)) (take k (drop ts W)) (getD W (at + k) 0) (getD W (ts + k) 0)
+      ∙ entries-append (take k (drop at W)) (take k (drop ts W)) (getD W (at + k) 0) (getD W (ts + k) 0)
       (length-take-le k (drop at W) (omega (arith, length-drop at W, h .apart, h .room)) ∙ sym (length-take-le k (drop ts W) (omega (arith, length-drop ts W, h .room))))
 
 -- ---- the definition

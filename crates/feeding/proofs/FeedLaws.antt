@@ -22,6 +22,7 @@ use Rattle.answer.specs.Answer.{refusalLine}
 use Rattle.finisher.specs.Answered.{answerIn, inLimits}
 use Rattle.feeding.specs.declared.Fed.{Fed}
 use Rattle.feeding.specs.Feeding.{Ended, Fed-on, Put, SoFar}
+use Rattle.lists.specs.Both.{both-left}
 
 -- ---- a byte is put behind the others
 
@@ -157,10 +158,6 @@ same-end s front xs q = rw q
 chop : (a x y : Bool) → (x ≡ true → y ≡ true) → a && x ≡ true → a && y ≡ true
 chop true x y f e = f e
 chop false x y f e = e
-
-both-left : (a b : Bool) → a && b ≡ true → a ≡ true
-both-left true b e = refl
-both-left false b e = e
 
 -- slices with room for the next line are within the limits
 limits-fit : (r : Reader) (table : List ℕ) (p n i m : ℕ) → fitsIn r table p n i m ≡ true → inLimits r (length table) p n i m ≡ true

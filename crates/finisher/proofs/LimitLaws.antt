@@ -3,12 +3,12 @@ use mathlib.Core.Bool.{Bool, true, false, not, _&&_}
 use mathlib.Core.List.{List}
 use mathlib.Core.Path.{_≡_, refl, sym, _∙_}
 use Prim.Native.Nat.{ℕ, _≤_, _<_}
-use native.Mathlib.Omega.{arith}
 use borrow.Author.Tests.{le-leb, lt-leb, leb-true}
 use lib.Dec.{leb}
 use lib.ListN.{length}
 use Rattle.reader.specs.declared.Reader.{Reader}
 use Rattle.finisher.specs.Answered.{Limited, inLimits}
+use Rattle.lists.specs.Both.{both-left, both-right}
 
 module _ (s : Reader) (t p n i m : ℕ) where
   pub short-table : t < 80 → false ≡ inLimits s t p n i m
@@ -50,13 +50,6 @@ module _ (s : Reader) (t p n i m : ℕ) where
               all-else g = rw (le-leb 80 t a, le-leb 288 p b, le-leb 288 n c, le-leb 96 i d, le-leb 64 m e, le-leb (s .rows) 16 f, le-leb (s .vertices) 96 g)
 
 -- ---- what the test gives
-both-left : (a b : Bool) → a && b ≡ true → a ≡ true
-both-left true b e = refl
-both-left false b e = e
-
-both-right : (a b : Bool) → a && b ≡ true → b ≡ true
-both-right true b e = e
-both-right false b e = let z : _≡_ {A = ℕ} 0 1 = cc in absurd (omega arith)
 
 pub not-false : (b : Bool) → not b ≡ false → b ≡ true
 not-false true h = refl

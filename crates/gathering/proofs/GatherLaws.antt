@@ -6,11 +6,10 @@ use Prim.Native.Nat.{ℕ, suc, _+_, _-_, _%_, _<_, _≤_}
 use native.Mathlib.Omega.{arith}
 use lib.ListN.{length, getD, take, drop, drop-of-length-le}
 use lib.Seq.{drop-drop, drop-cons}
-use Rattle.lists.specs.Lists.{sumOf}
 use Rattle.lists.specs.Stretches.{stretch-front, stretch-three, front-less, rest-less, rest-at}
-use Rattle.body.specs.Body.{Row, trianglesOf, rowsOf, allVertices, allIndices}
+use Rattle.body.specs.Body.{Row, trianglesOf, rowsOf, allIndices}
 use Rattle.body.specs.Rows.{noRow, rowAt, verticesBefore, indicesBefore}
-use Rattle.body.specs.Patches.{vertices-next, indices-next, vertices-room, indices-room, indices-front}
+use Rattle.body.specs.Patches.{before-none, indices-front, indices-next, indices-room, vertices-next, vertices-room}
 use Rattle.loose.specs.Listed.{insertVertex, insertTriangle, anySet, withTriangle, rowVertices, bodyVertices, Listed, Insertable, Inserted, TriangleInsertable, TriangleInserted, TriangleGatherable, TriangleGathered, RowGatherable, RowGathered, Gatherable, Gathered}
 
 -- ---- the corners of a triangle
@@ -183,19 +182,14 @@ pub record GatheringRows (table is : List ℕ) (v at flags : ℕ) (W : List ℕ)
   pub goes-on : bodyVertices (take v W) base (drop i (take (length is) (drop flags W))) (drop k (rowsOf table)) (drop i is) (take found (drop at E))
       ≡ bodyVertices (take v W) 0 (take (length is) (drop flags W)) (rowsOf table) is []
 
--- the first row starts at 0
-starts : (rows : List Row) → (verticesBefore rows 0 ≡ 0) × (indicesBefore rows 0 ≡ 0)
-unfolding verticesBefore indicesBefore allVertices allIndices sumOf
-starts rows = (refl, refl)
-
 module _ {table is : List ℕ} {v at flags : ℕ} {W : List ℕ} (g : Gatherable table is v at flags W) where
   -- no row is done yet
   pub rows-none : GatheringRows table is v at flags W 0 0 0 0 W
   rows-none =
       record {
         low = omega arith;
-        at-v = sym (starts (rowsOf table) .0);
-        at-i = sym (starts (rowsOf table) .1);
+        at-v = sym (before-none (rowsOf table) .0);
+        at-i = sym (before-none (rowsOf table) .1);
         few = omega arith;
         listed = record { behind = g .behind; room = omega (arith, g .apart, g .room); below = λ j l. absurd (omega arith); rising = λ j k a b. absurd (omega arith) };
         front = refl;

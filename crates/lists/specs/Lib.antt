@@ -5,3 +5,4 @@ pub mod Sets
 pub mod Stretches
 pub mod Table
 pub mod Evaluation
+pub mod Both

@@ -33,7 +33,7 @@ any-open false false true = refl
 any-open false false false = refl
 
 -- the flags behind the first n
-flags-drop : (n : ℕ) (bs : List Bool) → map flag (drop n bs) ≡ drop n (map flag bs)
+pub flags-drop : (n : ℕ) (bs : List Bool) → map flag (drop n bs) ≡ drop n (map flag bs)
 flags-drop zero bs = refl
 flags-drop (suc n) [] = refl
 flags-drop (suc n) (b ∷ bs) = flags-drop n bs

@@ -12,9 +12,9 @@ use lib.Dec.{eqb}
 use Rattle.lists.specs.Lists.{sumOf}
 use Rattle.lists.specs.Any.{sum-front, sum-all}
 use Rattle.lists.specs.Stretches.{front-at}
-use Rattle.body.specs.Body.{Row, rowsOf, allIndices}
+use Rattle.body.specs.Body.{rowsOf}
 use Rattle.body.specs.Rows.{rowAt, verticesBefore, indicesBefore}
-use Rattle.body.specs.Patches.{vertices-next, vertices-room, indices-next, indices-room}
+use Rattle.body.specs.Patches.{indices-first, indices-next, indices-room, vertices-next, vertices-room}
 use Rattle.append.specs.Appended.{Appended, appended-none, appended-long, appended-twice}
 use Rattle.mesh.specs.JudgedRows.{JudgedRow, judgedIn, baseAfter, sameIf, runBy, indicesWith}
 use Rattle.mesh.specs.RowLaws.{judged-here, judged-long, sum-here}
@@ -43,11 +43,6 @@ pub record Running (table is W : List ℕ) (at starts wanted : ℕ) (out : List 
   pub long : length E ≡ length W
   pub out-long : length new ≡ length out
 
--- the first row starts at 0
-starts-at : (rows : List Row) → 0 ≡ indicesBefore rows 0
-unfolding indicesBefore allIndices sumOf
-starts-at rows = refl
-
 module _ {table is W : List ℕ} {at starts wanted : ℕ} {out : List ℕ} {start : ℕ} where
   -- none is looked at yet
   pub running-none : Running table is W at starts wanted out start start 0 0 0 W out
@@ -55,7 +50,7 @@ module _ {table is W : List ℕ} {at starts wanted : ℕ} {out : List ℕ} {star
   running-none =
       record {
         low = omega arith;
-        at-i = starts-at (rowsOf table);
+        at-i = indices-first (rowsOf table);
         base-low = omega arith;
         done = [];
         are = refl;

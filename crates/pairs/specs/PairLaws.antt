@@ -16,7 +16,7 @@ use Rattle.join.specs.Join.{joined, firstIndex}
 use Rattle.join.specs.Representatives.{rep-below, rep-name, joined-at}
 use Rattle.edges.specs.Edges.{Use, skipped, firstUser}
 use Rattle.edges.specs.Named.{runOf, useRun, useRow}
-use Rattle.edges.specs.NameLaws.{lower-same, higher-same}
+use Rattle.edges.specs.NameLaws.{higher-same, lower-same, run-equal}
 use Rattle.edges.specs.UseLaws.{noUse, nameBy, Apart, apart-tells, first-at, getD-map, length-named}
 use Rattle.walk.specs.Walk.{Pair}
 use Rattle.walk.specs.Uses.{Uses, own, far, records, agrees, pairAt, pairsBy, records-skip, records-same, records-yes, agrees-yes, agrees-not, pairs-match}
@@ -27,11 +27,6 @@ abbrev pub listed : (ℕ → ℕ) → List Use → Uses
 listed g us = record { count = length us; first = joined (map (nameBy g) us); row = map useRow us; run = map useRun us }
 
 -- ---- the way a use runs
-
--- equal ends
-run-equal : (a b : ℕ) → a ≡ b → runOf a b ≡ 2
-unfolding runOf
-run-equal a b e = rw (eq-eqb a b e)
 
 -- upward
 run-up : (a b : ℕ) → a < b → runOf a b ≡ 0

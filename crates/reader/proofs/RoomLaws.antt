@@ -12,6 +12,7 @@ use Rattle.reader.specs.declared.Reader.{Reader}
 use Rattle.line_order.specs.Reading.{at}
 use Rattle.line_order.specs.Refusals.{Counts}
 use Rattle.reader.specs.Slices.{fits, fitsIn, lastFits, lent, patternsOf}
+use Rattle.lists.specs.Both.{both-left, both-right}
 
 -- ---- the last row
 module _ (place rows : ℕ) (table : List ℕ) where
@@ -87,14 +88,6 @@ pub record Held (s : Reader) (T P N I M : List ℕ) : Type 0 where
   pub counted : s .indices ≤ 96
   pub whole : s .indices % 3 ≡ 0
   pub last : lastFits (s .place) (s .rows) T ≡ true
-
-pub both-left : (a b : Bool) → a && b ≡ true → a ≡ true
-both-left true b e = refl
-both-left false b e = e
-
-pub both-right : (a b : Bool) → a && b ≡ true → b ≡ true
-both-right true b e = e
-both-right false b e = let z : _≡_ {A = ℕ} 0 1 = cc in absurd (omega arith)
 
 pub held-of : (s : Reader) (T P N I M : List ℕ) → fits (lent s T P N I M) ≡ true → Held s T P N I M
 unfolding fitsIn

@@ -22,6 +22,7 @@ use Rattle.reader.specs.Added.{Ready, RowAdded, RowRoom, TriangleAdded, 
 use Rattle.line_order.specs.Refusals.{Passed, passed}
 use Rattle.reader.proofs.RoomLaws.{Held, both-left, both-right, counts-of, held-of, last-index, last-vertex, some-row}
 use Rattle.reader.proofs.StoreLaws.{changed, grown, kept}
+use Rattle.lists.specs.Both.{either-false}
 
 -- a list of six numbers at least is these six and a rest
 six : (P : List ℕ → Type 0) → ((a b c d e f : ℕ) (rest : List ℕ) → P (a ∷ b ∷ c ∷ d ∷ e ∷ f ∷ rest)) → (ns : List ℕ) → 6 < length ns → P ns
@@ -182,10 +183,6 @@ module _ (s : Reader) (T P N I M : List ℕ) where
         (kept (3 * s .vertices) N)
         (kept (s .indices) I)
         (kept 64 M)
-
-  either-false : (a b : Bool) → a || b ≡ false → b ≡ false
-  either-false true b e = let z : _≡_ {A = ℕ} 0 1 = cc in absurd (omega arith)
-  either-false false b e = e
 
   few-rows : (x : Bool) → Held s T P N I M → x || leb 80 (length (take (5 * s .rows) T)) ≡ false → s .rows < 16
   few-rows x h e = omega (arith, leb-false 80 (length (take (5 * s .rows) T)) (either-false x (leb 80 (length (take (5 * s .rows) T))) e), counts-of s T P N I M h .table)

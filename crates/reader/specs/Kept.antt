@@ -17,6 +17,7 @@ use Rattle.reader.specs.declared.Reader.{Reader}
 use Rattle.line_order.specs.Reading.{Patterns, State, at, finished, lineRefusal, orderOf, passesLimit, raised, readLine, refuse, start, takeUp, withForm, withLine}
 use Rattle.line_order.specs.Refusals.{Passed, passed}
 use Rattle.reader.specs.Slices.{Lent, ended, fits, fitsIn, lastFits, lent, onto, over, readInto, readerOf, refused, stateOf}
+use Rattle.lists.specs.Both.{both-left, either-false}
 
 -- the slices have room for the program's limits
 pub record Room (l : Lent) : Type 0 where
@@ -87,14 +88,6 @@ sized-refuse n s v =
       last-vertices = v .last-vertices;
       last-indices = v .last-indices;
     }
-
-both-left : (a b : Bool) → a && b ≡ true → a ≡ true
-both-left true b e = refl
-both-left false b e = e
-
-either-false : (a b : Bool) → a || b ≡ false → b ≡ false
-either-false true b e = let z : _≡_ {A = ℕ} 0 1 = cc in absurd (omega arith)
-either-false false b e = e
 
 -- a row behind the table: its counts are 0
 module _ (T row : List ℕ) (rows : ℕ) (e : length T ≡ 5 * rows) where

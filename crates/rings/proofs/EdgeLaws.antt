@@ -2,7 +2,7 @@
 use mathlib.Core.Path.{_≡_, refl, sym, ap, _∙_, subst}
 use mathlib.Core.Bool.{Bool, true, false, cond}
 use mathlib.Core.List.{List, [], _∷_, _++_, append-assoc, append-nil}
-use Prim.Native.Nat.{ℕ, zero, suc, _+_, _*_, _/_, _<_, _≤_}
+use Prim.Native.Nat.{ℕ, zero, suc, _+_, _/_, _<_, _≤_}
 use native.Mathlib.Omega.{arith}
 use lib.ListN.{length, getD, take, drop, length-append, length-drop}
 use lib.Seq.{take-take, take-suc, getD-drop, length-take-le}
@@ -10,10 +10,11 @@ use lib.Dec.{eqb}
 use borrow.Author.Tests.{eq-eqb, ne-eqb}
 use Rattle.splits.specs.Entries.{entriesOf, entriesIn}
 use Rattle.rings.specs.declared.fan.Fan.{Fan}
-use Rattle.rings.specs.Rings.{numbersOf, ringAfter, fanGo}
+use Rattle.rings.specs.Rings.{numbersOf, ringAfter}
 use Rattle.rings.specs.Added.{FanReady, FanWritten}
 use Rattle.rings.specs.FanSteps.{picked, edgeNumbers, Held, PushRoom, PickReady, EdgeReady, Pushed}
 use Rattle.rings.proofs.PushLaws.{pushed-none, pushed-then}
+use Rattle.rings.specs.FanLaws.{first-none}
 
 -- ---- one entry
 
@@ -155,18 +156,6 @@ module _ {a : ℕ} {W : List ℕ} {at count e next : ℕ} {f : Fan} {out : List 
           }
 
 -- ---- the whole fan
-
--- each vertex behind another makes a triangle
-fan-long : (a last : ℕ) (ys : List ℕ) → length (fanGo a true last ys) ≡ 3 * length ys
-unfolding fanGo
-fan-long a last [] = refl
-fan-long a last (y ∷ ys) = omega (arith, fan-long a y ys)
-
--- the first makes none
-first-none : (a last : ℕ) (ys : List ℕ) → 0 < length ys → length (fanGo a false last ys) + 3 ≡ 3 * length ys
-unfolding fanGo
-first-none a last [] l = absurd (omega arith)
-first-none a last (y ∷ ys) l = omega (arith, fan-long a y ys)
 
 -- the state before the first vertex
 abbrev empty : ℕ → Fan

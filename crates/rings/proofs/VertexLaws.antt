@@ -14,7 +14,7 @@ use Rattle.patch_volume.specs.Volume.{Corners}
 use Rattle.projection.specs.declared.mixing.Normal.{Normal}
 use Rattle.projection.specs.Answers.{normalOf}
 use Rattle.projection.specs.Projection.{mixed}
-use Rattle.splits.specs.Entries.{Entry, entryOf, entriesOf, entriesIn, entryAt}
+use Rattle.splits.specs.Entries.{Entry, entries-append, entriesIn, entriesOf, entryAt}
 use Rattle.rings.specs.Rings.{coordinatesAt, newPositions, newNormals, startOf, endOf}
 use Rattle.append.specs.Appended.{Appended}
 use Rattle.rings.specs.Added.{VerticesReady, NormalsReady}
@@ -70,14 +70,6 @@ normal-is ns a b c e t {p} {q} {na} {nb} ep eq en em k =
     ∙ ap (λ (x : Vec3). mixed (pointAt ns (startOf a b c e)) x t) (em ∙ ap (pointAt ns) eq)
 
 -- ---- one entry more
-
--- a word more in both lists is an entry more
-entries-append : (X Y : List ℕ) (x y : ℕ) → length X ≡ length Y → entriesOf (X ++ x ∷ []) (Y ++ y ∷ []) ≡ entriesOf X Y ++ entryOf x y ∷ []
-unfolding entriesOf
-entries-append [] [] x y e = refl
-entries-append [] (b ∷ Y) x y e = absurd (omega arith)
-entries-append (a ∷ X) [] x y e = absurd (omega arith)
-entries-append (a ∷ X) (b ∷ Y) x y e = ap (λ (r : List Entry). entryOf a b ∷ r) (entries-append X Y x y (omega arith))
 
 -- behind the first j words of a stretch stands the word at place j
 words-more : (W : List ℕ) (k j : ℕ) → k + j < length W → take (j + 1) (drop k W) ≡ take j (drop k W) ++ getD W (k + j) 0 ∷ []

@@ -1,5 +1,6 @@
 -- The placed points of a triangle as entries in the work area: edge and vertex in one word, the parameter's bits in another. Assumes nothing.
-use mathlib.Core.Path.{_≡_}
+use native.Mathlib.Omega.{arith}
+use mathlib.Core.Path.{_≡_, refl, ap}
 use mathlib.Core.Bool.{Bool, true, false, _&&_, _||_}
 use mathlib.Core.List.{List, [], _∷_, _++_}
 use Prim.Native.Nat.{ℕ, _+_, _/_, _%_, _<_, _≤_}
@@ -114,3 +115,11 @@ pub record EntryPlaces (at ts j k : ℕ) (W : List ℕ) : Type 0 where
 -- the words with the entry of place j written to place k
 abbrev pub copied : List ℕ → ℕ → ℕ → ℕ → ℕ → List ℕ
 copied W at ts j k = set (set W (at + k) (getD W (at + j) 0)) (ts + k) (getD W (ts + j) 0)
+
+-- a word more in both lists is an entry more
+pub entries-append : (X Y : List ℕ) (x y : ℕ) → length X ≡ length Y → entriesOf (X ++ x ∷ []) (Y ++ y ∷ []) ≡ entriesOf X Y ++ entryOf x y ∷ []
+unfolding entriesOf
+entries-append [] [] x y e = refl
+entries-append [] (b ∷ Y) x y e = absurd (omega arith)
+entries-append (a ∷ X) [] x y e = absurd (omega arith)
+entries-append (a ∷ X) (b ∷ Y) x y e = ap (λ (r : List Entry). entryOf a b ∷ r) (entries-append X Y x y (omega arith))

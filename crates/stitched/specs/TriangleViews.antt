@@ -18,23 +18,12 @@ use Rattle.splits.specs.Found.{edgeFrom, sidesFrom, triangleFound, triangleKept
 use Rattle.splits.specs.FoundPoints.{Distinct}
 use Rattle.splits.specs.Places.{sideAt, placedOf}
 use Rattle.splits.specs.FoundLaws.{found-is, kept-is}
-use Rattle.rings.specs.Rings.{fan, fanFrom, fanGo, coordinatesAt, newPositions, newNormals, startOf, endOf, numbersOf, ringAfter}
+use Rattle.rings.specs.Rings.{fan, fanGo, coordinatesAt, newPositions, newNormals, startOf, endOf, numbersOf, ringAfter}
 use Rattle.stitched.specs.StitchedBody.{newNormal, coordinates, numbersOn, ring}
 use Rattle.counting.specs.Views.{edgeAt, sidesAt, View, viewOf}
+use Rattle.rings.specs.FanLaws.{fan-go}
 
 -- ---- the fan
-
--- behind its first vertex
-fan-behind : (a b : ℕ) (ys : List ℕ) → fanFrom a (b ∷ ys) ≡ fanGo a true b ys
-unfolding fanFrom fanGo
-fan-behind a b [] = refl
-fan-behind a b (c ∷ ys) = ap (λ (l : List ℕ). a ∷ b ∷ c ∷ l) (fan-behind a c ys)
-
--- the fan of a ring is what its vertices behind the first add, one after another
-fan-go : (a : ℕ) (ys : List ℕ) → fan (a ∷ ys) ≡ fanGo a false 0 ys
-unfolding fan fanFrom fanGo
-fan-go a [] = refl
-fan-go a (b ∷ ys) = fan-behind a b ys
 
 -- ---- the sides of a triangle
 

@@ -2,7 +2,7 @@
 use mathlib.Core.Path.{_≡_, refl, sym, ap, _∙_, subst}
 use mathlib.Core.Bool.{Bool, false}
 use mathlib.Core.List.{List, [], _∷_, _++_, map, map-map, flatMap}
-use Prim.Native.Nat.{ℕ, zero, suc, _+_, _*_, _≤_, _<_}
+use Prim.Native.Nat.{ℕ, suc, _+_, _*_, _≤_, _<_}
 use native.Mathlib.Omega.{arith}
 use lib.ListN.{length, getD, take, drop, length-drop}
 use lib.Seq.{getD-drop, drop-drop, length-take-le}
@@ -24,6 +24,7 @@ use Rattle.rings.specs.Rings.{fanGo, ringAfter}
 use Rattle.stitched.specs.StitchedBody.{newNormal, coordinates, fanned, stitchedPatch, stitchedPatches, stitchedBodyOf, stitchedBody}
 use Rattle.counting.specs.Views.{View, rowViews, bodyViews, foundIn, keptIn, rowPositions, rowNormals, rowIndices, viewedRow, viewedRows, viewedPositions, viewedNormals, viewedIndices}
 use Rattle.stitched.specs.TriangleViews.{flag, PointsFrom, NamesFrom, Seen, triangle-seen, seen-count, seen-positions, seen-normals, seen-fan}
+use Rattle.loose.specs.LooseLaws.{flags-drop}
 
 -- ---- one row
 
@@ -128,12 +129,6 @@ points-behind : (ps : List Float) (base v : ℕ) (qs : List Float) → qs ≡ dr
 points-behind ps base v qs e =
     let three : 3 * base + 3 * v ≡ 3 * (base + v) = omega arith in
     ap (drop (3 * v)) e ∙ drop-drop (3 * v) (3 * base) ps ∙ ap (λ (k : ℕ). drop k ps) three
-
--- the flags behind the first n
-flags-drop : (n : ℕ) (bs : List Bool) → map flag (drop n bs) ≡ drop n (map flag bs)
-flags-drop zero bs = refl
-flags-drop (suc n) [] = refl
-flags-drop (suc n) (b ∷ bs) = flags-drop n bs
 
 -- rows whose vertices start at `base`: what is left of positions, normals and names, and the flags of the edges that are left
 record Begun (ps ns : List Float) (nms : List ℕ) (base : ℕ) (qs ts : List Float) (ms : List ℕ) (opens : List Bool) (fs : List ℕ) : Type 0 where

@@ -1,5 +1,5 @@
 -- What the checks 11 to 23 give for each row of an accepted body. Assumes nothing.
-use mathlib.Core.Path.{_≡_, refl, sym, ap, _∙_, subst}
+use mathlib.Core.Path.{_≡_, refl, sym, _∙_, subst}
 use mathlib.Core.List.{List, [], _∷_, _++_}
 use Prim.Native.Nat.{ℕ, zero, suc, _+_, _-_, _*_, _%_, _^_, _≤_, _<_}
 use native.Mathlib.Nat.{le-trans, le-max-left, le-max-right, max-le, le-of-suc-le-suc, not-suc-le-zero}
@@ -149,11 +149,6 @@ patch-of (r ∷ rs) ps ns is most f v i m zero h =
 patch-of (r ∷ rs) ps ns is most f v i m (suc n) h =
     patch-of rs (drop (3 * r .vertices) ps) (drop (3 * r .vertices) ns) (drop (r .indices) is) most (drop-fits (3 * r .vertices) ps f)
     (omega (arith, length-drop (3 * r .vertices) ps)) (omega (arith, length-drop (r .indices) is)) (omega arith) n (le-of-suc-le-suc h)
-
-pub patches-length : (rows : List Row) (ps ns : List Float) (is : List ℕ) → length (patchesOf rows ps ns is) ≡ length rows
-unfolding patchesOf
-patches-length [] ps ns is = refl
-patches-length (r ∷ rs) ps ns is = ap suc (patches-length rs (drop (3 * r .vertices) ps) (drop (3 * r .vertices) ns) (drop (r .indices) is))
 
 -- ---- its vertices
 pub record Number (x : Float) : Type 0 where

@@ -27,10 +27,11 @@ use Rattle.volume.specs.Bound.{within}
 use Rattle.volume.specs.Sign as All
 use Rattle.volume.specs.Sign.{All}
 use Rattle.volume.specs.Outward.{left-outward}
-use Rattle.volume.specs.Accepted.{any-at, double, Passed, passed, accepted, patch-of, patches-length, Vertex, vertices, corners, corners-under}
+use Rattle.volume.specs.Accepted.{any-at, double, Passed, passed, accepted, patch-of, Vertex, vertices, corners, corners-under}
 use Rattle.volume.specs.Pairs.{all-map}
 use Rattle.volume.specs.Output.{output-is}
 use Rattle.volume.specs.Groups.{Taking, GroupOk, groups-ok}
+use Rattle.body.specs.Patches.{length-patches}
 
 -- ---- a row's patch in an accepted body
 pub record PatchGood (p : Patch) : Type 0 where
@@ -120,7 +121,7 @@ volume-rule rule table ps ns is work f h =
     let w = walksOf patches (joined (names rule ps)) in
     let z = accepted rule table ps ns is work h in
     let c = passed table ps ns is (length work) z in
-    let l : length patches ≤ 4096 = subst (λ (k : ℕ). k ≤ 4096) (sym (patches-length (rowsOf table) ps ns is)) (c .rows) in
+    let l : length patches ≤ 4096 = subst (λ (k : ℕ). k ≤ 4096) (sym (length-patches (rowsOf table) ps ns is)) (c .rows) in
     subst (λ (after : List Patch). T (all (ruleHolds patches after) (w .groups))) (sym (output-is rule table ps ns is work c z))
     (all-pass (ruleHolds patches (turnedBody (w .colours) patches)) (w .groups)
     (all-map (group-rule patches (patch-good table ps ns is f c) (w .colours) l) (groups-ok patches (joined (names rule ps)) .groups)))

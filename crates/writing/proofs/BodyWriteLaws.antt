@@ -8,10 +8,10 @@ use lib.Seq.{drop-drop, drop-cons, length-take-le}
 use lib.Ieee.{Float}
 use Rattle.lists.specs.Lists.{sumOf, written}
 use Rattle.lists.specs.Stretches.{stretch-front, stretch-kept, front-less}
-use Rattle.body.specs.Body.{Row, trianglesOf, rowsOf, tableOf, allVertices, allIndices}
+use Rattle.body.specs.Body.{Row, trianglesOf, rowsOf, tableOf}
 use Rattle.body.specs.Rows.{noRow, rowAt, verticesBefore, indicesBefore}
-use Rattle.body.specs.Patches.{vertices-next, indices-next, vertices-room, indices-room}
-use Rattle.append.specs.Appended.{Appended, appended-none, appended-twice, appended-written}
+use Rattle.body.specs.Patches.{before-none, indices-next, indices-room, vertices-next, vertices-room}
+use Rattle.append.specs.Appended.{Appended, appended-none, appended-written, behind, part-low}
 use Rattle.counting.specs.Views.{View, rowViews, bodyViews, keptIn, rowPositions, rowNormals, rowIndices, viewedRow, viewedRows, viewedPositions, viewedNormals, viewedIndices}
 use Rattle.counting.specs.Counting.{Stands, viewsIn}
 use Rattle.writing.specs.Writing.{RowWritable, RowWritten, viewsOf, BodyWritable, BodyWritten}
@@ -57,26 +57,10 @@ pub record WritingRows (table : List ℕ) (ps ns : List Float) (is : List ℕ) (
   pub normals-long : length M ≡ length N
   pub indices-long : length J ≡ length I
 
--- the first row starts at 0
-starts : (rows : List Row) → (verticesBefore rows 0 ≡ 0) × (indicesBefore rows 0 ≡ 0)
-unfolding verticesBefore indicesBefore allVertices allIndices sumOf
-starts rows = (refl, refl)
-
 -- the flat table of no rows
 table-none : tableOf [] ≡ []
 unfolding tableOf
 table-none = refl
-
-module _ {A : Type 0} where
-  -- what was appended behind p items that were appended is appended to them
-  behind : {p : ℕ} {xs ys out mid new : List A} → Appended 0 xs out mid → length xs ≡ p → Appended p ys mid new → Appended 0 (xs ++ ys) out new
-  behind {p} {xs} {ys} {out} {mid} {new} a e b =
-      let f : p ≡ 0 + length xs = omega arith in
-      appended-twice a (subst (λ (n : ℕ). Appended n ys mid new) f b)
-
-  -- a part with a front before it and a rest behind it is at most as long as the whole
-  part-low : (xs ys zs all : List A) → xs ++ (ys ++ zs) ≡ all → length xs + length ys ≤ length all
-  part-low xs ys zs all e = omega (arith, ap length e, length-append xs (ys ++ zs), length-append ys zs)
 
 module _ {table : List ℕ} {ps ns : List Float} {is : List ℕ} {sag beyond : Float} {v list count at ts flags : ℕ} {W R : List ℕ} {P N : List Float} {I : List ℕ}
     (g : BodyWritable table ps ns is sag beyond v list count at ts flags W R P N I) where
@@ -85,8 +69,8 @@ module _ {table : List ℕ} {ps ns : List Float} {is : List ℕ} {sag beyond : F
   writing-none =
       record {
         low = omega arith;
-        at-v = sym (starts (rowsOf table) .0);
-        at-i = sym (starts (rowsOf table) .1);
+        at-v = sym (before-none (rowsOf table) .0);
+        at-i = sym (before-none (rowsOf table) .1);
         done-rows = [];
         done-positions = [];
         done-normals = [];

@@ -22,6 +22,7 @@ use Rattle.splits.specs.Found.{foundOnly, Spot, nearerSpot, spotOf, withSpot, w
 use Rattle.splits.specs.Places.{OnEdges}
 use Rattle.rings.specs.Rings.{coordinatesAt, newPositions, newNormals, startOf, endOf, numbersOf, ringAfter, fanGo}
 use Rattle.counting.specs.Views.{sidesAt, View, rowViews, keptIn, rowPositions, rowNormals, rowIndices}
+use Rattle.rings.specs.FanLaws.{first-none}
 
 -- ---- the edges of the entries
 
@@ -128,24 +129,12 @@ ring-length b c next C o =
     let D = c ∷ numbersOf 2 next C in
     omega (arith, length-append (A ++ B) D, length-append A B, numbers-length next C o)
 
--- each vertex behind the first has a triangle
-go-length : (a last : ℕ) (ys : List ℕ) → length (fanGo a true last ys) ≡ 3 * length ys
-unfolding fanGo
-go-length a last [] = refl
-go-length a last (y ∷ ys) = omega (arith, go-length a y ys)
-
--- so the vertices of a ring have one less than they are
-fan-behind : (a last : ℕ) (ys : List ℕ) → 1 ≤ length ys → length (fanGo a false last ys) + 3 ≡ 3 * length ys
-unfolding fanGo
-fan-behind a last [] l = absurd (omega arith)
-fan-behind a last (y ∷ ys) l = omega (arith, go-length a y ys)
-
 -- The fan has a triangle for each entry, and one more.
 pub fan-length : (a b c next : ℕ) (C : List Entry) → OnEdges C → length (fanGo a false 0 (ringAfter b c next C)) ≡ 3 * length C + 3
 fan-length a b c next C o =
     let long = ring-length b c next C o in
     let some-there : 1 ≤ length (ringAfter b c next C) = omega arith in
-    omega (arith, fan-behind a 0 (ringAfter b c next C) some-there)
+    omega (arith, first-none a 0 (ringAfter b c next C) some-there)
 
 -- A new vertex has three coordinates.
 pub positions-length : (ps : List Float) (C : List Entry) → length (newPositions ps C) ≡ 3 * length C
