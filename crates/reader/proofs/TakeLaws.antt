@@ -20,9 +20,9 @@ use Rattle.line_order.specs.Reading.{State, at, passesLimit, raised, takeUp, wi
 use Rattle.reader.specs.Slices.{Lent, boxed, defaulted, lent, lineFrom, lowThree, moved, onto, over, patternsOf, placed, readerOf, sagged, stateOf, takenUp}
 use Rattle.reader.specs.Added.{Ready, RowAdded, RowRoom, TriangleAdded, TriangleRoom, VertexAdded, VertexRoom}
 use Rattle.line_order.specs.Refusals.{Passed, passed}
-use Rattle.reader.proofs.RoomLaws.{Held, both-left, both-right, counts-of, held-of, last-index, last-vertex, some-row}
+use Rattle.reader.proofs.RoomLaws.{Held, counts-of, held-of, last-index, last-vertex, some-row}
 use Rattle.reader.proofs.StoreLaws.{changed, grown, kept}
-use Rattle.lists.specs.Both.{either-false}
+use Rattle.lists.specs.Both.{both-left, both-right, either-false}
 
 -- a list of six numbers at least is these six and a rest
 six : (P : List ℕ → Type 0) → ((a b c d e f : ℕ) (rest : List ℕ) → P (a ∷ b ∷ c ∷ d ∷ e ∷ f ∷ rest)) → (ns : List ℕ) → 6 < length ns → P ns
