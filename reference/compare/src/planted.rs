@@ -60,81 +60,27 @@ pub trait Answer {
     fn raise(&mut self, field: usize);
 }
 
-impl Answer for Turned {
-    fn refusal(&self) -> u32 {
-        self.refusal
-    }
+/// The fields of an answer that can be raised, the refusal first, each with what is added to it.
+macro_rules! raised {
+    ($answer:ty: $($field:ident + $more:expr),+) => {
+        impl Answer for $answer {
+            fn refusal(&self) -> u32 {
+                self.refusal
+            }
 
-    fn raise(&mut self, field: usize) {
-        match field {
-            0 => self.refusal += 1,
-            1 => self.turned += 1,
-            _ => self.against += 1,
+            fn raise(&mut self, field: usize) {
+                let raises: &[fn(&mut $answer)] = &[$(|answer| answer.$field += $more),+];
+                raises[field](self);
+            }
         }
-    }
+    };
 }
 
-impl Answer for Stitched {
-    fn refusal(&self) -> u32 {
-        self.refusal
-    }
-
-    fn raise(&mut self, field: usize) {
-        match field {
-            0 => self.refusal += 1,
-            1 => self.vertices += 1,
-            2 => self.indices += 1,
-            _ => self.splits += 1,
-        }
-    }
-}
-
-impl Answer for Assembled {
-    fn refusal(&self) -> u32 {
-        self.refusal
-    }
-
-    fn raise(&mut self, field: usize) {
-        match field {
-            0 => self.refusal += 1,
-            1 => self.vertices += 1,
-            2 => self.indices += 1,
-            3 => self.parts += 1,
-            4 => self.ranges += 1,
-            5 => self.failures += 1,
-            6 => self.edges += 1,
-            7 => self.opens += 1,
-            8 => self.overs += 1,
-            _ => self.closed += 1,
-        }
-    }
-}
-
-impl Answer for Measured {
-    fn refusal(&self) -> u32 {
-        self.refusal
-    }
-
-    fn raise(&mut self, field: usize) {
-        match field {
-            0 => self.refusal += 1,
-            _ => self.value += 1.0,
-        }
-    }
-}
-
-impl Answer for Judged {
-    fn refusal(&self) -> u32 {
-        self.refusal
-    }
-
-    fn raise(&mut self, field: usize) {
-        match field {
-            0 => self.refusal += 1,
-            _ => self.verdict += 1,
-        }
-    }
-}
+raised!(Turned: refusal + 1, turned + 1, against + 1);
+raised!(Stitched: refusal + 1, vertices + 1, indices + 1, splits + 1);
+raised!(Assembled: refusal + 1, vertices + 1, indices + 1, parts + 1, ranges + 1, failures + 1, edges + 1, opens + 1, overs + 1, closed + 1);
+raised!(Measured: refusal + 1, value + 1.0);
+raised!(Judged: refusal + 1, verdict + 1);
 
 /// Change what the planted fault changes, if it is one of this call.
 pub fn spoil(call: &str, answer: &mut dyn Answer, slices: &mut [&mut dyn Spoil], work: Option<&mut Work>) {
