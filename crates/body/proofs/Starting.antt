@@ -8,8 +8,8 @@ use lib.ListN.{length, getD, take, drop, set, length-set}
 use lib.Seq.{getD-set-same, getD-set-other, drop-set-lt, drop-drop}
 use borrow.Author.Count.{below-more}
 use Rattle.lists.specs.Lists.{sumOf}
-use Rattle.body.specs.Body.{Row, rowsOf, allVertices, allIndices}
-use Rattle.body.specs.Rows.{rowAt, Starts, WordsFit, verticesBefore, indicesBefore}
+use Rattle.body.specs.Body.{Row, rowsOf}
+use Rattle.body.specs.Rows.{rowAt, column, columnBefore, Starts}
 use Rattle.body.proofs.Summing.{Summing, summing-none, summing-more}
 
 -- the first k words are filled, and base is where row k starts
@@ -24,10 +24,10 @@ pub starting-none : (f : Row → ℕ) (table old : List ℕ) → Starting f tabl
 starting-none f table old = record { sum = summing-none f table; each = λ j l. absurd (omega arith); beyond = refl; long = refl }
 
 -- the word of row k is filled
-pub starting-more : {f : Row → ℕ} {table old : List ℕ} {k : ℕ} {w : List ℕ} {base r : ℕ} → WordsFit table old → Starting f table old k w base → k < length (rowsOf table)
+pub starting-more : {f : Row → ℕ} {table old : List ℕ} {k : ℕ} {w : List ℕ} {base r : ℕ} → length (rowsOf table) ≤ length old → Starting f table old k w base → k < length (rowsOf table)
     → r ≡ f (rowAt table k) → r < 4294967296 → Starting f table old (k + 1) (set w k base) (base + r)
 starting-more {f} {table} {old} {k} {w} {base} {r} fit s h e l =
-    let in-w : k < length w = omega (arith, fit .room, s .long) in
+    let in-w : k < length w = omega (arith, fit, s .long) in
     record {
       sum = summing-more (s .sum) h e l;
       each = below-more (λ j. getD (set w k base) j 0 ≡ sumOf f (take j (rowsOf table))) k
@@ -39,17 +39,9 @@ starting-more {f} {table} {old} {k} {w} {base} {r} fit s h e l =
     apart : (j : ℕ) → j < k → j ≡ k → ⊥
     apart j b q = omega arith
 
-module _ {table old : List ℕ} {k : ℕ} {w : List ℕ} {base : ℕ} (h : length (rowsOf table) ≤ k) where
-  -- every row is passed
-  at-end : {f : Row → ℕ} → Starting f table old k w base → k ≡ length (rowsOf table)
-  at-end s = le-antisymm (s .sum .low) h
-
-  -- each word says where its row's vertices start
-  pub vertices-start : Starting (λ r. r .vertices) table old k w base → Starts verticesBefore table old w
-  unfolding verticesBefore allVertices
-  vertices-start s = record { each = λ j l. s .each j (omega arith); beyond = subst (λ (n : ℕ). drop n w ≡ drop n old) (at-end s) (s .beyond) }
-
-  -- each word says where its row's indices start
-  pub indices-start : Starting (λ r. r .indices) table old k w base → Starts indicesBefore table old w
-  unfolding indicesBefore allIndices
-  indices-start s = record { each = λ j l. s .each j (omega arith); beyond = subst (λ (n : ℕ). drop n w ≡ drop n old) (at-end s) (s .beyond) }
+-- at the end each word says where its row starts
+pub starting-all : (j : ℕ) {table old : List ℕ} {k : ℕ} {w : List ℕ} {base : ℕ} → Starting (column j) table old k w base → length (rowsOf table) ≤ k → Starts (columnBefore j) table old w
+unfolding columnBefore
+starting-all j {table} {old} {k} {w} s h =
+    let e : k ≡ length (rowsOf table) = le-antisymm (s .sum .low) h in
+    record { each = λ i l. s .each i (omega arith); beyond = subst (λ (n : ℕ). drop n w ≡ drop n old) e (s .beyond) }

@@ -32,19 +32,9 @@ summing-more {f} {table} {k} {sum} {r} s h e l =
     }
 
 -- at the end the sum is the total
-total-is : {f : Row → ℕ} {table : List ℕ} {k sum : ℕ} → WholeRows table → Summing f table k sum → length (rowsOf table) ≤ k → Total (sumOf f (rowsOf table)) sum
+pub total-is : {f : Row → ℕ} {table : List ℕ} {k sum : ℕ} → WholeRows table → Summing f table k sum → length (rowsOf table) ≤ k → Total (sumOf f (rowsOf table)) sum
 total-is {f} {table} {k} {sum} w s h =
     record { is = s .is ∙ sum-all f (rowsOf table) k h; small = omega (arith, s .small, s .low, w .few) }
-
--- the total of the vertices
-pub total-vertices : {table : List ℕ} {k sum : ℕ} → WholeRows table → Summing (λ r. r .vertices) table k sum → length (rowsOf table) ≤ k → Total (allVertices (rowsOf table)) sum
-unfolding allVertices
-total-vertices w s h = total-is w s h
-
--- the total of the indices
-pub total-indices : {table : List ℕ} {k sum : ℕ} → WholeRows table → Summing (λ r. r .indices) table k sum → length (rowsOf table) ≤ k → Total (allIndices (rowsOf table)) sum
-unfolding allIndices
-total-indices w s h = total-is w s h
 
 -- the words that the totals need
 pub needed-is : (table : List ℕ) {v i n : ℕ} → Total (allIndices (rowsOf table)) i → n ≡ length (rowsOf table) → Total (allVertices (rowsOf table)) v

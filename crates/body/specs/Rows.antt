@@ -1,10 +1,11 @@
 -- Row k of a flat table, where its numbers stand, and where its vertices and indices start. Assumes nothing.
-use mathlib.Core.Path.{_≡_, refl, _∙_}
+use mathlib.Core.Path.{_≡_, refl, sym, ap, _∙_}
 use mathlib.Core.List.{List, [], _∷_}
 use Prim.Native.Nat.{ℕ, zero, suc, _+_, _*_, _/_, _≤_, _<_}
-use native.Mathlib.Nat.{le-of-suc-le-suc, not-suc-le-zero}
+use native.Mathlib.Nat.{add-zero, le-of-suc-le-suc, not-suc-le-zero}
 use native.Mathlib.Omega.{arith}
 use lib.ListN.{length, getD, take, drop}
+use Rattle.lists.specs.Lists.{sumOf}
 use Rattle.body.specs.Body.{Row, rowsOf, allVertices, allIndices}
 
 -- a row of zeros: what lies past the end
@@ -14,6 +15,18 @@ noRow = record { shell = 0; face = 0; outcome = 0; vertices = 0; indices = 0 }
 -- row k of the flat table
 unfoldable pub rowAt : List ℕ → ℕ → Row
 rowAt table k = getD (rowsOf table) k noRow
+
+-- number j of a row, as it stands in the flat table: shell, face, outcome, vertices, indices
+abbrev pub column : ℕ → Row → ℕ
+column zero r = r .shell
+column (suc zero) r = r .face
+column (suc (suc zero)) r = r .outcome
+column (suc (suc (suc zero))) r = r .vertices
+column (suc (suc (suc (suc j)))) r = r .indices
+
+-- the sum of column j over the rows before row k
+unfoldable pub columnBefore : ℕ → List Row → ℕ → ℕ
+columnBefore j rows k = sumOf (column j) (take k rows)
 
 -- where row k's vertices start: the vertices of the rows before it
 unfoldable pub verticesBefore : List Row → ℕ → ℕ
@@ -36,6 +49,16 @@ pub record WholeRows (table : List ℕ) : Type 0 where
 -- a word for each row
 pub record WordsFit (table words : List ℕ) : Type 0 where
   pub rows : WholeRows table
+  pub room : length (rowsOf table) ≤ length words
+
+-- a column of a table of whole rows
+pub record Column (table : List ℕ) (j : ℕ) : Type 0 where
+  pub rows : WholeRows table
+  pub column : j < 5
+
+-- a column, and a word for each row
+pub record ColumnWords (table words : List ℕ) (j : ℕ) : Type 0 where
+  pub column : Column table j
   pub room : length (rowsOf table) ≤ length words
 
 -- r is the total; 4,096 counts of 32 bits stay below 2 ^ 45
@@ -94,3 +117,12 @@ row-flat (s ∷ f ∷ o ∷ v ∷ i ∷ rest) (suc k) h =
 
     e4 : suc (suc (suc (suc (suc (5 * k + 4))))) ≡ 5 * suc k + 4
     e4 = omega arith
+
+-- number j of row k stands at 5 k + j
+pub row-column : (table : List ℕ) (k j : ℕ) → k < length (rowsOf table) → j < 5 → getD table (5 * k + j) 0 ≡ column j (rowAt table k)
+row-column table k zero h l = ap (λ (n : ℕ). getD table n 0) (add-zero (5 * k)) ∙ sym (ap (λ (r : Row). r .shell) (row-flat table k h))
+row-column table k (suc zero) h l = sym (ap (λ (r : Row). r .face) (row-flat table k h))
+row-column table k (suc (suc zero)) h l = sym (ap (λ (r : Row). r .outcome) (row-flat table k h))
+row-column table k (suc (suc (suc zero))) h l = sym (ap (λ (r : Row). r .vertices) (row-flat table k h))
+row-column table k (suc (suc (suc (suc zero)))) h l = sym (ap (λ (r : Row). r .indices) (row-flat table k h))
+row-column table k (suc (suc (suc (suc (suc j))))) h l = absurd (omega arith)

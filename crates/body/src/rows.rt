@@ -1,10 +1,10 @@
 // The rows of the flat table, five numbers each.
 
 ghost use mathlib.Core.Path.{_≡_};
-ghost use Prim.Native.Nat.{_+_, _*_, _<_};
-ghost use lib.ListN.{length, getD};
+ghost use Prim.Native.Nat.{_<_};
+ghost use lib.ListN.{length};
 ghost use Rattle.body.specs.Body.{rowsOf};
-ghost use Rattle.body.specs.Rows.{InTable, rowAt};
+ghost use Rattle.body.specs.Rows.{InTable, column, rowAt};
 
 // How many numbers of the flat table make a row.
 pub const ROW_WIDTH: usize = 5;
@@ -17,9 +17,9 @@ pub fn row_count(rows: &[u32]) -> usize
 }
 
 // Number j of row k.
-fn number(rows: &[u32], k: usize, j: usize) -> u32
+pub fn number(rows: &[u32], k: usize, j: usize) -> u32
     requires { ⌜ InTable (now rows) k j ⌝ }
-    ensures { λ r. ⌜ r ≡ getD (now (rows .entry)) (5 * k + j) 0 ⌝ }
+    ensures { λ r. ⌜ r ≡ column j (rowAt (now (rows .entry)) k) ⌝ }
 {
     rows[ROW_WIDTH * k + j]
 }

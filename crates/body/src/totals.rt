@@ -1,25 +1,33 @@
 // The vertices and indices of all rows, and the words of the work area that they need.
 
-use crate::rows::indices;
+use crate::rows::number;
 use crate::rows::row_count;
-use crate::rows::vertices;
 ghost use mathlib.Core.Path.{_≡_};
+ghost use Rattle.lists.specs.Lists.{sumOf};
 ghost use Rattle.body.specs.Body.{allIndices, allVertices, rowsOf, workNeeded};
-ghost use Rattle.body.specs.Rows.{Total, WholeRows};
+ghost use Rattle.body.specs.Rows.{Column, Total, WholeRows, column};
+
+// The sum of column j over all rows.
+fn total(rows: &[u32], j: usize) -> usize
+    requires { ⌜ Column (now rows) j ⌝ }
+    ensures { λ r. ⌜ Total (sumOf (column j) (rowsOf (now (rows .entry)))) r ⌝ }
+{
+    let n = row_count(rows);
+    let mut sum = 0usize;
+    let mut k = 0usize;
+    while k < n {
+        sum += number(rows, k, j) as usize;
+        k += 1;
+    }
+    sum
+}
 
 // V: the vertices of all rows.
 pub fn total_vertices(rows: &[u32]) -> usize
     requires { ⌜ WholeRows (now rows) ⌝ }
     ensures { λ r. ⌜ Total (allVertices (rowsOf (now (rows .entry)))) r ⌝ }
 {
-    let n = row_count(rows);
-    let mut sum = 0usize;
-    let mut k = 0usize;
-    while k < n {
-        sum += vertices(rows, k) as usize;
-        k += 1;
-    }
-    sum
+    total(rows, 3)
 }
 
 // I: the indices of all rows.
@@ -27,14 +35,7 @@ pub fn total_indices(rows: &[u32]) -> usize
     requires { ⌜ WholeRows (now rows) ⌝ }
     ensures { λ r. ⌜ Total (allIndices (rowsOf (now (rows .entry)))) r ⌝ }
 {
-    let n = row_count(rows);
-    let mut sum = 0usize;
-    let mut k = 0usize;
-    while k < n {
-        sum += indices(rows, k) as usize;
-        k += 1;
-    }
-    sum
+    total(rows, 4)
 }
 
 // How many words of the work area a call needs.

@@ -1,6 +1,6 @@
 -- `body::rows::number` meets its contract. Assumes nothing.
 use native.Mathlib.Omega.{arith}
-use Rattle.body.specs.Rows.{row-room}
+use Rattle.body.specs.Rows.{row-room, row-column}
 use borrow.Author.Needs.{needs}
 use Rattle.body.proofs.rows.number.Statement.{statement}
 use Rattle.body.proofs.rows.number.Tie as tie
@@ -18,7 +18,7 @@ shared-slice-read-result : tie.Need-shared-slice-read-result
 shared-slice-read-result c = omega (arith, row-room (c .before .args .rows .now) (c .before .args .k) (c .before .pre .row))
 
 returns : tie.Need-returns
-returns c = search needs
+returns c = search (needs, row-column)
 
 pub number-spec : {M : Type 1} → statement M
 number-spec =

@@ -1,56 +1,15 @@
--- `body::totals::total_indices` meets its contract. The sum so far is that of the first k rows. Assumes nothing.
-use Prim.Native.Nat.{_-_}
-use native.Mathlib.Omega.{arith}
-use Rattle.body.proofs.Summing.{Summing, summing-none, summing-more, total-indices}
+-- `body::totals::total_indices` meets its contract. Assumes nothing.
+use borrow.Author.Needs.{needs}
+use Rattle.body.specs.Body.{allIndices}
 use Rattle.body.proofs.totals.total_indices.Statement.{statement}
 use Rattle.body.proofs.totals.total_indices.Tie as tie
-use borrow.Author.Needs.{needs}
 
-abbrev Inv-loop : tie.InvT-loop
-Inv-loop rows n sum₀ k₀ sum k = Summing (λ r. r .indices) rows k sum
+total-requires : tie.Need-total-requires
+total-requires c κs = search needs
 
-abbrev μ-loop : tie.MeasureT-loop
-μ-loop rows n sum₀ k₀ sum k = n - k
-
-row-count-requires : tie.Need-row-count-requires Inv-loop μ-loop
-row-count-requires c κs = search needs
-
-loop-holds : tie.Need-loop-holds Inv-loop μ-loop
-loop-holds c = search summing-none
-
-indices-requires : tie.Need-indices-requires Inv-loop μ-loop
-indices-requires c κs = search needs
-
-cast-sum : tie.Need-cast-sum Inv-loop μ-loop
-cast-sum c = search needs
-
-add-sum : tie.Need-add-sum Inv-loop μ-loop
-add-sum c = search needs
-
-add-k : tie.Need-add-k Inv-loop μ-loop
-add-k c = search needs
-
-loop-less : tie.Need-loop-less Inv-loop μ-loop
-loop-less c = search needs
-
-loop-again : tie.Need-loop-again Inv-loop μ-loop
-loop-again c = summing-more (c .before .before .loop .inv) (omega arith) (c .indices .ensures) (omega arith)
-
-returns : tie.Need-returns Inv-loop μ-loop
-returns c = total-indices (c .before .before .before .before .pre) (c .before .loop .inv) (omega arith)
+returns : tie.Need-returns
+unfolding allIndices
+returns c = search needs
 
 pub total-indices-spec : {M : Type 1} → statement M
-total-indices-spec =
-    tie.close
-    (tie.spec
-    Inv-loop
-    μ-loop
-    row-count-requires
-    loop-holds
-    indices-requires
-    cast-sum
-    add-sum
-    add-k
-    loop-less
-    loop-again
-    returns)
+total-indices-spec = tie.close (tie.spec total-requires returns)
