@@ -5,13 +5,14 @@ use mathlib.Core.Bool.{Bool, true, false, cond}
 use Prim.Native.Nat.{ℕ, suc, _+_, _-_, _*_, _<_, _≤_}
 use native.Mathlib.Omega.{arith}
 use native.Mathlib.Decide.{ℕ-discrete}
-use lib.ListN.{length, getD, set, length-set}
-use lib.Seq.{getD-set-same, getD-set-other, take-set-le, drop-set-lt}
-use borrow.Author.Count.{below-more}
+use lib.ListN.{length, getD, set, replicate, length-replicate, length-set}
+use lib.Seq.{sets, getD-set-same, getD-set-other, take-set-le, drop-set-lt}
+use Rattle.lists.specs.Sets.{getD-sets-in}
 use Rattle.walk.specs.Uses.{Uses, own, far, records, touches, records-skip, records-same, records-yes, touch-none, touch-own, touch-far, touch-other}
 use Rattle.walk.specs.Area.{Within, usesOf}
 use Rattle.walk.specs.Chains.{linkFrom, Chains, Chainable, UseAt, PairAt, ChainNext, Chained, linked}
-use Rattle.walk.specs.Frames.{within-set, within-more}
+use Rattle.walk.specs.Frames.{within-sets, within-more}
+use Rattle.walk.specs.Kept.{zeros}
 use Rattle.walk.specs.Links.{uses-kept, own-at, run-at, first-there, far-is, sound-kept}
 
 -- a link, by cases on its first use
@@ -199,45 +200,38 @@ first-index a = omega (arith, first-there (a .given .sound) (a .inside), a .give
 pub far-read : {n m i : ℕ} {W : List ℕ} → UseAt n m i W → getD W (n + getD W i 0) 0 ≡ far (usesOf n W) i
 far-read a = far-is (a .given .sound) (a .inside)
 
--- ---- clearing, with x heads done
+-- ---- clearing
 
--- the heads below x are 0
-pub record Clearing (n m : ℕ) (W : List ℕ) (x : ℕ) (E : List ℕ) : Type 0 where
-  pub low : x ≤ m
-  pub zero-below : (k : ℕ) → k < x → getD E (5 * n + k) 0 ≡ 0
-  pub within : Within (3 * n) (5 * n + m) W E
-  pub long : length E ≡ length W
-
--- one head more
-pub clearing-more : {n m x : ℕ} {W E : List ℕ} → Chainable n m W → Clearing n m W x E → x < m → Clearing n m W (x + 1) (set E (5 * n + x) 0)
-clearing-more {n} {m} {x} {W} {E} g p l =
-    record {
-      low = omega arith;
-      zero-below =
-          below-more (λ k. getD (set E (5 * n + x) 0) (5 * n + k) 0 ≡ 0) x
-          (λ k h. getD-set-other E (5 * n + x) (5 * n + k) 0 0 (omega arith) ∙ p .zero-below k h)
-          (getD-set-same E (5 * n + x) 0 0 (omega (arith, p .long, g .room)));
-      within = within-more (p .within) (within-set 0 E (omega arith) (omega arith));
-      long = simp length-set (p .long);
-    }
-
--- all
-pub clearing-all : {n m x : ℕ} {W E : List ℕ} → Clearing n m W x E → m ≤ x → Chained n m n W E
+-- heads that are 0 are empty chains
+pub heads-cleared : {n m : ℕ} {W E : List ℕ} → Chainable n m W → E ≡ sets W (5 * n) (replicate (5 * n + m - 5 * n) 0) → Chained n m n W E
 unfolding linkFrom
-clearing-all {n} {m} {x} {W} {E} p h =
-    record {
-      uses = uses-kept n W E (p .within .front);
-      chains =
-          record {
-            heads = λ y l. p .zero-below y (omega (arith, p .low)) ∙ ap (linkFrom (usesOf n E) y n) none;
-            owns = λ k a b. absurd (omega arith);
-            fars = λ k a b. absurd (omega arith);
-          };
-      within = p .within;
-    }
+heads-cleared {n} {m} {W} {E} g e = subst (λ (F : List ℕ). Chained n m n W F) (sym filled) cleared
   where
+    gap : 5 * n + m - 5 * n ≡ m
+    gap = omega arith
+
+    filled : E ≡ sets W (5 * n) (replicate m 0)
+    filled = e ∙ ap (λ (k : ℕ). sets W (5 * n) (replicate k 0)) gap
+
+    long : length (replicate {A = ℕ} m 0) ≡ m
+    long = length-replicate m 0
+
+    within : Within (3 * n) (5 * n + m) W (sets W (5 * n) (replicate m 0))
+    within = within-sets (replicate m 0) W (omega arith) (omega (arith, long))
+
     none : 0 ≡ n - n
     none = omega arith
+
+    empty : (y : ℕ) → y < m → getD (sets W (5 * n) (replicate m 0)) (5 * n + y) 0 ≡ 0
+    empty y l = getD-sets-in W (5 * n) (replicate m 0) y 0 (omega (arith, long)) (omega (arith, g .room)) ∙ zeros m y
+
+    cleared : Chained n m n W (sets W (5 * n) (replicate m 0))
+    cleared =
+        record {
+          uses = uses-kept n W _ (within .front);
+          chains = record { heads = λ y l. empty y l ∙ ap (linkFrom (usesOf n _) y n) none; owns = λ k a b. absurd (omega arith); fars = λ k a b. absurd (omega arith) };
+          within = within;
+        }
 
 -- ---- all uses, with those from i on in the chains
 

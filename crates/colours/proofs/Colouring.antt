@@ -1,54 +1,41 @@
 -- Laws of clearing the colours and of inverting a group, which the proofs of this crate cite. Assumes nothing.
 use mathlib.Core.Path.{_≡_, refl, sym, ap, subst, _∙_}
-use mathlib.Core.List.{List, [], _∷_, _++_}
-use Prim.Native.Nat.{ℕ, _+_, _*_, _<_, _≤_}
+use mathlib.Core.List.{List}
+use Prim.Native.Nat.{ℕ, _+_, _-_, _*_, _<_, _≤_}
 use native.Mathlib.Omega.{arith}
-use native.Mathlib.Nat.{le-antisymm}
 use native.Mathlib.Numerals.{add-one}
 use native.Mathlib.Decide.{ℕ-discrete}
-use lib.ListN.{length, getD, take, drop, set, replicate, length-set, length-drop, replicate-append-replicate, drop-of-length-le}
-use lib.Seq.{getD-set-same, getD-set-other, take-set-lt, drop-set-add, take-suc-set, drop-cons}
+use lib.ListN.{length, getD, take, drop, set, replicate, length-replicate, length-set, drop-of-length-le}
+use lib.Seq.{sets, getD-set-same, getD-set-other, take-set-lt, drop-set-add, drop-cons}
 use Rattle.walk.specs.Walk.{opposite, inverted}
 use Rattle.walk.specs.Area.{Within}
 use Rattle.walk.specs.Group.{queueOf, coloursOf, Colours, Queue, Uncoloured, Invertible, GroupInverted}
-use Rattle.lists.specs.Stretches.{front-at}
-use Rattle.walk.specs.Frames.{within-none, within-set, within-more}
+use Rattle.lists.specs.Stretches.{front-at, stretch-sets}
+use Rattle.walk.specs.Frames.{within-none, within-set, within-sets, within-more}
 use Rattle.walk.specs.Kept.{colour-at, queue-at, queue-long, zeros}
 
--- ---- clearing, with the colours of x rows done
+-- ---- clearing
 
--- the rows below x have no colour
-pub record Uncolouring (n m : ℕ) (W : List ℕ) (x : ℕ) (E : List ℕ) : Type 0 where
-  pub low : x ≤ m
-  pub list : take x (drop (5 * n + 2 * m) E) ≡ replicate x 0
-  pub within : Within (5 * n + 2 * m) (5 * n + 3 * m) W E
-  pub long : length E ≡ length W
-
--- one row more
-pub uncolouring-more : {n m x : ℕ} {W E : List ℕ} → 5 * n + 3 * m ≤ length W → Uncolouring n m W x E → x < m → Uncolouring n m W (x + 1) (set E (5 * n + 2 * m + x) 0)
-uncolouring-more {n} {m} {x} {W} {E} room p l =
-    record {
-      low = omega arith;
-      list =
-          ap (take (x + 1)) (drop-set-add (5 * n + 2 * m) E x 0)
-          ∙ rw add-one (take-suc-set (drop (5 * n + 2 * m) E) x 0 (simp length-drop (omega (arith, p .long))))
-          ∙ ap (λ (v : List ℕ). v ++ 0 ∷ []) (p .list)
-          ∙ replicate-append-replicate x 1 0;
-      within = within-more (p .within) (within-set 0 E (omega arith) (omega arith));
-      long = simp length-set (p .long);
-    }
-
--- all rows
-pub uncolouring-all : {n m x : ℕ} {W E : List ℕ} → Uncolouring n m W x E → m ≤ x → Uncoloured n m W E
-uncolouring-all {n} {m} {x} {W} {E} p h =
+-- colours that are 0 are those of rows that no walk has met
+pub uncoloured : {n m : ℕ} {W E : List ℕ} → 5 * n + 3 * m ≤ length W → E ≡ sets W (5 * n + 2 * m) (replicate (5 * n + 2 * m + m - (5 * n + 2 * m)) 0) → Uncoloured n m W E
+uncoloured {n} {m} {W} {E} room e =
     record {
       colours = all;
       known = record { known = λ y l. omega (arith, sym (colour-at n m E y l) ∙ ap (λ (c : List ℕ). getD c y 0) all ∙ zeros m y) };
-      within = p .within;
+      within = subst (λ (F : List ℕ). Within (5 * n + 2 * m) (5 * n + 3 * m) W F) (sym filled) (within-sets (replicate m 0) W (omega arith) (omega (arith, long)));
     }
   where
+    gap : 5 * n + 2 * m + m - (5 * n + 2 * m) ≡ m
+    gap = omega arith
+
+    filled : E ≡ sets W (5 * n + 2 * m) (replicate m 0)
+    filled = e ∙ ap (λ (k : ℕ). sets W (5 * n + 2 * m) (replicate k 0)) gap
+
+    long : length (replicate {A = ℕ} m 0) ≡ m
+    long = length-replicate m 0
+
     all : take m (drop (5 * n + 2 * m) E) ≡ replicate m 0
-    all = subst (λ (k : ℕ). take k (drop (5 * n + 2 * m) E) ≡ replicate k 0) (le-antisymm (p .low) h) (p .list)
+    all = ap (λ (F : List ℕ). take m (drop (5 * n + 2 * m) F)) filled ∙ stretch-sets W (5 * n + 2 * m) (replicate m 0) m long (omega arith)
 
 -- ---- inverting, with the first k rows of the queue done
 

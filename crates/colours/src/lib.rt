@@ -31,11 +31,7 @@ pub fn uncolour(w: &mut [u64], n: usize, m: usize)
     ensures { λ _. ⌜ Uncoloured n m (now (w .entry)) (now (w .exit)) ⌝ }
 {
     let colours = 5 * n + 2 * m;
-    let mut x = 0;
-    while x < m {
-        w[colours + x] = 0;
-        x += 1;
-    }
+    zeros::fill(w, colours, colours + m, 0);
 }
 
 // The other of the two colours.

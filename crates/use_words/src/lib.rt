@@ -3,6 +3,5 @@
 mod rows;
 mod words;
 
-pub use rows::fill;
 pub use rows::name_row;
 pub use rows::run_row;

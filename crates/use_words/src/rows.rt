@@ -5,8 +5,8 @@ use crate::words::point_at;
 use crate::words::run_triangle;
 ghost use mathlib.Core.Path.{_≡_};
 ghost use mathlib.Core.List.{map};
-ghost use Prim.Native.Nat.{_+_, _-_, _≤_};
-ghost use lib.ListN.{length, take, drop, replicate};
+ghost use Prim.Native.Nat.{_+_, _-_};
+ghost use lib.ListN.{take, drop};
 ghost use lib.Seq.{sets};
 ghost use Rattle.body.specs.Body.{trianglesOf};
 ghost use Rattle.edges.specs.Edges.{triangleUses};
@@ -59,17 +59,5 @@ pub fn run_row(
         let c = point_at(indices, w, points, k + 2);
         run_triangle(w, at + k, a, b, c);
         k += 3;
-    }
-}
-
-// The words from `from` up to `to` become x.
-pub fn fill(w: &mut [u64], from: usize, to: usize, x: u64)
-    requires { ⌜ to ≤ length (now w) ⌝ }
-    ensures { λ _. ⌜ now (w .exit) ≡ sets (now (w .entry)) from (replicate (to - from) x) ⌝ }
-{
-    let mut k = from;
-    while k < to {
-        w[k] = x;
-        k += 1;
     }
 }
