@@ -1,12 +1,14 @@
 // A row's five numbers in the flat table.
 
 ghost use mathlib.Core.List.{[], _∷_};
-ghost use Prim.Native.Nat.{_+_, _*_, _≤_};
+ghost use Prim.Native.Nat.{_+_, _*_, _<_, _≤_};
 ghost use lib.ListN.{length};
+ghost use Rattle.body.specs.Body.{rowsOf};
+ghost use Rattle.body.specs.Rows.{rowAt};
 ghost use Rattle.append.specs.Appended.{Appended};
 
 // The five numbers of row k are written to the table `out`, at place 5·k.
-pub fn put_row(
+fn put_row(
     out: &mut [u32],
     k: usize,
     shell: u32,
@@ -24,4 +26,17 @@ pub fn put_row(
     out[o + 2] = outcome;
     out[o + 3] = vertices;
     out[o + 4] = indices;
+}
+
+// Row k of `rows` is written as row k of the table `out`, with the counts that it has now.
+pub fn put_counts(rows: &[u32], k: usize, vertices: u32, indices: u32, out: &mut [u32])
+    requires { ⌜ k < length (rowsOf (now rows)) ⌝ }
+    requires { ⌜ 5 * k + 5 ≤ length (now out) ⌝ }
+    ensures { λ _. ⌜ Appended (5 * k) (rowAt (now (rows .entry)) k .shell ∷ rowAt (now (rows .entry)) k .face ∷ rowAt (now (rows .entry)) k .outcome ∷ vertices ∷ indices ∷ [])
+        (now (out .entry)) (now (out .exit)) ⌝ }
+{
+    let shell = body::shell(rows, k);
+    let face = body::face(rows, k);
+    let outcome = body::outcome(rows, k);
+    put_row(out, k, shell, face, outcome, vertices, indices);
 }

@@ -1,6 +1,6 @@
 // The stitched body written to the second slices.
 
-use crate::table::put_row;
+use crate::table::put_counts;
 use append::append_stretch;
 use counting::find_splits;
 use splits::Finder;
@@ -164,15 +164,9 @@ pub fn write_body(
             ends.vertices,
             ends.indices,
         );
-        put_row(
-            out_rows,
-            k,
-            body::shell(rows, k),
-            body::face(rows, k),
-            body::outcome(rows, k),
-            (r.vertices - ends.vertices) as u32,
-            (r.indices - ends.indices) as u32,
-        );
+        let more_vertices = (r.vertices - ends.vertices) as u32;
+        let more_indices = (r.indices - ends.indices) as u32;
+        put_counts(rows, k, more_vertices, more_indices, out_rows);
         ends = r;
         base += vertices;
         i = end;

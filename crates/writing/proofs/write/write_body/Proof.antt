@@ -48,49 +48,40 @@ write-row-requires c κs =
     let q = t .before in
     row-writable (q .before .before .before .before .before .before .before .before .before .before .before .pre) (q .loop .inv) (q .before .row-count .ensures) refl (t .loop-test .taken) (i .before .vertices .ensures) (omega (arith, i .indices .ensures))
 
-shell-requires : tie.Need-shell-requires Inv-loop μ-loop
-shell-requires c κs = search needs
+sub-more-vertices : tie.Need-sub-more-vertices Inv-loop μ-loop
+sub-more-vertices c = search needs
 
-face-requires : tie.Need-face-requires Inv-loop μ-loop
-face-requires c κs = search needs
-
-outcome-requires : tie.Need-outcome-requires Inv-loop μ-loop
-outcome-requires c κs = search needs
-
-sub-put-row : tie.Need-sub-put-row Inv-loop μ-loop
-sub-put-row c = search needs
-
-cast-put-row : tie.Need-cast-put-row Inv-loop μ-loop
-cast-put-row c =
-    let d = c .before .before .before .before .before .before .before .before .before .before .before .before .before .before in
+cast-more-vertices : tie.Need-cast-more-vertices Inv-loop μ-loop
+cast-more-vertices c =
+    let d = c .before .before .before .before .before .before .before .before .before .before in
     let i = d .before .before .before .before .before in
     let t = i .before .before in
     let q = t .before in
     let l = vertices-small (q .before .before .before .before .before .before .before .before .before .before .before .pre) (q .loop .inv) (q .before .row-count .ensures) refl (t .loop-test .taken) (i .before .vertices .ensures) (omega (arith, i .indices .ensures)) (d .write-row .ensures) in
     omega (arith, l)
 
-sub-put-row-2 : tie.Need-sub-put-row-2 Inv-loop μ-loop
-sub-put-row-2 c = search needs
+sub-more-indices : tie.Need-sub-more-indices Inv-loop μ-loop
+sub-more-indices c = search needs
 
-cast-put-row-2 : tie.Need-cast-put-row-2 Inv-loop μ-loop
-cast-put-row-2 c =
-    let d = c .before .before .before .before .before .before .before .before .before .before .before .before .before .before .before .before in
+cast-more-indices : tie.Need-cast-more-indices Inv-loop μ-loop
+cast-more-indices c =
+    let d = c .before .before .before .before .before .before .before .before .before .before .before .before in
     let i = d .before .before .before .before .before in
     let t = i .before .before in
     let q = t .before in
     let l = indices-small (q .before .before .before .before .before .before .before .before .before .before .before .pre) (q .loop .inv) (q .before .row-count .ensures) refl (t .loop-test .taken) (i .before .vertices .ensures) (omega (arith, i .indices .ensures)) (d .write-row .ensures) in
     omega (arith, l)
 
-put-row-requires : tie.Need-put-row-requires Inv-loop μ-loop
-put-row-requires c κs =
-    let t = c .before .before .before .before .before .before .before .before .before .before .before .before .before .before .before .before .before .before .before .before .before .before .before in
+put-counts-requires : tie.Need-put-counts-requires Inv-loop μ-loop
+put-counts-requires c κs =
+    let t = c .before .before .before .before .before .before .before .before .before .before .before .before .before .before .before .before .before .before .before .before in
     let q = t .before in
     let l = row-room (q .before .before .before .before .before .before .before .before .before .before .before .pre) (q .loop .inv) (q .before .row-count .ensures) refl (t .loop-test .taken) refl refl in
     omega (arith, l)
 
 add-base : tie.Need-add-base Inv-loop μ-loop
 add-base c =
-    let i = c .before .before .before .before .before .before .before .before .before .before .before .before .before .before .before .before .before .before .before .before .before .before .before .before in
+    let i = c .before .before .before .before .before .before .before .before .before .before .before .before .before .before .before .before .before .before .before .before .before in
     let t = i .before .before in
     let q = t .before in
     let p = q .before .before .before .before .before .before .before .before .before .before .before .pre in
@@ -99,26 +90,25 @@ add-base c =
 
 add-k : tie.Need-add-k Inv-loop μ-loop
 add-k c =
-    let t = c .before .before .before .before .before .before .before .before .before .before .before .before .before .before .before .before .before .before .before .before .before .before .before .before .before .before in
+    let t = c .before .before .before .before .before .before .before .before .before .before .before .before .before .before .before .before .before .before .before .before .before .before .before in
     let q = t .before in
     let p = q .before .before .before .before .before .before .before .before .before .before .before .pre in
     omega (arith, t .loop-test .taken, q .before .row-count .ensures, p .body .rows .few)
 
 loop-less : tie.Need-loop-less Inv-loop μ-loop
 loop-less c =
-    let t = c .before .before .before .before .before .before .before .before .before .before .before .before .before .before .before .before .before .before .before .before .before .before .before .before .before .before in
+    let t = c .before .before .before .before .before .before .before .before .before .before .before .before .before .before .before .before .before .before .before .before .before .before .before in
     omega (arith, t .loop-test .taken)
 
 loop-again : tie.Need-loop-again Inv-loop μ-loop
 loop-again c =
     let e = c .before .before in
-    let o = e .before .before .before .before .before in
-    let d = o .before .before .before .before .before .before .before .before .before .before .before .before in
+    let d = e .before .before .before .before .before .before .before .before .before .before .before .before .before .before in
     let i = d .before .before .before .before .before in
     let t = i .before .before in
     let q = t .before in
-    writing-more (q .before .before .before .before .before .before .before .before .before .before .before .pre) (q .loop .inv) (q .before .row-count .ensures) refl (t .loop-test .taken) (i .before .vertices .ensures) (omega (arith, i .indices .ensures)) (d .write-row .ensures) (o .before .before .shell .ensures) (o .before .face .ensures) (o .outcome .ensures) refl refl (e .put-row .ensures)
-    (omega (arith, d .write-row .kept)) (omega (arith, e .put-row .kept)) (omega (arith, d .write-row .kept)) (omega (arith, d .write-row .kept)) (omega (arith, d .write-row .kept))
+    writing-more (q .before .before .before .before .before .before .before .before .before .before .before .pre) (q .loop .inv) (q .before .row-count .ensures) refl (t .loop-test .taken) (i .before .vertices .ensures) (omega (arith, i .indices .ensures)) (d .write-row .ensures) refl refl refl refl refl (e .put-counts .ensures)
+    (omega (arith, d .write-row .kept)) (omega (arith, e .put-counts .kept)) (omega (arith, d .write-row .kept)) (omega (arith, d .write-row .kept)) (omega (arith, d .write-row .kept))
 
 same-length : tie.Need-same-length Inv-loop μ-loop
 same-length c = search needs
@@ -152,14 +142,11 @@ write-body-spec =
     cast-end
     add-end
     write-row-requires
-    shell-requires
-    face-requires
-    outcome-requires
-    sub-put-row
-    cast-put-row
-    sub-put-row-2
-    cast-put-row-2
-    put-row-requires
+    sub-more-vertices
+    cast-more-vertices
+    sub-more-indices
+    cast-more-indices
+    put-counts-requires
     add-base
     add-k
     loop-less
