@@ -72,21 +72,21 @@ unfolding rowAt
 indices-in {table} {base} {i} {k} a l = omega (arith, a .at-i, indices-room (rowsOf table) k l)
 
 -- the decisions on the rows before row k are written: W became E
-pub record Judging (table : List ℕ) (ps : List Float) (is : List ℕ) (box : Aabb) (materials : List ℕ) (default : ℕ) (W : List ℕ) (at base i k : ℕ) (E : List ℕ) : Type 0 where
+pub record Judging (table : List ℕ) (ps : List Float) (is : List ℕ) (box : Aabb) (materials : List ℕ) (default : ℕ) (W : List ℕ) (base i k : ℕ) (E : List ℕ) : Type 0 where
   pub here : AtRow table base i k
   pub done : List ℕ
   pub are : done ++ map (decisionOf box materials default) (restOf table ps [] is k base i) ≡ map (decisionOf box materials default) (bare table ps is)
   pub many : length done ≡ k
-  pub put : E ≡ sets W at done
+  pub put : E ≡ sets W 0 done
   pub long : length E ≡ length W
 
-module _ {table : List ℕ} {ps : List Float} {is : List ℕ} {box : Aabb} {materials : List ℕ} {default : ℕ} {W : List ℕ} {at : ℕ} where
+module _ {table : List ℕ} {ps : List Float} {is : List ℕ} {box : Aabb} {materials : List ℕ} {default : ℕ} {W : List ℕ} where
   -- none is written yet
-  pub judging-none : Judging table ps is box materials default W at 0 0 0 W
+  pub judging-none : Judging table ps is box materials default W 0 0 0 W
   judging-none = record { here = at-first table; done = []; are = refl; many = refl; put = refl; long = refl }
 
   -- what the decision on row k asks
-  pub judging-ready : {base i k : ℕ} {E : List ℕ} {span : Float} → Judgeable table ps is materials default W at → Judging table ps is box materials default W at base i k E → k < length (rowsOf table) → span ≡ diagonal box
+  pub judging-ready : {base i k : ℕ} {E : List ℕ} {span : Float} → Judgeable table ps is materials default W → Judging table ps is box materials default W base i k E → k < length (rowsOf table) → span ≡ diagonal box
       → DecisionReady table ps is box span materials default k base i
   judging-ready g c l s =
       record {
@@ -100,9 +100,9 @@ module _ {table : List ℕ} {ps : List Float} {is : List ℕ} {box : Aabb} {mate
       }
 
   -- the decision on row k is written
-  pub judging-more : {base i k : ℕ} {E : List ℕ} {d vertices indices : ℕ} → Judging table ps is box materials default W at base i k E → k < length (rowsOf table)
+  pub judging-more : {base i k : ℕ} {E : List ℕ} {d vertices indices : ℕ} → Judging table ps is box materials default W base i k E → k < length (rowsOf table)
       → d ≡ decisionOf box materials default (patchFrom (rowAt table k) ps [] is base i) → vertices ≡ rowAt table k .vertices → indices ≡ rowAt table k .indices
-      → Judging table ps is box materials default W at (base + vertices) (i + indices) (k + 1) (set E (at + k) d)
+      → Judging table ps is box materials default W (base + vertices) (i + indices) (k + 1) (set E k d)
   judging-more {base} {i} {k} {E} {d} {vertices} {indices} c l e v n =
       let D = decisionOf box materials default in
       let p = patchFrom (rowAt table k) ps [] is base i in
@@ -116,18 +116,18 @@ module _ {table : List ℕ} {ps : List Float} {is : List ℕ} {box : Aabb} {mate
             ∙ c .are;
         many = omega (arith, length-append (c .done) (d ∷ []), c .many);
         put =
-            ap (λ (ys : List ℕ). set ys (at + k) d) (c .put)
-            ∙ ap (λ (m : ℕ). set (sets W at (c .done)) (at + m) d) (sym (c .many))
-            ∙ sym (sets-append W at (c .done) (d ∷ []));
+            ap (λ (ys : List ℕ). set ys k d) (c .put)
+            ∙ ap (λ (m : ℕ). set (sets W 0 (c .done)) m d) (let z : k ≡ 0 + length (c .done) = omega (arith, c .many) in z)
+            ∙ sym (sets-append W 0 (c .done) (d ∷ []));
         long = simp length-set (c .long);
       }
 
   -- all are
-  pub judging-all : {base i k : ℕ} {E : List ℕ} → Judging table ps is box materials default W at base i k E → length (rowsOf table) ≤ k
-      → E ≡ sets W at (map (decisionOf box materials default) (bare table ps is))
+  pub judging-all : {base i k : ℕ} {E : List ℕ} → Judging table ps is box materials default W base i k E → length (rowsOf table) ≤ k
+      → E ≡ sets W 0 (map (decisionOf box materials default) (bare table ps is))
   unfolding patchesOf
   judging-all {base} {i} {k} {E} c l =
       let D = decisionOf box materials default in
       let none-left : map D (restOf table ps [] is k base i) ≡ [] =
       ap (λ (rows : List Row). map D (patchesOf rows (drop (3 * base) ps) (drop (3 * base) []) (drop i is))) (drop-of-length-le (rowsOf table) l) in
-      c .put ∙ ap (sets W at) (sym (append-nil (c .done)) ∙ ap (λ (ds : List ℕ). c .done ++ ds) (sym none-left) ∙ c .are)
+      c .put ∙ ap (sets W 0) (sym (append-nil (c .done)) ∙ ap (λ (ds : List ℕ). c .done ++ ds) (sym none-left) ∙ c .are)

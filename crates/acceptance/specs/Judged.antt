@@ -42,12 +42,12 @@ pub record DecisionReady (table : List ℕ) (ps : List Float) (is : List ℕ) (b
   pub small : SmallMaterials materials default
 
 -- what the decisions on all rows ask: a body whose slices are as long as its rows say, and a word for each row
-pub record Judgeable (table : List ℕ) (ps : List Float) (is materials : List ℕ) (default : ℕ) (W : List ℕ) (at : ℕ) : Type 0 where
+pub record Judgeable (table : List ℕ) (ps : List Float) (is materials : List ℕ) (default : ℕ) (W : List ℕ) : Type 0 where
   pub rows : WholeRows table
   pub all-positions : length ps ≡ 3 * allVertices (rowsOf table)
   pub all-indices : length is ≡ allIndices (rowsOf table)
   pub small : SmallMaterials materials default
-  pub room : at + length (rowsOf table) ≤ length W
+  pub room : length (rowsOf table) ≤ length W
 
 -- the accepted of some patches with these decisions
 unfoldable pub acceptedBy : List ℕ → List Patch → List Accepted

@@ -68,7 +68,7 @@ fn decision(
     }
 }
 
-// The decisions on all rows become the words from `at` on.
+// The decisions on all rows become the first words of w.
 pub fn judge_rows(
     rows: &[u32],
     positions: &[f32],
@@ -77,10 +77,9 @@ pub fn judge_rows(
     materials: &[u64],
     default: u64,
     w: &mut [u64],
-    at: usize,
 )
-    requires { ⌜ Judgeable (now rows) (now positions) (now indices) (now materials) default (now w) at ⌝ }
-    ensures { λ _. ⌜ now (w .exit) ≡ sets (now (w .entry)) at
+    requires { ⌜ Judgeable (now rows) (now positions) (now indices) (now materials) default (now w) ⌝ }
+    ensures { λ _. ⌜ now (w .exit) ≡ sets (now (w .entry)) 0
         (map (decisionOf reference (now (materials .entry)) default) (patchesOf (rowsOf (now (rows .entry))) (now (positions .entry)) [] (now (indices .entry)))) ⌝ }
 {
     let span = reference.diagonal();
@@ -89,7 +88,7 @@ pub fn judge_rows(
     let mut i = 0usize;
     let mut k = 0usize;
     while k < m {
-        w[at + k] = decision(
+        w[k] = decision(
             rows,
             positions,
             indices,

@@ -76,7 +76,7 @@ module _ (rows : List Row) (materials : List ℕ) (default : ℕ) (v : Acceptanc
 -- ---- an accepted body
 
 -- what the decisions ask
-pub judge-ready : {table : List ℕ} {ps ns : List Float} {is W : List ℕ} {m : ℕ} {materials : List ℕ} {default : ℕ} {b : Bool} → AssembleReady table ps ns is W m → b ≡ badMaterials materials default → b ≡ false → Judgeable table ps is materials default W 0
+pub judge-ready : {table : List ℕ} {ps ns : List Float} {is W : List ℕ} {m : ℕ} {materials : List ℕ} {default : ℕ} {b : Bool} → AssembleReady table ps ns is W m → b ≡ badMaterials materials default → b ≡ false → Judgeable table ps is materials default W
 unfolding workNeeded
 judge-ready {materials = materials} {default = default} g e f =
     let q = g .passed in

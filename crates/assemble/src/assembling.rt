@@ -43,16 +43,7 @@ fn assemble_rows(
     if materials::bad_materials(materials, default) {
         return Assembled::Refused(42);
     }
-    acceptance::judge_rows(
-        rows,
-        positions,
-        indices,
-        reference,
-        materials,
-        default,
-        w,
-        0,
-    );
+    acceptance::judge_rows(rows, positions, indices, reference, materials, default, w);
     let t = acceptance::accepted_totals(rows, w, 0);
     if too_short(
         t.vertices,

@@ -7,10 +7,10 @@ use Rattle.acceptance.proofs.judge.judge_rows.Statement.{statement}
 use Rattle.acceptance.proofs.judge.judge_rows.Tie as tie
 
 abbrev Inv-loop : tie.InvT-loop
-Inv-loop rows positions indices reference materials default w₀ at span m base₀ i₀ k₀ w base i k = Judging rows positions indices reference materials default w₀ at base i k w
+Inv-loop rows positions indices reference materials default w₀ span m base₀ i₀ k₀ w base i k = Judging rows positions indices reference materials default w₀ base i k w
 
 abbrev μ-loop : tie.MeasureT-loop
-μ-loop rows positions indices reference materials default w₀ at span m base₀ i₀ k₀ w base i k = m - k
+μ-loop rows positions indices reference materials default w₀ span m base₀ i₀ k₀ w base i k = m - k
 
 diagonal-requires : tie.Need-diagonal-requires Inv-loop μ-loop
 diagonal-requires c κs = search needs
@@ -23,9 +23,6 @@ loop-holds c = judging-none
 
 decision-requires : tie.Need-decision-requires Inv-loop μ-loop
 decision-requires c κs = judging-ready (c .before .before .before .before .before .before .before .before .before .pre) (c .before .loop .inv) (omega (arith, (c .loop-test .taken), (c .before .before .row-count .ensures))) (c .before .before .before .diagonal .ensures)
-
-add-w : tie.Need-add-w Inv-loop μ-loop
-add-w c = search needs
 
 mul-w : tie.Need-mul-w Inv-loop μ-loop
 mul-w c = search needs
@@ -76,7 +73,6 @@ judge-rows-spec =
     row-count-requires
     loop-holds
     decision-requires
-    add-w
     mul-w
     slice-write-w
     vertices-requires
