@@ -8,7 +8,7 @@ ghost use Rattle.points.specs.Points as Points;
 pub extern "C" fn cad_cell(v: f32) -> i64
     ensures { λ r. ⌜ r ≡ Points.cell v ⌝ }
 {
-    points::cell::cell(v)
+    cells::cell(v)
 }
 
 // The 64-bit key of a point's three cells.
@@ -16,5 +16,5 @@ pub extern "C" fn cad_cell(v: f32) -> i64
 pub extern "C" fn cad_key(x: f32, y: f32, z: f32) -> u64
     ensures { λ r. ⌜ r ≡ Points.key x y z ⌝ }
 {
-    points::key::key(x, y, z)
+    keys::key::key(x, y, z)
 }

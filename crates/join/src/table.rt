@@ -7,8 +7,8 @@ ghost use lib.ListN.{length, getD, take};
 ghost use Rattle.join.specs.Naming.{namesOf};
 ghost use Rattle.join.specs.Table.{Bucket, Sized, Compared, Search, Hit, Turn, Step, Begun, Ready};
 ghost use Rattle.join.specs.Join.{Joined};
-use points::multiply::wrapping_mul;
-use points::vertex::same_bits;
+use keys::multiply::wrapping_mul;
+use keys::vertex::same_bits;
 use zeros::clear;
 
 // Odd numbers by which a digest is multiplied to find its chain, and 2^32.

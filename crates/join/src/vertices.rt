@@ -6,8 +6,8 @@ ghost use Rattle.points.specs.Rule.{Within};
 ghost use Rattle.join.specs.Rules.{sourceOf, wordsOf, Fit, JoinedPoints};
 use crate::table::Source;
 use crate::table::join_table;
-use points::vertex::digest_at;
-use points::vertex::key_at;
+use keys::vertex::digest_at;
+use keys::vertex::key_at;
 
 // A rule that says which points are the same.
 pub enum Rule {

@@ -1,7 +1,0 @@
--- The laws that the proofs of this crate cite, by subject.
-pub mod Halves
-pub mod Steps
-pub mod Rounding
-pub mod Fields
-pub mod Signs
-pub mod Positions
