@@ -19,6 +19,7 @@ use Rattle.verdicts.specs.declared.Failure.the-variants.{Empty, Upstream, Escap
 use Rattle.verdicts.specs.Failures.{failureOf}
 use Rattle.acceptance.specs.Acceptance.{Failed, failureNumbers}
 use Rattle.acceptance.specs.Judged.{failedBy, failedOf, FailureReady, FailureWritten, FailuresReady, FailuresWritten, bare}
+use Rattle.acceptance.specs.JudgedLaws.{failed-few}
 use Rattle.acceptance.specs.RestLaws.{restOf, rest-here}
 use Rattle.acceptance.proofs.JudgeLaws.{AtRow, at-first, at-next, vertices-in, indices-in}
 
@@ -87,15 +88,6 @@ pub record Failing (table : List ℕ) (ps : List Float) (is : List ℕ) (box : A
   pub few : j ≤ k
   pub put : Appended 0 (flatMap failureNumbers done) F G
   pub long : length G ≡ length F
-
--- at most one failure for a patch
-failed-few : (box : Aabb) (p : Patch) → length (failedOf box p) ≤ 1
-unfolding failedOf failedBy
-failed-few box p = go (failureOf box p)
-  where
-    go : (o : Option Failure) → length (failedBy o (p .row .face)) ≤ 1
-    go none = omega arith
-    go (some f) = omega arith
 
 numbers-both : (xs ys : List Failed) → flatMap failureNumbers (xs ++ ys) ≡ flatMap failureNumbers xs ++ flatMap failureNumbers ys
 unfolding flatMap

@@ -87,21 +87,23 @@ accepted-indices (suc m ∷ ds) (r ∷ rs) ps ns is h =
     let here = length-take-le (r .indices) is (omega arith) in
     λ j. here j + rest j
 
--- a part of the rows has no more vertices
-pub accepted-few : (ds : List ℕ) (rows : List Row) → allVertices (acceptedRows ds rows) ≤ allVertices rows
-unfolding acceptedRows allVertices sumOf
-accepted-few [] rows = omega arith
-accepted-few (d ∷ ds) [] = omega arith
-accepted-few (zero ∷ ds) (r ∷ rs) = let e = accepted-few ds rs in omega arith
-accepted-few (suc m ∷ ds) (r ∷ rs) = let e = accepted-few ds rs in omega arith
+-- a part of the rows has no more of anything
+accepted-sum : (f : Row → ℕ) (ds : List ℕ) (rows : List Row) → sumOf f (acceptedRows ds rows) ≤ sumOf f rows
+unfolding acceptedRows sumOf
+accepted-sum f [] rows = omega arith
+accepted-sum f (d ∷ ds) [] = omega arith
+accepted-sum f (zero ∷ ds) (r ∷ rs) = let e = accepted-sum f ds rs in omega arith
+accepted-sum f (suc m ∷ ds) (r ∷ rs) = let e = accepted-sum f ds rs in omega arith
 
--- and no more indices
+-- no more vertices
+pub accepted-few : (ds : List ℕ) (rows : List Row) → allVertices (acceptedRows ds rows) ≤ allVertices rows
+unfolding allVertices
+accepted-few = accepted-sum (λ r. r .vertices)
+
+-- no more indices
 pub accepted-fewer : (ds : List ℕ) (rows : List Row) → allIndices (acceptedRows ds rows) ≤ allIndices rows
-unfolding acceptedRows allIndices sumOf
-accepted-fewer [] rows = omega arith
-accepted-fewer (d ∷ ds) [] = omega arith
-accepted-fewer (zero ∷ ds) (r ∷ rs) = let e = accepted-fewer ds rs in omega arith
-accepted-fewer (suc m ∷ ds) (r ∷ rs) = let e = accepted-fewer ds rs in omega arith
+unfolding allIndices
+accepted-fewer = accepted-sum (λ r. r .indices)
 
 -- and it is no longer
 pub accepted-most : (ds : List ℕ) (rows : List Row) → length (acceptedRows ds rows) ≤ length rows
@@ -110,6 +112,15 @@ accepted-most [] rows = omega arith
 accepted-most (d ∷ ds) [] = omega arith
 accepted-most (zero ∷ ds) (r ∷ rs) = let e = accepted-most ds rs in omega arith
 accepted-most (suc m ∷ ds) (r ∷ rs) = let e = accepted-most ds rs in omega arith
+
+-- a patch has at most one failure
+pub failed-few : (box : Aabb) (p : Patch) → length (failedOf box p) ≤ 1
+unfolding failedOf failedBy
+failed-few box p = go (failureOf box p)
+  where
+    go : (o : Option Failure) → length (failedBy o (p .row .face)) ≤ 1
+    go none = omega arith
+    go (some f) = omega arith
 
 -- ---- what decisions tell
 

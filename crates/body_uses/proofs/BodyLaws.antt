@@ -8,20 +8,14 @@ use lib.Seq.{sets, length-sets, drop-cons, drop-drop, getD-drop, getD-take, leng
 use Rattle.lists.specs.Any.{sum-all}
 use Rattle.lists.specs.Sets.{getD-sets-below, sets-append}
 use Rattle.body.specs.Body.{Row, rowsOf, trianglesOf, allVertices, allIndices}
-use Rattle.body.specs.Rows.{noRow, rowAt, verticesBefore, indicesBefore}
+use Rattle.body.specs.Rows.{rowAt, verticesBefore, indicesBefore}
 use Rattle.body.specs.Patches.{before-none, indices-front, indices-next, vertices-front, vertices-next}
 use Rattle.edges.specs.Edges.{Use, triangleUses}
-use Rattle.edges.specs.RowUses.{uses-agree, names-any-row, runs-any, uses-count}
+use Rattle.edges.specs.RowUses.{rows-here, row-inside, uses-agree, names-any-row, runs-any, uses-count}
 use Rattle.edges.specs.Named.{useName, useRun, rowUses, rowNumbers, RowReady, NameReady, BodyReady, NamesReady, RowsRoom}
 use Rattle.edges.specs.UseLaws.{length-named}
 
 -- ---- where the rows before row k end
-
-module _ (table : List ℕ) (k : ℕ) (h : k < length (rowsOf table)) where
-  -- the rows from row k on
-  pub rows-here : drop k (rowsOf table) ≡ rowAt table k ∷ drop (k + 1) (rowsOf table)
-  unfolding rowAt
-  rows-here = let e : suc k ≡ k + 1 = omega arith in drop-cons (rowsOf table) k noRow h ∙ ap (λ (n : ℕ). getD (rowsOf table) k noRow ∷ drop n (rowsOf table)) e
 
 pub indices-end : (rows : List Row) (k : ℕ) → length rows ≤ k → indicesBefore rows k ≡ allIndices rows
 unfolding indicesBefore allIndices
@@ -67,7 +61,7 @@ module _ {word : Use → ℕ} {table is W w shells : List ℕ} {points at k v i 
         ordered = omega arith;
         whole = ap (λ (m : ℕ). m % 3) sum ∙ r .whole k more;
         inside = omega (arith, r .inside, i-end);
-        below = λ j a b. subst (λ (m : ℕ). getD is j 0 < m) (sym ev) (inside j a b);
+        below = row-inside table is k (r .below k more) (n .at-i) ee ev;
         apart = omega (arith, r .apart, v-end);
         room = omega (arith, r .room, n .long, i-end);
         low = λ x h. subst (λ (m : ℕ). m < 262144) (sym (unwritten (v + x) (omega (arith, r .apart, v-end)))) (low x (omega arith));
@@ -75,11 +69,6 @@ module _ {word : Use → ℕ} {table is W w shells : List ℕ} {points at k v i 
     where
       sum : e - i ≡ rowAt table k .indices
       sum = omega arith
-
-      inside : (j : ℕ) → i ≤ j → j < e → getD is j 0 < rowAt table k .vertices
-      inside j a b =
-          let q : indicesBefore (rowsOf table) k + (j - i) ≡ j = omega (arith, n .at-i) in
-          subst (λ (m : ℕ). getD is m 0 < rowAt table k .vertices) q (r .below k more (j - i) (omega arith))
 
       low : (x : ℕ) → x < rowAt table k .vertices → getD W (v + x) 0 < 262144
       low x h =

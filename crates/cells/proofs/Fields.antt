@@ -13,8 +13,9 @@ use lib.Ieee.Fits.{down-pos}
 use lib.Ieee.Bits.{is-false, ofBits-toBits}
 use lib.Ieee.Exact.{HasValue, odd-sign}
 use Rattle.integral.specs.Integral.{halfUp}
+use Rattle.integral.specs.Fractions.{same-fraction, below-half, no-digits}
 use Rattle.points.specs.Points.{cellSize}
-use Rattle.cells.proofs.Rounding.{same-fraction, low-case, mid-case, high-case}
+use Rattle.cells.proofs.Rounding.{mid-case}
 
 -- ---- the size by the value
 size-val : (x : Float) (s : Bool) (a c : ℕ) → 0 < c → HasValue x s a c → cellSize x ≡ min (halfUp (1000000 * a) c) (2 ^ 63)
@@ -43,7 +44,7 @@ unfolding ofFields
 fields-subnormal s t h =
     size-val (odd 24 s t 0 149) s (t * 2 ^ 0) (2 ^ 149) (pow-pos 149) (odd-sign 24 s t 0 149)
     ∙ ap (λ (z : ℕ). min (halfUp z (2 ^ 149)) (2 ^ 63)) (sym (mul-assoc 1000000 t (2 ^ 0)))
-    ∙ ap (λ (z : ℕ). min z (2 ^ 63)) (low-case (1000000 * t) 0 (omega arith) (lit< tt))
+    ∙ ap (λ (z : ℕ). min z (2 ^ 63)) (below-half (1000000 * t) 0 149 44 (omega arith) (lit< tt))
 
 -- an infinity or a NaN
 fields-top : (s : Bool) (e t : ℕ) → e ≡ 255 → cellSize (ofFields binary32 s e t) ≡ cond (eqb t 0) (2 ^ 63) 0
@@ -89,7 +90,7 @@ module _ (x : Float) (b : ℕ) (f : fits binary32 x ≡ true) (at : b ≡ toBits
       go : (expo b ≡ 0) ⊎ (0 < expo b) → 0 ≡ cellSize x
       go (inl z) =
           sym (fields-subnormal (leb (2 ^ 31) b) (rest b) (omega arith)) ∙ ap (λ (n : ℕ). cellSize (ofFields binary32 (leb (2 ^ 31) b) n (rest b))) (sym z) ∙ ap cellSize is
-      go (inr p) = ap (λ (z : ℕ). min z (2 ^ 63)) (sym (low-case (1000000 * (2 ^ 23 + rest b)) (expo b - 1) (omega arith) (omega arith))) ∙ normal p (omega arith)
+      go (inr p) = ap (λ (z : ℕ). min z (2 ^ 63)) (sym (below-half (1000000 * (2 ^ 23 + rest b)) (expo b - 1) 149 44 (omega arith) (omega arith))) ∙ normal p (omega arith)
 
   -- the quotient before the last halving
   quotient-few : 1000000 * (2 ^ 23 + rest b) / 2 ^ (149 - expo b) < 2 ^ 44
@@ -113,7 +114,7 @@ module _ (x : Float) (b : ℕ) (f : fits binary32 x ≡ true) (at : b ≡ toBits
   -- whole
   high : 150 ≤ expo b → expo b < 255 → min (1000000 * (2 ^ 23 + rest b) * 2 ^ (expo b - 150)) (2 ^ 63) ≡ cellSize x
   high l h =
-      ap (λ (z : ℕ). min z (2 ^ 63)) (sym (high-case (1000000 * (2 ^ 23 + rest b)) (expo b - 1) (expo b - 150) (omega arith))) ∙ normal (omega arith) h
+      ap (λ (z : ℕ). min z (2 ^ 63)) (sym (no-digits (1000000 * (2 ^ 23 + rest b)) (expo b - 1) 149 (expo b - 150) (omega arith))) ∙ normal (omega arith) h
 
   -- whole, by a shift
   pub size-high : {r : ℕ} → 150 ≤ expo b → expo b < 171 → r ≡ min (1000000 * (2 ^ 23 + rest b) * 2 ^ (expo b - 150) % 2 ^ 64) (2 ^ 63) → r ≡ cellSize x

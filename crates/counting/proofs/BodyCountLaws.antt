@@ -1,23 +1,19 @@
 -- Laws of counting the splits of all rows. Assumes nothing.
 use mathlib.Core.Path.{_≡_, refl, sym, ap, _∙_, subst}
 use mathlib.Core.List.{List, [], _∷_}
-use Prim.Native.Nat.{ℕ, suc, _+_, _-_, _*_, _%_, _<_, _≤_}
+use Prim.Native.Nat.{ℕ, _+_, _-_, _*_, _%_, _<_, _≤_}
 use native.Mathlib.Omega.{arith}
-use lib.ListN.{length, getD, take, drop, drop-of-length-le}
-use lib.Seq.{drop-drop, drop-cons}
+use lib.ListN.{length, take, drop, drop-of-length-le}
 use lib.Ieee.{Float}
 use Rattle.lists.specs.Lists.{sumOf}
-use Rattle.lists.specs.Stretches.{stretch-front, stretch-kept, front-less}
-use Rattle.body.specs.Body.{Row, trianglesOf, rowsOf}
-use Rattle.body.specs.Rows.{noRow, rowAt, verticesBefore, indicesBefore}
-use Rattle.body.specs.Patches.{before-none, indices-front, indices-next, indices-room, vertices-next, vertices-room}
-use Rattle.counting.specs.Views.{View, rowViews, bodyViews, foundIn, keptIn}
+use Rattle.body.specs.Body.{Row, rowsOf}
+use Rattle.body.specs.Rows.{rowAt, verticesBefore, indicesBefore}
+use Rattle.body.specs.Patches.{before-none, indices-front, indices-next, vertices-next}
+use Rattle.counting.specs.Views.{bodyViews, foundIn, keptIn}
 use Rattle.counting.specs.Counting.{Stands, viewsIn, RowReady, RowCounted, BodyReady, BodyCounted}
 use Rattle.counting.specs.RowLaws.{stands-kept}
-
--- the views of the rows from row k on, whose vertices start at `base` and whose indices at i
-abbrev viewsFrom : List Float → List ℕ → Float → ℕ → ℕ → ℕ → ℕ → ℕ → ℕ → List Row → List ℕ → List (List View)
-viewsFrom ps is sag v list count flags base i rows W = bodyViews sag ps (take v W) (take count (drop list W)) base (drop i (take (length is) (drop flags W))) rows (drop i is)
+use Rattle.counting.specs.RowByRow.{viewsFrom, vertices-within, indices-within, views-here}
+use Rattle.edges.specs.RowUses.{row-inside}
 
 -- the rows before row k are counted: W became E
 pub record CountingRows (table : List ℕ) (ps : List Float) (is : List ℕ) (sag : Float) (v list count at ts flags : ℕ) (W : List ℕ) (total new base i k : ℕ) (E : List ℕ) : Type 0 where
@@ -55,12 +51,10 @@ module _ {table : List ℕ} {ps : List Float} {is : List ℕ} {sag beyond : Floa
     more = omega arith
 
     pub end-low : end ≤ length is
-    unfolding rowAt
-    end-low = omega (arith, c .at-i, indices-room (rowsOf table) k more, g .all)
+    end-low = indices-within g k more ev (c .at-i) ee
 
     pub base-low : base + vertices ≤ v
-    unfolding rowAt
-    base-low = omega (arith, c .at-v, ev, vertices-room (rowsOf table) k more, g .vertices)
+    base-low = vertices-within g k more ev (c .at-v)
 
     -- the row can be counted
     pub row-ready : RowReady ps is sag beyond n v list count at ts flags base vertices i end total new E
@@ -73,7 +67,7 @@ module _ {table : List ℕ} {ps : List Float} {is : List ℕ} {sag beyond : Floa
           inside = omega (arith, end-low);
           all = en;
           few = omega (arith, g .all, g .few);
-          below = λ j a b. subst (λ (x : ℕ). getD is j 0 < x) (sym ev) (inside j a b);
+          below = row-inside table is k (λ j h. g .inside k j more h) (c .at-i) ee ev;
           vertices-low = base-low;
           found-low = c .found-low;
           kept-low = c .kept-low;
@@ -82,35 +76,10 @@ module _ {table : List ℕ} {ps : List Float} {is : List ℕ} {sag beyond : Floa
         size : end - i ≡ rowAt table k .indices
         size = omega arith
 
-        inside : (j : ℕ) → i ≤ j → j < end → getD is j 0 < rowAt table k .vertices
-        inside j a b =
-            let q : indicesBefore (rowsOf table) k + (j - i) ≡ j = omega (arith, c .at-i) in
-            subst (λ (x : ℕ). getD is x 0 < rowAt table k .vertices) q (g .inside k (j - i) more (omega arith))
-
-    -- the row's views
-    views-are : viewsIn ps is sag v list count flags base i end E
-        ≡ rowViews sag ps (take v W) (take count (drop list W)) base (take (rowAt table k .indices) (drop i (take (length is) (drop flags W)))) (trianglesOf (take (rowAt table k .indices) (drop i is)))
-    views-are =
-        let size : end - i ≡ rowAt table k .indices = omega arith in
-        let names : take v E ≡ take v W = front-less v at W E (c .front) (omega (arith, g .stands .listed .behind, g .stands .flags-behind, g .stands .behind)) in
-        let listed : take count (drop list E) ≡ take count (drop list W) = stretch-kept list count at W E (c .front) (omega (arith, g .stands .flags-behind, g .stands .behind)) in
-        let flagged : take (end - i) (drop (flags + i) E) ≡ take (rowAt table k .indices) (drop i (take (length is) (drop flags W))) =
-        stretch-kept (flags + i) (end - i) at W E (c .front) (omega (arith, end-low, g .stands .behind))
-        ∙ ap (take (end - i)) (sym (drop-drop i flags W))
-        ∙ ap (λ (x : ℕ). take x (drop i (drop flags W))) size
-        ∙ sym (stretch-front i (rowAt table k .indices) (length is) (drop flags W) (omega (arith, end-low))) in
-        λ j. rowViews sag ps (names j) (listed j) base (flagged j) (trianglesOf (take (size j) (drop i is)))
-
-    -- the views from row k on begin with them
-    views-here : viewsFrom ps is sag v list count flags base i (drop k (rowsOf table)) W
+    -- the views from row k on begin with the row's
+    views-first : viewsFrom ps is sag v list count flags base i (drop k (rowsOf table)) W
         ≡ viewsIn ps is sag v list count flags base i end E ∷ viewsFrom ps is sag v list count flags (base + vertices) end (drop (k + 1) (rowsOf table)) W
-    unfolding bodyViews rowAt
-    views-here =
-        let FL = take (length is) (drop flags W) in
-        let r = rowAt table k in
-        let f : suc k ≡ k + 1 = omega arith in
-        ap (λ (rows : List Row). bodyViews sag ps (take v W) (take count (drop list W)) base (drop i FL) rows (drop i is)) (drop-cons (rowsOf table) k noRow more)
-        ∙ (λ j. sym views-are j ∷ bodyViews sag ps (take v W) (take count (drop list W)) (base + sym ev j) ((drop-drop (r .indices) i FL ∙ ap (λ (x : ℕ). drop x FL) (sym ee)) j) (drop (f j) (rowsOf table)) ((drop-drop (r .indices) i is ∙ ap (λ (x : ℕ). drop x is) (sym ee)) j))
+    views-first = views-here g k more ev (c .at-i) ee base E (c .front)
 
     -- one row more is counted
     pub rows-more : {x y : ℕ} {F : List ℕ} → RowCounted ps is sag v list count at ts flags base i end total new E F x y → length F ≡ length E
@@ -121,8 +90,8 @@ module _ {table : List ℕ} {ps : List Float} {is : List ℕ} {sag beyond : Floa
           low = omega arith;
           at-v = omega (arith, c .at-v, ev, vertices-next table k more);
           at-i = omega (arith, c .at-i, ee, indices-next table k more);
-          found-is = omega (arith, d .found-is, c .found-is, ap (sumOf foundIn) views-here);
-          kept-is = omega (arith, d .kept-is, c .kept-is, ap (sumOf keptIn) views-here);
+          found-is = omega (arith, d .found-is, c .found-is, ap (sumOf foundIn) views-first);
+          kept-is = omega (arith, d .kept-is, c .kept-is, ap (sumOf keptIn) views-first);
           found-low = d .found-low;
           kept-low = d .kept-low;
           front = d .front ∙ c .front;

@@ -2,4 +2,5 @@
 pub mod Views
 pub mod Counting
 pub mod RowLaws
+pub mod RowByRow
 pub mod Prepared

@@ -2,9 +2,8 @@
 use mathlib.Core.Path.{_≡_, sym, ap, _∙_, subst}
 use mathlib.Core.List.{List, map}
 use Prim.Native.Nat.{ℕ, _+_, _-_, _*_, _%_, _<_, _≤_}
-use native.Mathlib.Decide.{decLt}
 use native.Mathlib.Omega.{arith}
-use lib.ListN.{length, getD, take, drop, length-drop, List·getD-eq-default}
+use lib.ListN.{length, getD, take, drop, length-drop}
 use lib.Seq.{sets, getD-drop, length-take-le, take-all}
 use lib.Dec.{eqb}
 use lib.Ieee.{Float}
@@ -17,12 +16,13 @@ use Rattle.points.specs.Names.{names-length}
 use Rattle.body.specs.Body.{trianglesOf}
 use Rattle.join.specs.declared.vertices.Rule.the-variants.{Bits}
 use Rattle.join.specs.Join.{joined, RoomAt, JoinedAt}
-use Rattle.join.specs.Representatives.{rep-below, joined-length, joined-at}
+use Rattle.join.specs.Representatives.{joined-at, joined-low}
 use Rattle.join.specs.Rules.{ruleOf, JoinedPoints}
 use Rattle.edges.specs.Edges.{Use, triangleUses}
 use Rattle.edges.specs.Named.{useName, useRun, RowReady, NameReady}
 use Rattle.edges.specs.Counted.{CountReady, Counted}
 use Rattle.edges.specs.RowUses.{uses-agree, uses-count}
+use Rattle.edges.specs.AreaLaws.{count-ready}
 use Rattle.edges.specs.UseLaws.{Apart, low-triangles, getD-map, length-named}
 use Rattle.counts.specs.declared.tally.EdgeCounts.{EdgeCounts}
 use Rattle.counts.specs.Counts.{countsOf}
@@ -40,14 +40,9 @@ module _ {at n : ℕ} {W : List ℕ} (g : RoomAt at n W) where
   there-many = length-take-le n (drop at W) (omega (arith, g .room, length-drop at W))
 
   module _ {X : List ℕ} (j : JoinedAt at n W X) (long : length X ≡ length W) where
-    -- a first use is one of the uses
-    first-low : (i : ℕ) → i < n → getD X (at + n + i) 0 < n
-    first-low i l =
-        omega (arith, stretch-at (at + n) n X i 0 l, ap (λ (s : List ℕ). getD s i 0) (j .reps), joined-at there i (omega (arith, there-many)), rep-below there i (omega (arith, there-many)), there-many)
-
     -- the counts have room behind the first uses
-    pub count-ready : CountReady X (at + n) (at + 2 * n) n
-    count-ready = record { apart = omega arith; room = omega (arith, g .room); low = first-low }
+    pub counts-room : CountReady X (at + n) (at + 2 * n) n
+    counts-room = count-ready at n X there there-many (j .reps) (omega (arith, g .room))
 
     -- the first uses are counted
     pub firsts-counted : {E : List ℕ} → Counted X (at + n) (at + 2 * n) n E → FirstsCounted at n W E
@@ -66,15 +61,8 @@ module _ {ps : List Float} {is : List ℕ} {v : ℕ} {W : List ℕ} (g : MeshRea
   abbrev points : List ℕ
   points = joined (names bits ps)
 
-  vertices-many : length (names bits ps) ≡ v
-  vertices-many = names-length bits ps v (g .all)
-
   points-low : (x : ℕ) → getD points x 0 < 262144
-  points-low x = go (decLt x v)
-    where
-      go : Dec (x < v) → getD points x 0 < 262144
-      go (yes l) = omega (arith, joined-at (names bits ps) x (omega (arith, vertices-many)), rep-below (names bits ps) x (omega (arith, vertices-many)), vertices-many, g .few-vertices)
-      go (no l) = omega (arith, List·getD-eq-default points 0 {n = x} (omega (arith, joined-length (names bits ps), vertices-many)))
+  points-low = joined-low (names bits ps) 262144 (omega arith) (omega (arith, names-length bits ps v (g .all), g .few-vertices))
 
   -- the uses of the mesh
   abbrev uses : List Use

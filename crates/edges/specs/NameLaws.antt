@@ -14,19 +14,20 @@ pub record LowUse (u : Use) : Type 0 where
   pub start-low : u .start < 262144
   pub end-low : u .end < 262144
 
+-- two edges with the same ends
+pub record SameEnds (a b c d : ℕ) : Type 0 where
+  pub lower : min a b ≡ min c d
+  pub higher : max a b ≡ max c d
+
 -- equal names have equal parts
 module _ (s t : ℕ) {a b c d : ℕ} (la : a < 262144) (lb : b < 262144) (lc : c < 262144) (ld : d < 262144) (e : edgeName s a b ≡ edgeName t c d) where
   pub shell-same : s ≡ t
   unfolding edgeName
   shell-same = omega arith
 
-  pub higher-same : max a b ≡ max c d
+  pub ends-same : SameEnds a b c d
   unfolding edgeName
-  higher-same = omega arith
-
-  pub lower-same : min a b ≡ min c d
-  unfolding edgeName
-  lower-same = omega (arith, shell-same, higher-same)
+  ends-same = record { lower = omega (arith, shell-same); higher = omega arith }
 
 -- the same both ways round
 pub name-back : (s a b : ℕ) → edgeName s a b ≡ edgeName s b a
@@ -47,11 +48,8 @@ names-tell u v lu lv = go (ℕ-discrete (v .shell) (u .shell)) (ℕ-discrete (v 
     shell-of : useName u ≡ useName v → v .shell ≡ u .shell
     shell-of n = sym (shell-same (u .shell) (v .shell) (lu .start-low) (lu .end-low) (lv .start-low) (lv .end-low) n)
 
-    lower-of : useName u ≡ useName v → min (u .start) (u .end) ≡ min (v .start) (v .end)
-    lower-of n = lower-same (u .shell) (v .shell) (lu .start-low) (lu .end-low) (lv .start-low) (lv .end-low) n
-
-    higher-of : useName u ≡ useName v → max (u .start) (u .end) ≡ max (v .start) (v .end)
-    higher-of n = higher-same (u .shell) (v .shell) (lu .start-low) (lu .end-low) (lv .start-low) (lv .end-low) n
+    ends-of : useName u ≡ useName v → SameEnds (u .start) (u .end) (v .start) (v .end)
+    ends-of n = ends-same (u .shell) (v .shell) (lu .start-low) (lu .end-low) (lv .start-low) (lv .end-low) n
 
     go : Dec (v .shell ≡ u .shell) → Dec (v .start ≡ u .start) → Dec (v .end ≡ u .end) → Dec (v .start ≡ u .end) → Dec (v .end ≡ u .start)
         → (eqb (v .shell) (u .shell) && (eqb (v .start) (u .start) && eqb (v .end) (u .end) || eqb (v .start) (u .end) && eqb (v .end) (u .start))) ≡ eqb (useName u) (useName v)
@@ -62,19 +60,19 @@ names-tell u v lu lv = go (ℕ-discrete (v .shell) (u .shell)) (ℕ-discrete (v 
     go (yes s) (yes p) (no q) (yes r) (yes t) = absurd (q (t ∙ sym p ∙ r))
     go (yes s) (yes p) (no q) (no r) t =
         rw (eq-eqb (v .shell) (u .shell) s, eq-eqb (v .start) (u .start) p, ne-eqb (v .end) (u .end) q, ne-eqb (v .start) (u .end) r)
-        (differ (λ n. q (omega (arith, lower-of n, higher-of n))) refl)
+        (differ (λ n. q (omega (arith, ends-of n .lower, ends-of n .higher))) refl)
     go (yes s) (yes p) (no q) (yes r) (no t) =
         rw (eq-eqb (v .shell) (u .shell) s, eq-eqb (v .start) (u .start) p, ne-eqb (v .end) (u .end) q, eq-eqb (v .start) (u .end) r, ne-eqb (v .end) (u .start) t)
-        (differ (λ n. q (omega (arith, lower-of n, higher-of n))) refl)
+        (differ (λ n. q (omega (arith, ends-of n .lower, ends-of n .higher))) refl)
     go (yes s) (no p) q (yes r) (yes t) =
         rw (eq-eqb (v .shell) (u .shell) s, ne-eqb (v .start) (u .start) p, eq-eqb (v .start) (u .end) r, eq-eqb (v .end) (u .start) t)
         (alike (name-back (u .shell) (u .start) (u .end) ∙ cc) refl)
     go (yes s) (no p) q (no r) t =
         rw (eq-eqb (v .shell) (u .shell) s, ne-eqb (v .start) (u .start) p, ne-eqb (v .start) (u .end) r)
-        (differ (λ n. p (omega (arith, lower-of n, higher-of n))) refl)
+        (differ (λ n. p (omega (arith, ends-of n .lower, ends-of n .higher))) refl)
     go (yes s) (no p) q (yes r) (no t) =
         rw (eq-eqb (v .shell) (u .shell) s, ne-eqb (v .start) (u .start) p, eq-eqb (v .start) (u .end) r, ne-eqb (v .end) (u .start) t)
-        (differ (λ n. p (omega (arith, lower-of n, higher-of n))) refl)
+        (differ (λ n. p (omega (arith, ends-of n .lower, ends-of n .higher))) refl)
 
 -- ---- the way a use runs
 

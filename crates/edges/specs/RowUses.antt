@@ -1,17 +1,32 @@
--- Laws of the uses of rows: what they depend on, how many there are, and the words listed of them. Assumes nothing.
+-- Laws of a table's rows and of their uses: what these depend on, how many there are, and the words listed of them. Assumes nothing.
 use mathlib.Core.Path.{_≡_, refl, sym, ap, _∙_, subst}
 use mathlib.Core.List.{List, [], _∷_, _++_, map, map-append}
-use Prim.Native.Nat.{ℕ, suc, _+_, _%_, _≤_, _<_}
+use Prim.Native.Nat.{ℕ, suc, _+_, _-_, _%_, _≤_, _<_}
 use native.Mathlib.Nat.{zero-add, not-suc-le-zero}
 use native.Mathlib.Omega.{arith}
 use lib.ListN.{length, getD, take, drop, replicate, length-append, length-take, length-drop}
-use lib.Seq.{getD-drop, getD-take, length-take-le}
+use lib.Seq.{drop-cons, getD-drop, getD-take, length-take-le}
 use Rattle.lists.specs.Lists.{sumOf}
 use Rattle.lists.specs.Any.{each-append, each-copy}
-use Rattle.body.specs.Body.{Row, Triangle, trianglesOf, allVertices, allIndices}
-use Rattle.body.specs.Rows.{noRow, indicesBefore}
+use Rattle.body.specs.Body.{Row, Triangle, rowsOf, trianglesOf, allVertices, allIndices}
+use Rattle.body.specs.Rows.{noRow, rowAt, indicesBefore}
 use Rattle.edges.specs.Edges.{Use, triangleUses}
 use Rattle.edges.specs.Named.{useName, useRun, useRow, rowUses, rowNumbers}
+
+-- ---- row k of a table
+
+-- the rows from row k on begin with it
+pub rows-here : (table : List ℕ) (k : ℕ) → k < length (rowsOf table) → drop k (rowsOf table) ≡ rowAt table k ∷ drop (k + 1) (rowsOf table)
+unfolding rowAt
+rows-here table k h = let e : suc k ≡ k + 1 = omega arith in drop-cons (rowsOf table) k noRow h ∙ ap (λ (n : ℕ). getD (rowsOf table) k noRow ∷ drop n (rowsOf table)) e
+
+-- its indices, by their places among all from i up to `end`, are of its vertices
+pub row-inside : (table is : List ℕ) (k : ℕ) → ((j : ℕ) → j < rowAt table k .indices → getD is (indicesBefore (rowsOf table) k + j) 0 < rowAt table k .vertices)
+    → {i end vertices : ℕ} → i ≡ indicesBefore (rowsOf table) k → end ≡ i + rowAt table k .indices → vertices ≡ rowAt table k .vertices
+    → (j : ℕ) → i ≤ j → j < end → getD is j 0 < vertices
+row-inside table is k below {i} {end} {vertices} ei ee ev j a b =
+    let q : indicesBefore (rowsOf table) k + (j - i) ≡ j = omega arith in
+    omega (arith, ap (λ (n : ℕ). getD is n 0) q, below (j - i) (omega arith))
 
 -- ---- what a row's uses depend on
 

@@ -1,7 +1,7 @@
 -- The uses in the work area are the definition's uses: first users and use counts go by names. Assumes nothing.
 use mathlib.Core.Path.{_≡_, refl, sym, ap, _∙_, subst}
 use mathlib.Core.Bool.{Bool, _&&_, _||_, cond}
-use mathlib.Core.List.{List, [], _∷_, _++_, map}
+use mathlib.Core.List.{List, [], _∷_, _++_, map, map-append}
 use Prim.Native.Nat.{ℕ, zero, suc, _+_, _*_, _<_}
 use native.Mathlib.Nat.{le-of-suc-le-suc, not-suc-le-zero}
 use native.Mathlib.Omega.{arith}
@@ -39,10 +39,6 @@ unfolding triangleUses
 triangles-in g shell row P [] = refl
 triangles-in g shell row P (t ∷ ts) = rw (triangles-in g shell row P ts)
 
-map-both : {A B : Type 0} (f : A → B) (xs ys : List A) → map f (xs ++ ys) ≡ map f xs ++ map f ys
-map-both f [] ys = refl
-map-both f (x ∷ xs) ys = ap (λ l. f x ∷ l) (map-both f xs ys)
-
 -- all uses with other numbers for their shells
 pub uses-in : (g : ℕ → ℕ) (f : Row → ℕ) (row : ℕ) (P : List ℕ) (patches : List Patch) → usesFrom (λ r. g (f r)) row P patches ≡ map (inShell g) (usesFrom f row P patches)
 unfolding usesFrom
@@ -50,7 +46,7 @@ uses-in g f row P [] = refl
 uses-in g f row P (p ∷ ps) =
     ap (λ us. us ++ usesFrom (λ r. g (f r)) (suc row) (drop (p .row .vertices) P) ps) (triangles-in g (f (p .row)) row P (trianglesOf (p .indices)))
     ∙ ap (λ us. map (inShell g) (triangleUses (f (p .row)) row P (trianglesOf (p .indices))) ++ us) (uses-in g f (suc row) (drop (p .row .vertices) P) ps)
-    ∙ sym (map-both (inShell g) (triangleUses (f (p .row)) row P (trianglesOf (p .indices))) (usesFrom f (suc row) (drop (p .row .vertices) P) ps))
+    ∙ sym (map-append (inShell g) (triangleUses (f (p .row)) row P (trianglesOf (p .indices))) (usesFrom f (suc row) (drop (p .row .vertices) P) ps))
 
 -- a use of nothing: what lies past the end
 abbrev pub noUse : Use

@@ -1,14 +1,14 @@
 -- The bit patterns of f64: the sign, the exponent's field and the digits, with the value that they stand for. Assumes nothing.
 use mathlib.Core.Path.{_≡_, refl, sym, ap, _∙_, subst}
-use Prim.Native.Nat.{ℕ, _-_, _*_, _/_, _%_, _^_, _≤_, _<_}
+use Prim.Native.Nat.{ℕ, _+_, _-_, _*_, _/_, _%_, _^_, _≤_, _<_}
 use native.Mathlib.Omega.{arith}
 use mathlib.Core.Bool.{Bool, true, false, not, cond}
 use lib.Dec.{T, leb, leb→le, nleb→lt}
-use lib.Ieee.{Float, nan, inf, Format, binary32, binary64, fits, ne, div, ofBits, toBits, ofFields}
+use lib.Ieee.{Float, nan, inf, Format, binary32, binary64, hid, ones, top, fits, ne, div, ofBits, toBits, ofFields}
 use lib.Ieee.Bits.{ofBits-toBits, ofBits-fits}
 use lib.Ieee.Compare.{differs-from-itself}
 use lib.Ieee.Exact.{HasValue}
-use Rattle.rounding.specs.Fields.{digits, fields-value, fields-inf, bits-fields, nan-above}
+use Rattle.rounding.specs.Fields.{digits, digits-normal, digits-lt, fields-value, fields-inf, bits-fields, nan-above}
 
 abbrev pub sign : ℕ → Bool
 sign b = leb (2 ^ 63) b
@@ -23,6 +23,15 @@ tail b = b % 2 ^ 52
 abbrev pub all : ℕ → ℕ
 all b = digits binary64 (field b) (tail b)
 
+-- the digits are below 2 ^ 53
+pub all-lt : (b : ℕ) → all b < 2 ^ 53
+all-lt b = digits-lt binary64 (field b) (tail b) (omega arith)
+
+-- those of a normal value
+pub all-is : (b : ℕ) → 0 < field b → all b ≡ 2 ^ 52 + tail b
+all-is b h = digits-normal binary64 (field b) (tail b) h
+
+-- the value of a pattern that is finite
 pub value : (b : ℕ) → field b < 2047 → HasValue (ofBits binary64 b) (sign b) (all b * 2 ^ (field b - 1)) (2 ^ 1074)
 value b h =
     subst (λ (x : Float). HasValue x (sign b) (all b * 2 ^ (field b - 1)) (2 ^ 1074)) (sym (bits-fields binary64 b)) (fields-value binary64 (sign b) (field b) (tail b) no)
@@ -53,22 +62,16 @@ unfolding div ofBits
 nan-made binary32 = refl
 nan-made binary64 = refl
 
-pub nan-of-bits-32 : (b : ℕ) → 0x7f80_0000 < b % 0x8000_0000 → div binary32 (ofBits binary32 0) (ofBits binary32 0) ≡ ofBits binary32 b
-nan-of-bits-32 b h = nan-made binary32 ∙ sym (nan-above binary32 b h)
-
-pub nan-of-bits-64 : (b : ℕ) → 0x7ff0_0000_0000_0000 < b % 0x8000_0000_0000_0000 → div binary64 (ofBits binary64 0) (ofBits binary64 0) ≡ ofBits binary64 b
-nan-of-bits-64 b h = nan-made binary64 ∙ sym (nan-above binary64 b h)
+-- a pattern above the infinity's has it
+pub nan-of-bits : (f : Format) (b : ℕ) → ones f * hid f < b % top f → div f (ofBits f 0) (ofBits f 0) ≡ ofBits f b
+nan-of-bits f b h = nan-made f ∙ sym (nan-above f b h)
 
 pub is-nan : (x : Float) → ne x x ≡ true → x ≡ nan
 is-nan x e = differs-from-itself x (subst T (sym e) tt)
 
-pub bits-of-nan-32 : (x : Float) → ne x x ≡ true → _≡_ {A = ℕ} 0x7fc0_0000 (toBits binary32 x)
-unfolding toBits
-bits-of-nan-32 x e = ap (toBits binary32) (sym (is-nan x e))
-
-pub bits-of-nan-64 : (x : Float) → ne x x ≡ true → _≡_ {A = ℕ} 0x7ff8_0000_0000_0000 (toBits binary64 x)
-unfolding toBits
-bits-of-nan-64 x e = ap (toBits binary64) (sym (is-nan x e))
+-- what differs from itself has its pattern
+pub bits-of-nan : (f : Format) (x : Float) → ne x x ≡ true → toBits f nan ≡ toBits f x
+bits-of-nan f x e = ap (toBits f) (sym (is-nan x e))
 
 -- ---- a step on bit patterns is one on floats: g is the step, from the format f to the format h
 pub through : (f h : Format) (g : Float → Float) (x : Float) → T (fits f x) → ((y : Float) → T (fits f y) → T (fits h (g y))) → ofBits h (toBits h (g (ofBits f (toBits f x)))) ≡ g x

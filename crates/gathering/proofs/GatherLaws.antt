@@ -1,5 +1,5 @@
 -- Laws of gathering loose vertices: a triangle's corners, one row, all rows. Assumes nothing.
-use mathlib.Core.Path.{_≡_, refl, sym, ap, _∙_, subst}
+use mathlib.Core.Path.{_≡_, refl, sym, ap, _∙_}
 use mathlib.Core.Bool.{Bool, true, false, cond}
 use mathlib.Core.List.{List, [], _∷_}
 use Prim.Native.Nat.{ℕ, suc, _+_, _-_, _%_, _<_, _≤_}
@@ -10,6 +10,7 @@ use Rattle.lists.specs.Stretches.{stretch-front, stretch-three, front-less, res
 use Rattle.body.specs.Body.{Row, trianglesOf, rowsOf, allIndices}
 use Rattle.body.specs.Rows.{noRow, rowAt, verticesBefore, indicesBefore}
 use Rattle.body.specs.Patches.{before-none, indices-front, indices-next, indices-room, vertices-next, vertices-room}
+use Rattle.edges.specs.RowUses.{row-inside}
 use Rattle.loose.specs.Listed.{insertVertex, insertTriangle, anySet, withTriangle, rowVertices, bodyVertices, Listed, Insertable, Inserted, TriangleInsertable, TriangleInserted, TriangleGatherable, TriangleGathered, RowGatherable, RowGathered, Gatherable, Gathered}
 
 -- ---- the corners of a triangle
@@ -220,7 +221,7 @@ module _ {table is : List ℕ} {v at flags : ℕ} {W : List ℕ} (g : Gatherable
           ordered = omega arith;
           whole = ap (λ (n : ℕ). n % 3) size ∙ g .threes k more;
           inside = end-low;
-          below = λ j a b. subst (λ (n : ℕ). getD is j 0 < n) (sym ev) (inside j a b);
+          below = row-inside table is k (λ j h. g .inside k j more h) (s .at-i) ee ev;
           vertices-low = base-low;
           apart = omega (arith, s .few, end-low, g .apart);
           room = omega (arith, end-low, s .long, g .room);
@@ -228,11 +229,6 @@ module _ {table is : List ℕ} {v at flags : ℕ} {W : List ℕ} (g : Gatherable
       where
         size : end - i ≡ rowAt table k .indices
         size = omega arith
-
-        inside : (j : ℕ) → i ≤ j → j < end → getD is j 0 < rowAt table k .vertices
-        inside j a b =
-            let q : indicesBefore (rowsOf table) k + (j - i) ≡ j = omega (arith, s .at-i) in
-            subst (λ (n : ℕ). getD is n 0 < rowAt table k .vertices) q (g .inside k (j - i) more (omega arith))
 
     -- the row's flags
     flags-there : take (end - i) (drop (flags + i) E) ≡ take (rowAt table k .indices) (drop i (take (length is) (drop flags W)))

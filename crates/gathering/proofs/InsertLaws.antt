@@ -1,17 +1,18 @@
 -- Laws of inserting a vertex into the list. Assumes nothing.
 use mathlib.Core.Path.{_≡_, refl, sym, ap, _∙_, subst}
 use mathlib.Core.Bool.{Bool, true, false, _&&_}
-use mathlib.Core.List.{List, [], _∷_, _++_}
+use mathlib.Core.List.{List, [], _∷_}
 use Prim.Native.Nat.{ℕ, zero, suc, _+_, _<_, _≤_}
 use native.Mathlib.Nat.{not-suc-le-zero, le-of-suc-le-suc}
 use native.Mathlib.Omega.{arith}
 use native.Mathlib.Decide.{ℕ-discrete, decLt}
 use lib.ListN.{length, getD, take, drop, set, length-set, length-drop}
-use lib.Seq.{ext-getD, getD-take, getD-set-same, getD-set-other, length-take-le, take-set-le, take-set-lt, drop-set-lt, drop-set-add}
+use lib.Seq.{getD-take, getD-set-same, getD-set-other, length-take-le, take-set-le, take-set-lt, drop-set-lt, drop-set-add}
 use lib.Dec.{ltb, eqb}
 use borrow.Author.Tests.{eq-eqb, ne-eqb, lt-ltb, le-ltb, eqb-true, ltb-true}
 use Rattle.body.specs.Checks.{and-left, and-right}
 use Rattle.lists.specs.Stretches.{front-at, front-less, stretch-at}
+use Rattle.loose.specs.Put.{put, put-front, put-rest, put-low, put-here, put-high, put-words}
 use Rattle.loose.specs.Listed.{insertVertex, nameIn, Position, Moved, Insertable, Inserted}
 
 -- ---- the definition
@@ -32,7 +33,7 @@ insert-same ns g (suc p) (x ∷ xs) l h e =
 
 -- where none has it, the vertex goes behind the lower ones
 insert-new : (ns : List ℕ) (g p : ℕ) (R : List ℕ) → p ≤ length R → ((j : ℕ) → j < p → getD ns (getD R j 0) 0 < getD ns g 0) → (p < length R → getD ns g 0 < getD ns (getD R p 0) 0)
-    → insertVertex ns g R ≡ take p R ++ g ∷ drop p R
+    → insertVertex ns g R ≡ put p g R
 unfolding insertVertex
 insert-new ns g zero [] l h e = refl
 insert-new ns g (suc p) [] l h e = absurd (not-suc-le-zero l)
@@ -40,29 +41,6 @@ insert-new ns g zero (x ∷ xs) l h e = rw (lt-ltb (getD ns g 0) (getD ns x 0) (
 insert-new ns g (suc p) (x ∷ xs) l h e =
     insert-later ns g x xs (h 0 (omega arith))
     ∙ ap (λ (r : List ℕ). x ∷ r) (insert-new ns g p xs (le-of-suc-le-suc l) (λ j b. h (suc j) (omega arith)) (λ b. e (omega arith)))
-
--- words of a list with one put in
-put-low : (p g : ℕ) (R : List ℕ) (j : ℕ) → p ≤ length R → j < p → getD (take p R ++ g ∷ drop p R) j 0 ≡ getD R j 0
-put-low zero g R j l h = absurd (not-suc-le-zero h)
-put-low (suc p) g [] j l h = absurd (not-suc-le-zero l)
-put-low (suc p) g (x ∷ xs) zero l h = refl
-put-low (suc p) g (x ∷ xs) (suc j) l h = put-low p g xs j (le-of-suc-le-suc l) (le-of-suc-le-suc h)
-
-put-here : (p g : ℕ) (R : List ℕ) → p ≤ length R → getD (take p R ++ g ∷ drop p R) p 0 ≡ g
-put-here zero g R l = refl
-put-here (suc p) g [] l = absurd (not-suc-le-zero l)
-put-here (suc p) g (x ∷ xs) l = put-here p g xs (le-of-suc-le-suc l)
-
-put-high : (p g : ℕ) (R : List ℕ) (j : ℕ) → p ≤ length R → p ≤ j → getD (take p R ++ g ∷ drop p R) (suc j) 0 ≡ getD R j 0
-put-high zero g R j l h = refl
-put-high (suc p) g [] j l h = absurd (not-suc-le-zero l)
-put-high (suc p) g (x ∷ xs) zero l h = absurd (not-suc-le-zero h)
-put-high (suc p) g (x ∷ xs) (suc j) l h = put-high p g xs j (le-of-suc-le-suc l) (le-of-suc-le-suc h)
-
-put-long : (p g : ℕ) (R : List ℕ) → p ≤ length R → length (take p R ++ g ∷ drop p R) ≡ suc (length R)
-put-long zero g R l = refl
-put-long (suc p) g [] l = absurd (not-suc-le-zero l)
-put-long (suc p) g (x ∷ xs) l = ap suc (put-long p g xs (le-of-suc-le-suc l))
 
 -- true is not false
 apart : true ≡ false → ⊥
@@ -163,24 +141,20 @@ module _ {v at count g p : ℕ} {W : List ℕ} (i : Insertable v at count g W) (
     New = set Y (at + p) g
 
     new-front : take (at + p) New ≡ take (at + p) W
-    new-front = take-set-le (at + p) Y (at + p) g (omega arith) ∙ m .front
+    new-front = put-front g at count p (q .low) (i .room) m long
 
     new-long : length New ≡ length W
     new-long = length-set Y (at + p) g ∙ long
 
     -- the words of the list
     new-low : (j : ℕ) → j < p → getD New (at + j) 0 ≡ getD W (at + j) 0
-    new-low j b = front-at (at + p) (at + j) W New 0 new-front (omega arith)
+    new-low = put-low g at count p (q .low) (i .room) m long
 
     new-here : getD New (at + p) 0 ≡ g
-    new-here = getD-set-same Y (at + p) g 0 (omega (arith, long, i .room, q .low))
+    new-here = put-here g at count p (q .low) (i .room) m long
 
     new-high : (j : ℕ) → p ≤ j → j < count → getD New (at + suc j) 0 ≡ getD W (at + j) 0
-    new-high j a b =
-        let e : at + suc j ≡ at + j + 1 = omega arith in
-        getD-set-other Y (at + p) (at + suc j) g 0 (λ z. omega arith)
-        ∙ ap (λ (k : ℕ). getD Y k 0) e
-        ∙ m .up (at + j) (omega arith) (omega arith)
+    new-high = put-high g at count p (q .low) (i .room) m long
 
     -- a name is as it was
     new-name : (x : ℕ) → x < v → getD New x 0 ≡ getD W x 0
@@ -194,23 +168,6 @@ module _ {v at count g p : ℕ} {W : List ℕ} (i : Insertable v at count g W) (
 
     high-name : (j : ℕ) → p ≤ j → j < count → nameIn New at (suc j) ≡ nameIn W at j
     high-name j a b = ap (λ (x : ℕ). getD New x 0) (new-high j a b) ∙ new-name (getD W (at + j) 0) (i .listed .below j b)
-
-    -- where place j of the new list was
-    new-list : take (count + 1) (drop at New) ≡ take p R ++ g ∷ drop p R
-    new-list =
-        ext-getD 0 (take (count + 1) (drop at New)) (take p R ++ g ∷ drop p R)
-        (length-take-le (count + 1) (drop at New) (omega (arith, length-drop at New, new-long, i .room)) ∙ (let e : count + 1 ≡ suc (length R) = omega (arith, r-long) in e) ∙ sym (put-long p g R (omega (arith, r-long, q .low))))
-        (λ j b. let c : j < count + 1 = omega (arith, length-take-le (count + 1) (drop at New) (omega (arith, length-drop at New, new-long, i .room))) in stretch-at at (count + 1) New j 0 c ∙ go j c (decLt j p) (ℕ-discrete j p))
-      where
-        fits : p ≤ length R
-        fits = omega (arith, r-long, q .low)
-
-        go : (j : ℕ) → j < count + 1 → Dec (j < p) → Dec (j ≡ p) → getD New (at + j) 0 ≡ getD (take p R ++ g ∷ drop p R) j 0
-        go j c (yes a) d = new-low j a ∙ sym (r-at j (omega (arith, q .low))) ∙ sym (put-low p g R j fits a)
-        go j c (no a) (yes z) =
-            ap (λ (k : ℕ). getD New (at + k) 0) z ∙ new-here ∙ sym (put-here p g R fits) ∙ ap (λ (k : ℕ). getD (take p R ++ g ∷ drop p R) k 0) (sym z)
-        go zero c (no a) (no z) = absurd (omega arith)
-        go (suc j) c (no a) (no z) = new-high j (omega arith) (omega arith) ∙ sym (r-at j (omega arith)) ∙ sym (put-high p g R j fits (omega arith))
 
     new-below : (j : ℕ) → j < count + 1 → Dec (j < p) → Dec (j ≡ p) → getD New (at + j) 0 < v
     new-below j c (yes a) d = subst (λ (x : ℕ). x < v) (sym (new-low j a)) (i .listed .below j (omega (arith, q .low)))
@@ -238,7 +195,7 @@ module _ {v at count g p : ℕ} {W : List ℕ} (i : Insertable v at count g W) (
     pub inserted-new : Inserted v at count g W New (count + 1)
     inserted-new =
         record {
-          list = new-list ∙ sym (insert-new (take v W) g p R (omega (arith, r-long, q .low)) lower (λ b. let c : p < count = omega (arith, r-long) in omega (arith, listed-name p c, name-is g (i .vertex), new c)));
+          list = put-words g at count p (q .low) (i .room) m long ∙ sym (insert-new (take v W) g p R (omega (arith, r-long, q .low)) lower (λ b. let c : p < count = omega (arith, r-long) in omega (arith, listed-name p c, name-is g (i .vertex), new c)));
           listed =
               record {
                 behind = i .listed .behind;
@@ -248,7 +205,7 @@ module _ {v at count g p : ℕ} {W : List ℕ} (i : Insertable v at count g W) (
               };
           few = omega arith;
           front = front-less at (at + p) W New new-front (omega arith);
-          rest = drop-set-lt (at + count + 1) Y (at + p) g (omega (arith, q .low)) ∙ m .rest;
+          rest = put-rest g at count p (q .low) (i .room) m long;
         }
 
 -- ---- whether a name stands at a place

@@ -4,7 +4,7 @@ use mathlib.Core.Path.{_≡_, refl, sym, ap, _∙_, subst}
 use mathlib.Core.Logic.{_⊎_, inl, inr}
 use mathlib.Core.Bool.{Bool, cond}
 use Prim.Native.Nat.{ℕ, _+_, _-_, _*_, _%_, _^_, _≤_, _<_}
-use native.Mathlib.Nat.{le-trans, le-of-eq, lt-of-lt-of-le, mul-comm, mul-assoc, mul-one, mul-lt-mul-of-pos-right, mul-le-mul-right, div-mul-le-self, div-eq-of-lt, div-lt-iff-lt-mul, le-div-iff-mul-le, add-zero, eq-or-lt-of-le}
+use native.Mathlib.Nat.{le-trans, le-of-eq, lt-of-lt-of-le, mul-assoc, mul-one, mul-le-mul-right, div-mul-le-self, div-lt-iff-lt-mul, le-div-iff-mul-le, add-zero, eq-or-lt-of-le}
 use native.Mathlib.Omega.{arith}
 use lib.Dec.{T, lit≤, lit<}
 use lib.Pow.{pow-pos, pow-mono, pow-add, shl-lt}
@@ -12,17 +12,14 @@ use lib.Ieee.{Float, nan, inf, fin, binary64, up, down, round, fits, ofBits, toB
 use lib.Ieee.Bits.{toBits-ofBits}
 use lib.Ieee.Exact.{HasValue, round-exact}
 use lib.Ieee.Fits.{down-pos, round-fits, nan-fits, inf-fits}
-use lib.Ieee.Nearest.{div-same}
-use Rattle.rounding.specs.Fields.{digits-normal, digits-lt, nan-above, no-nan-below}
+use Rattle.rounding.specs.Fields.{nan-above, no-nan-below}
 use Rattle.rounding.specs.Pattern.{exact-bits}
 use Rattle.rounding.specs.Shift.{product}
 use Rattle.integral.specs.Integral.{halfUp, roundAway, roundBits}
-use Rattle.floats.specs.Patterns.{sign, field, tail, all, value, infinite}
+use Rattle.integral.specs.Fractions.{same-fraction, below-half, some-digits, no-digits}
+use Rattle.floats.specs.Patterns.{sign, field, tail, all, all-lt, all-is, value, infinite}
 
 -- ---- rounding any fraction
-halfUp-same : (a c b d : ℕ) → 0 < c → 0 < d → a * d ≡ b * c → halfUp a c ≡ halfUp b d
-halfUp-same a c b d C D e = div-same (a * 2 + c) (c * 2) (b * 2 + d) (d * 2) (omega arith) (omega arith) (omega (arith, e))
-
 pub halfUp-le : (a c : ℕ) → halfUp a c * (c * 2) ≤ a * 2 + c
 halfUp-le a c = div-mul-le-self (a * 2 + c) (c * 2)
 
@@ -31,7 +28,7 @@ unfolding roundAway
 round-value nan s a c C h = absurd h
 round-value (inf t) s a c C h = absurd h
 round-value (fin t m e) s a c C h =
-    ap (λ (b : Bool). round binary64 b (halfUp (m * up e) (down e)) 1) (h .0) ∙ ap (λ (n : ℕ). round binary64 s n 1) (halfUp-same (m * up e) (down e) a c (down-pos e) C (h .1))
+    ap (λ (b : Bool). round binary64 b (halfUp (m * up e) (down e)) 1) (h .0) ∙ ap (λ (n : ℕ). round binary64 s n 1) (same-fraction (m * up e) (down e) a c (down-pos e) C (h .1))
 
 pub round-away-fits : (x : Float) → T (fits binary64 (roundAway x))
 unfolding roundAway
@@ -42,34 +39,6 @@ round-away-fits (fin s m e) = round-fits binary64 s (halfUp (m * up e) (down e))
 infinity : (s : Bool) → roundAway (inf s) ≡ inf s
 unfolding roundAway
 infinity s = refl
-
--- ---- M * 2 ^ x of the smallest values
-module _ (s : Bool) (M x : ℕ) (hi : M < 2 ^ 53) where
-  abbrev whole : ℕ
-  whole = halfUp (M * 2 ^ x) (2 ^ 1074)
-
-  abbrev pattern : ℕ
-  pattern = toBits binary64 (round binary64 s whole 1)
-
-  -- below a half
-  none : x < 1021 → whole ≡ 0
-  none l = div-eq-of-lt (less (M * 2 ^ x) (2 ^ 1074) (lt-of-lt-of-le (mul-lt-mul-of-pos-right (shl-lt 53 x hi) (lit< tt)) (le-trans (le-of-eq (mul-comm (2 ^ (53 + x)) 2 ∙ sym (pow-add 2 1 (53 + x)))) (pow-mono {i = 1 + (53 + x)} {j = 1074} (omega arith)))))
-    where
-      less : (a c : ℕ) → a * 2 < c → a * 2 + c < c * 2
-      less a c h = omega arith
-
-  -- sh fractional digits
-  some : (sh : ℕ) → x + sh ≡ 1074 → whole ≡ halfUp M (2 ^ sh)
-  some sh e = halfUp-same (M * 2 ^ x) (2 ^ 1074) M (2 ^ sh) (pow-pos 1074) (pow-pos sh) (mul-assoc M (2 ^ x) (2 ^ sh) ∙ ap (λ (z : ℕ). M * z) (sym (pow-add 2 x sh) ∙ ap (λ (z : ℕ). 2 ^ z) e))
-
-  -- no fractional digits
-  itself : (k : ℕ) → x ≡ 1074 + k → whole ≡ M * 2 ^ k
-  itself k e =
-      halfUp-same (M * 2 ^ x) (2 ^ 1074) (M * 2 ^ k) 1 (pow-pos 1074) (lit< tt)
-      (mul-one (M * 2 ^ x) ∙ ap (λ (z : ℕ). M * z) (ap (λ (z : ℕ). 2 ^ z) e ∙ pow-add 2 1074 k ∙ mul-comm (2 ^ 1074) (2 ^ k)) ∙ sym (mul-assoc M (2 ^ k) (2 ^ 1074))) ∙ same (M * 2 ^ k)
-    where
-      same : (n : ℕ) → halfUp n 1 ≡ n
-      same n = omega arith
 
 -- a whole number n that is q * 2 ^ k of the smallest values
 whole-bits : (s : Bool) (n g j q k : ℕ) → g < 2 ^ 53 → n ≡ g * 2 ^ j → j < 972 → n * 2 ^ 1074 ≡ q * 2 ^ k → (k ≡ 0) ⊎ (2 ^ 52 ≤ q) → q ≤ 2 ^ 53 → toBits binary64 (round binary64 s n 1) ≡ cond s (2 ^ 63) 0 + (k * 2 ^ 52 + q)
@@ -143,15 +112,9 @@ module _ (b : ℕ) where
   by-value : field b < 2047 → roundBits b ≡ toBits binary64 (round binary64 (sign b) (halfUp (all b * 2 ^ (field b - 1)) (2 ^ 1074)) 1)
   by-value h = ap (toBits binary64) (round-value (ofBits binary64 b) (sign b) (all b * 2 ^ (field b - 1)) (2 ^ 1074) (pow-pos 1074) (value b h))
 
-  all-lt : all b < 2 ^ 53
-  all-lt = digits-lt binary64 (field b) (tail b) (omega arith)
-
-  all-is : 0 < field b → all b ≡ 2 ^ 52 + tail b
-  all-is h = digits-normal binary64 (field b) (tail b) h
-
   pub round-zero : field b < 1022 → roundBits b ≡ cond (sign b) (2 ^ 63) 0
   round-zero h =
-      by-value (omega arith) ∙ ap (λ (n : ℕ). toBits binary64 (round binary64 (sign b) n 1)) (none (sign b) (all b) (field b - 1) all-lt (omega arith))
+      by-value (omega arith) ∙ ap (λ (n : ℕ). toBits binary64 (round binary64 (sign b) n 1)) (below-half (all b) (field b - 1) 1074 53 (all-lt b) (omega arith))
       ∙ whole-bits (sign b) 0 0 0 0 0 (lit< tt) refl (lit< tt) refl (inl refl) (lit≤ tt)
       ∙ add-zero (cond (sign b) (2 ^ 63) 0)
 
@@ -160,7 +123,7 @@ module _ (b : ℕ) where
       let M = 2 ^ 52 + tail b in
       let sh = 1075 - field b in
       by-value (omega arith)
-      ∙ ap (λ (n : ℕ). toBits binary64 (round binary64 (sign b) n 1)) (some (sign b) (all b) (field b - 1) all-lt sh (omega arith) ∙ ap (λ (z : ℕ). halfUp z (2 ^ sh)) (all-is (omega arith)))
+      ∙ ap (λ (n : ℕ). toBits binary64 (round binary64 (sign b) n 1)) (some-digits (all b) (field b - 1) 1074 sh (omega arith) ∙ ap (λ (z : ℕ). halfUp z (2 ^ sh)) (all-is b (omega arith)))
       ∙ whole-bits (sign b) (halfUp M (2 ^ sh)) (halfUp M (2 ^ sh)) 0 (halfUp M (2 ^ sh) * 2 ^ sh) (field b - 1)
       (n-lt M sh (omega arith) (omega arith) (omega arith) (omega arith)) (sym (mul-one (halfUp M (2 ^ sh)))) (lit< tt)
       (ap (λ (z : ℕ). halfUp M (2 ^ sh) * 2 ^ z) (whole-is (field b) (omega arith) (omega arith)) ∙ ap (λ (z : ℕ). halfUp M (2 ^ sh) * z) (pow-add 2 sh (field b - 1)) ∙ sym (mul-assoc (halfUp M (2 ^ sh)) (2 ^ sh) (2 ^ (field b - 1))))
@@ -187,11 +150,11 @@ module _ (b : ℕ) where
       go (inr k) =
           let j = field b - 1075 in
           by-value k
-          ∙ ap (λ (n : ℕ). toBits binary64 (round binary64 (sign b) n 1)) (itself (sign b) (all b) (field b - 1) all-lt j (omega arith))
-          ∙ whole-bits (sign b) (all b * 2 ^ j) (all b) j (all b) (field b - 1) all-lt refl (omega arith)
+          ∙ ap (λ (n : ℕ). toBits binary64 (round binary64 (sign b) n 1)) (no-digits (all b) (field b - 1) 1074 j (omega arith))
+          ∙ whole-bits (sign b) (all b * 2 ^ j) (all b) j (all b) (field b - 1) (all-lt b) refl (omega arith)
           (mul-assoc (all b) (2 ^ j) (2 ^ 1074) ∙ ap (λ (z : ℕ). all b * z) (sym (pow-add 2 j 1074) ∙ ap (λ (z : ℕ). 2 ^ z) (whole-is (field b) (omega arith))))
-          (inr (lead (all-is (omega arith)))) (most all-lt)
-          ∙ sym (exact-bits binary64 (ofBits binary64 b) (sign b) (all b) (field b - 1) (value b k) (inr (lead (all-is (omega arith)))) (most all-lt))
+          (inr (lead (all-is b (omega arith)))) (most (all-lt b))
+          ∙ sym (exact-bits binary64 (ofBits binary64 b) (sign b) (all b) (field b - 1) (value b k) (inr (lead (all-is b (omega arith)))) (most (all-lt b)))
           ∙ again
         where
           whole-is : (e : ℕ) → 1075 ≤ e → e - 1075 + 1074 ≡ e - 1

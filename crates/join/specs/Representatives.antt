@@ -5,8 +5,8 @@ use mathlib.Core.List.{List, [], _∷_, map}
 use Prim.Native.Nat.{ℕ, zero, suc, _<_, _≤_}
 use native.Mathlib.Omega.{arith}
 use native.Mathlib.Nat.{not-suc-le-zero, le-of-suc-le-suc}
-use native.Mathlib.Decide.{ℕ-discrete}
-use lib.ListN.{length, getD, length-map}
+use native.Mathlib.Decide.{ℕ-discrete, decLt}
+use lib.ListN.{length, getD, length-map, List·getD-eq-default}
 use lib.Seq.{ext-getD}
 use borrow.Author.Tests.{eq-eqb, ne-eqb}
 use Rattle.join.specs.Join.{indexOf, joined, firstIndex, IsFirst}
@@ -118,6 +118,18 @@ module _ (ns : List ℕ) where
       at [] i l = absurd (not-suc-le-zero l)
       at (x ∷ xs) zero l = refl
       at (x ∷ xs) (suc i) l = at xs i (le-of-suc-le-suc l)
+
+  -- each is one of the items
+  pub joined-below : (i : ℕ) → i < length ns → getD (joined ns) i 0 < length ns
+  joined-below i l = omega (arith, joined-at i l, rep-below i l)
+
+  -- so each is below a bound of their number, past the end too
+  pub joined-low : (n : ℕ) → 0 < n → length ns ≤ n → (i : ℕ) → getD (joined ns) i 0 < n
+  joined-low n p h i = go (decLt i (length ns))
+    where
+      go : Dec (i < length ns) → getD (joined ns) i 0 < n
+      go (yes l) = omega (arith, joined-below i l)
+      go (no l) = omega (arith, List·getD-eq-default (joined ns) 0 {n = i} (omega (arith, joined-length)))
 
 -- ---- two lists of names that join the same items
 pub record Alike (ns ms : List ℕ) : Type 0 where

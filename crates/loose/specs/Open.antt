@@ -2,31 +2,23 @@
 use mathlib.Core.Path.{_≡_}
 use mathlib.Core.Bool.{cond}
 use mathlib.Core.List.{List, [], map}
-use Prim.Native.Nat.{ℕ, _+_, _*_, _%_, _<_, _≤_}
+use Prim.Native.Nat.{ℕ, _+_, _*_, _<_, _≤_}
 use lib.ListN.{length, getD, take, drop, replicate}
 use lib.Dec.{eqb}
 use lib.Ieee.{Float}
 use Rattle.points.specs.Rule.{names}
 use Rattle.points.specs.Points.{key}
 use Rattle.join.specs.Join.{joined}
-use Rattle.body.specs.Body.{rowsOf, patchesOf, allVertices, allIndices}
-use Rattle.body.specs.Rows.{WholeRows, rowAt, indicesBefore}
+use Rattle.body.specs.Body.{rowsOf, patchesOf}
 use Rattle.edges.specs.Edges.{Use, usesFrom, isOpen}
 use Rattle.edges.specs.Named.{useName, useRun}
 use Rattle.edges.specs.FirstUsers.{usesIn}
+use Rattle.edges.specs.Area.{usesEnd}
 use Rattle.lists.specs.Lists.{countIf}
-
--- where the uses' names stand: behind the table that joins v vertices, and m words of 0 for the rows' shells, in 4 m words
-abbrev pub namesAt : ℕ → ℕ → ℕ
-namesAt v m = 4 * v + 4 * m
 
 -- where the flags of n uses stand: behind their names, first uses and counts
 abbrev pub flagsAt : ℕ → ℕ → ℕ → ℕ
 flagsAt v m n = 4 * v + 4 * m + 3 * n
-
--- where they end
-abbrev pub flagsEnd : ℕ → ℕ → ℕ → ℕ
-flagsEnd v m n = 4 * v + 4 * m + 4 * n
 
 -- the uses of a body over the whole of it, shells ignored, its points joined by key
 abbrev pub bodyUses : List ℕ → List Float → List ℕ → List Use
@@ -36,24 +28,11 @@ bodyUses table ps is = usesFrom (λ r. 0) 0 (joined (names key ps)) (patchesOf (
 abbrev pub flagOf : List Use → Use → ℕ
 flagOf all u = cond (isOpen all u) 1 0
 
--- what marking the open edges asks: v vertices, m rows of whole triangles and as many indices as the slices say, each of a vertex, and room
-pub record Markable (table : List ℕ) (ps : List Float) (is W : List ℕ) (v m : ℕ) : Type 0 where
-  pub rows : WholeRows table
-  pub count : length (rowsOf table) ≡ m
-  pub vertices : allVertices (rowsOf table) ≡ v
-  pub few-vertices : v ≤ 262144
-  pub all-positions : length ps ≡ 3 * v
-  pub all-indices : length is ≡ allIndices (rowsOf table)
-  pub few-indices : allIndices (rowsOf table) ≤ 786432
-  pub threes : (k : ℕ) → k < length (rowsOf table) → rowAt table k .indices % 3 ≡ 0
-  pub inside : (k j : ℕ) → k < length (rowsOf table) → j < rowAt table k .indices → getD is (indicesBefore (rowsOf table) k + j) 0 < rowAt table k .vertices
-  pub room : flagsEnd v m (length is) ≤ length W
-
--- what it leaves: the names of the vertices in front, a flag for each use, and all behind the flags as it was
+-- what marking the open edges leaves: the names of the vertices in front, a flag for each use, and all behind the flags as it was
 pub record Marked (table : List ℕ) (ps : List Float) (is : List ℕ) (v m : ℕ) (W E : List ℕ) : Type 0 where
   pub names : take v E ≡ names key ps
   pub flags : take (length is) (drop (flagsAt v m (length is)) E) ≡ map (flagOf (bodyUses table ps is)) (bodyUses table ps is)
-  pub rest : drop (flagsEnd v m (length is)) E ≡ drop (flagsEnd v m (length is)) W
+  pub rest : drop (usesEnd v m (length is)) E ≡ drop (usesEnd v m (length is)) W
 
 -- ---- points and shells
 

@@ -69,11 +69,9 @@ module _ {table : List ℕ} {ps ns : List Float} {is : List ℕ} {box : Aabb} {W
   unfolding workNeeded
   needed = omega (arith, q .enough, q .all-indices, rows-are)
 
-  positions-long : length (numbersBy js ps) ≡ 3 * t .vertices
-  positions-long = numbers-long ds (rowsOf table) ps (omega (arith, q .all-positions)) ∙ ap (λ (n : ℕ). 3 * n) (sym (g .totals .vertices-are))
-
-  normals-long : length (numbersBy js ns) ≡ 3 * t .vertices
-  normals-long = numbers-long ds (rowsOf table) ns (omega (arith, q .all-normals)) ∙ ap (λ (n : ℕ). 3 * n) (sym (g .totals .vertices-are))
+  -- three numbers for each vertex
+  numbers-all : (xs : List Float) → length xs ≡ 3 * allVertices (rowsOf table) → length (numbersBy js xs) ≡ 3 * t .vertices
+  numbers-all xs e = numbers-long ds (rowsOf table) xs (omega arith) ∙ ap (λ (n : ℕ). 3 * n) (sym (g .totals .vertices-are))
 
   indices-sum : sumOf (λ l. length (l .indices)) ls ≡ t .indices
   indices-sum = laid-sum ds (rowsOf table) is (omega (arith, q .all-indices)) ∙ sym (g .totals .indices-are)
@@ -91,12 +89,9 @@ module _ {table : List ℕ} {ps ns : List Float} {is : List ℕ} {box : Aabb} {W
   indices-few : t .indices ≤ length is
   indices-few = omega (arith, g .totals .indices-are, accepted-fewer ds (rowsOf table), q .all-indices)
 
-  -- what writing the vertices asks
-  pub positions-ready : VerticesWritable table ps W 0 P
-  positions-ready = record { rows = passed-rows q; all = q .all-positions; words = omega (arith, needed, rows-are); room = omega (arith, positions-long, g .positions-room) }
-
-  pub normals-ready : VerticesWritable table ns W 0 N
-  normals-ready = record { rows = passed-rows q; all = q .all-normals; words = omega (arith, needed, rows-are); room = omega (arith, normals-long, g .normals-room) }
+  -- what writing the positions or the normals asks
+  pub vertices-ready : {xs X : List Float} → length xs ≡ 3 * allVertices (rowsOf table) → 3 * t .vertices ≤ length X → VerticesWritable table xs W 0 X
+  vertices-ready {xs} e r = record { rows = passed-rows q; all = e; words = omega (arith, needed, rows-are); room = omega (arith, numbers-all xs e) }
 
   -- and the tables
   pub tables-ready : TablesReady table ps is box W m I parts ranges failures
@@ -114,7 +109,7 @@ module _ {table : List ℕ} {ps ns : List Float} {is : List ℕ} {box : Aabb} {W
       (w : TablesWritten table ps is box W E m I I' parts parts' ranges ranges' failures failures' b) where
     -- the front of the slices is the mesh
     positions-front : take (3 * t .vertices) P' ≡ numbersBy js ps
-    positions-front = ap (take (3 * t .vertices)) (vp .numbers) ∙ front-written (numbersBy js ps) P (3 * t .vertices) positions-long
+    positions-front = ap (take (3 * t .vertices)) (vp .numbers) ∙ front-written (numbersBy js ps) P (3 * t .vertices) (numbers-all ps (q .all-positions))
 
     runs-size : length (runsOf ls) ≡ t .indices
     runs-size = runs-long ls ∙ indices-sum
@@ -130,7 +125,7 @@ module _ {table : List ℕ} {ps ns : List Float} {is : List ℕ} {box : Aabb} {W
     unfolding rowAt
     mesh-ready =
         record {
-          all = positions-long;
+          all = numbers-all ps (q .all-positions);
           few-vertices = vertices-low;
           few-indices = omega (arith, runs-size, indices-low);
           whole = ap (λ (n : ℕ). n % 3) (runs-size ∙ g .totals .indices-are) ∙ accepted-threes ds (rowsOf table) (q .threes);

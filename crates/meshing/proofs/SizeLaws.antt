@@ -1,7 +1,6 @@
 -- How many numbers the mesh of the accepted rows has. Assumes nothing.
 use mathlib.Core.Path.{_≡_, refl, sym, ap, _∙_}
 use mathlib.Core.List.{List, [], _∷_, flatMap}
-use mathlib.Core.Option.{Option, none, some}
 use Prim.Native.Nat.{ℕ, zero, suc, _*_, _%_, _≤_, _<_}
 use native.Mathlib.Omega.{arith}
 use lib.ListN.{length, getD, take, drop, length-append, length-drop}
@@ -12,10 +11,8 @@ use Rattle.body.specs.Body.{Row, Patch, patchesOf, allVertices, allIndices}
 use Rattle.body.specs.Rows.{noRow}
 use Rattle.body.specs.Patches.{length-patches}
 use Rattle.geometry.specs.declared.Aabb.{Aabb}
-use Rattle.verdicts.specs.declared.Failure.{Failure}
-use Rattle.verdicts.specs.Failures.{failureOf}
-use Rattle.acceptance.specs.Judged.{acceptedBy, acceptedRows, failedBy, failedOf}
-use Rattle.acceptance.specs.JudgedLaws.{accepted-indices}
+use Rattle.acceptance.specs.Judged.{acceptedBy, acceptedRows, failedOf}
+use Rattle.acceptance.specs.JudgedLaws.{accepted-indices, failed-few}
 use Rattle.mesh.specs.Mesh.{Laid}
 use Rattle.mesh.specs.JudgedRows.{judgedRows, keptIf, numbersBy, laidBy}
 use Rattle.mesh.specs.LaidLaws.{laid-by, laid-total}
@@ -51,18 +48,10 @@ accepted-threes (suc m ∷ ds) (r ∷ rs) h =
     omega arith
 
 -- no more failures than rows
-failed-one : (box : Aabb) (p : Patch) → length (failedOf box p) ≤ 1
-unfolding failedOf failedBy
-failed-one box p = go (failureOf box p)
-  where
-    go : (o : Option Failure) → length (failedBy o (p .row .face)) ≤ 1
-    go none = omega arith
-    go (some f) = omega arith
-
 failed-all : (box : Aabb) (ps : List Patch) → length (flatMap (failedOf box) ps) ≤ length ps
 unfolding flatMap
 failed-all box [] = omega arith
-failed-all box (p ∷ ps) = let e = failed-one box p in let f = failed-all box ps in omega (arith, length-append (failedOf box p) (flatMap (failedOf box) ps))
+failed-all box (p ∷ ps) = let e = failed-few box p in let f = failed-all box ps in omega (arith, length-append (failedOf box p) (flatMap (failedOf box) ps))
 
 pub failed-most : (box : Aabb) (rows : List Row) (ps ns : List Float) (is : List ℕ) → length (flatMap (failedOf box) (patchesOf rows ps ns is)) ≤ length rows
 failed-most box rows ps ns is = omega (arith, failed-all box (patchesOf rows ps ns is), length-patches rows ps ns is)

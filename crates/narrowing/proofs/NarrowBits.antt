@@ -10,13 +10,13 @@ use lib.Pow.{pow-pos, pow-mono, shr-lt}
 use lib.Ieee.{Float, nan, inf, fin, binary32, binary64, up, down, round, fits, ofBits, toBits}
 use lib.Ieee.Fits.{nearest-le, round-fits, nan-fits, inf-fits}
 use lib.Ieee.Nearest.{closest, closest-same}
-use Rattle.rounding.specs.Fields.{digits-normal, digits-lt, nan-above}
+use Rattle.rounding.specs.Fields.{nan-above}
 use Rattle.rounding.specs.Near.{Cmp, cmp, closest-below, closest-tie, closest-above}
 use Rattle.rounding.specs.Pattern.{round-bits}
 use Rattle.rounding.specs.Shift.{closest-zero, moved, n-lt, drop-many, drop-none}
 use Rattle.narrowing.specs.Narrow.{narrow, narrowBits}
 use Rattle.narrowing.specs.Narrowing.{narrow-value}
-use Rattle.floats.specs.Patterns.{sign, field, tail, all, value, infinite}
+use Rattle.floats.specs.Patterns.{sign, field, tail, all, all-lt, all-is, value, infinite}
 
 -- ---- the nearest whole number to m / (2 * h) by one sum
 module _ (m h d r p : ℕ) (H : 0 < h) (M : d * (2 * h) + r ≡ m) (R : r < 2 * h) where
@@ -106,19 +106,13 @@ module _ (b : ℕ) where
   by-value : field b < 2047 → narrowBits b ≡ toBits binary32 (round binary32 (sign b) (all b * 2 ^ (field b - 1)) (2 ^ 1074))
   by-value h = ap (toBits binary32) (narrow-value (ofBits binary64 b) (sign b) (all b * 2 ^ (field b - 1)) (2 ^ 1074) (pow-pos 1074) (value b h))
 
-  all-lt : all b < 2 ^ 53
-  all-lt = digits-lt binary64 (field b) (tail b) (omega arith)
-
-  all-is : 0 < field b → all b ≡ 2 ^ 52 + tail b
-  all-is h = digits-normal binary64 (field b) (tail b) h
-
   pub narrow-zero : field b < 872 → narrowBits b ≡ cond (sign b) (2 ^ 31) 0
-  narrow-zero h = by-value (omega arith) ∙ to-zero (sign b) (all b) (field b - 1) all-lt (omega arith)
+  narrow-zero h = by-value (omega arith) ∙ to-zero (sign b) (all b) (field b - 1) (all-lt b) (omega arith)
 
   pub narrow-subnormal : 872 ≤ field b → field b < 897 → narrowBits b ≡ cond (sign b) (2 ^ 31) 0 + closest (2 ^ 52 + tail b) (2 ^ (926 - field b))
   narrow-subnormal h g =
-      by-value (omega arith) ∙ to-subnormal (sign b) (all b) (field b - 1) all-lt (omega arith) (omega arith)
-      ∙ ap (λ (z : ℕ). cond (sign b) (2 ^ 31) 0 + closest z (2 ^ (925 - (field b - 1)))) (all-is (omega arith))
+      by-value (omega arith) ∙ to-subnormal (sign b) (all b) (field b - 1) (all-lt b) (omega arith) (omega arith)
+      ∙ ap (λ (z : ℕ). cond (sign b) (2 ^ 31) 0 + closest z (2 ^ (925 - (field b - 1)))) (all-is b (omega arith))
       ∙ ap (λ (z : ℕ). cond (sign b) (2 ^ 31) 0 + closest (2 ^ 52 + tail b) (2 ^ z)) (same (field b) (omega arith))
     where
       same : (e : ℕ) → 872 ≤ e → 925 - (e - 1) ≡ 926 - e
@@ -150,8 +144,8 @@ module _ (b : ℕ) where
           infinity : (s : Bool) → toBits binary32 (narrow (inf s)) ≡ cond s (2 ^ 31) 0 + 255 * 2 ^ 23
           infinity s = unfold toBits narrow in refl
       go (inr l) =
-          by-value l ∙ to-normal (sign b) (all b) (field b - 1) all-lt (lead (all-is (omega arith))) (omega arith)
-          ∙ ap (λ (z : ℕ). cond (sign b) (2 ^ 31) 0 + min ((field b - 1 - 896) * 2 ^ 23 + closest z (2 ^ 29)) (255 * 2 ^ 23)) (all-is (omega arith))
+          by-value l ∙ to-normal (sign b) (all b) (field b - 1) (all-lt b) (lead (all-is b (omega arith))) (omega arith)
+          ∙ ap (λ (z : ℕ). cond (sign b) (2 ^ 31) 0 + min ((field b - 1 - 896) * 2 ^ 23 + closest z (2 ^ 29)) (255 * 2 ^ 23)) (all-is b (omega arith))
           ∙ ap (λ (z : ℕ). cond (sign b) (2 ^ 31) 0 + min (z * 2 ^ 23 + closest (2 ^ 52 + tail b) (2 ^ 29)) (255 * 2 ^ 23)) (same (field b) h)
 
   pub narrow-nan : 2047 * 2 ^ 52 < b % 2 ^ 63 → narrowBits b ≡ 0x7fc0_0000

@@ -1,11 +1,10 @@
 -- Laws of marking the open edges: the flags in the work area are those of the definition's uses. Assumes nothing.
-use mathlib.Core.Path.{_≡_, refl, sym, ap, _∙_, subst}
+use mathlib.Core.Path.{_≡_, refl, sym, ap, _∙_}
 use mathlib.Core.List.{List, [], _∷_, map}
 use Prim.Native.Nat.{ℕ, zero, suc, _+_, _*_, _<_}
-use native.Mathlib.Decide.{decLt}
 use native.Mathlib.Omega.{arith}
-use lib.ListN.{length, getD, take, drop, length-map, length-drop, length-replicate, List·getD-eq-default}
-use lib.Seq.{getD-drop, length-take-le, ext-getD}
+use lib.ListN.{length, getD, take, drop, length-drop, length-replicate}
+use lib.Seq.{length-take-le, ext-getD}
 use lib.Dec.{eqb}
 use lib.Ieee.{Float}
 use Rattle.lists.specs.Lists.{countIf}
@@ -13,19 +12,17 @@ use Rattle.lists.specs.Any.{each-copy}
 use Rattle.lists.specs.Stretches.{front-less, stretch-at, rest-less}
 use Rattle.points.specs.Rule.{names}
 use Rattle.points.specs.Points.{key}
-use Rattle.points.specs.Names.{names-length}
 use Rattle.body.specs.Body.{Row, rowsOf, patchesOf}
-use Rattle.body.specs.Rows.{rowAt}
 use Rattle.join.specs.Join.{joined, firstIndex}
-use Rattle.join.specs.Representatives.{rep-below, joined-length, joined-at}
+use Rattle.join.specs.Representatives.{rep-below, joined-at}
 use Rattle.edges.specs.Edges.{Use, usesOf}
 use Rattle.edges.specs.Named.{useName, useRun}
 use Rattle.edges.specs.FirstUsers.{UsersReady, usesIn}
-use Rattle.edges.specs.RowUses.{Inside, row-uses-agree}
-use Rattle.edges.specs.UseLaws.{noUse, Apart, rows-uses, low-uses, getD-map, length-named, edge-count}
-use Rattle.loose.specs.Open.{flagsAt, flagsEnd, bodyUses, flagOf, flagBy, countIn, flagIn, Markable, Marked, BodyJoined, UsesCounted, FlagsReady, FlagsSet}
+use Rattle.edges.specs.Area.{usesEnd, Layable}
+use Rattle.edges.specs.AreaLaws.{uses-many, points-low, users-ready, uses-there}
+use Rattle.edges.specs.UseLaws.{noUse, Apart, low-uses, getD-map, length-named, edge-count}
+use Rattle.loose.specs.Open.{flagsAt, bodyUses, flagOf, flagBy, countIn, flagIn, Marked, BodyJoined, UsesCounted, FlagsReady, FlagsSet}
 use Rattle.open_edges.proofs.FlagLaws.{flag-is}
-use Rattle.open_edges.proofs.OpenStages.{uses-count}
 
 -- one shell for all rows
 abbrev one : Row → ℕ
@@ -42,24 +39,10 @@ mapped-at : (f : Use → ℕ) (us : List Use) (xs : List ℕ) → length xs ≡ 
 mapped-at f us xs e h =
     ext-getD 0 xs (map f us) (e ∙ sym (length-named f us)) (λ i l. let q : i < length us = omega arith in h i q ∙ sym (getD-map f us i q))
 
-module _ {table : List ℕ} {ps : List Float} {is W : List ℕ} {v m : ℕ} (g : Markable table ps is W v m) where
-  -- ---- the points
-
+module _ {table : List ℕ} {ps : List Float} {is W : List ℕ} {v m : ℕ} (g : Layable table ps is W v m) where
   -- the first vertex of each point
   abbrev points : List ℕ
   points = joined (names key ps)
-
-  vertices-many : length (names key ps) ≡ v
-  vertices-many = names-length key ps v (g .all-positions)
-
-  points-low : (x : ℕ) → getD points x 0 < 262144
-  points-low x = go (decLt x v)
-    where
-      go : Dec (x < v) → getD points x 0 < 262144
-      go (yes l) = omega (arith, joined-at (names key ps) x (omega (arith, vertices-many)), rep-below (names key ps) x (omega (arith, vertices-many)), vertices-many, g .few-vertices)
-      go (no l) = omega (arith, List·getD-eq-default points 0 {n = x} (omega (arith, joined-length (names key ps), vertices-many)))
-
-  -- ---- the uses
 
   -- the uses of the body
   abbrev uses : List Use
@@ -67,17 +50,9 @@ module _ {table : List ℕ} {ps : List Float} {is W : List ℕ} {v m : ℕ} (g :
 
   -- their names tell their edges apart
   apart : Apart (λ s. s) uses
-  apart = record { shells = λ i j li lj e. e; low = λ i l. low-uses one 0 points (patchesOf (rowsOf table) ps [] is) points-low i }
-
-  -- the indices are of vertices
-  inside : Inside (rowsOf table) is
-  unfolding rowAt
-  inside = record { below = λ k l j h. g .inside k j l h }
+  apart = record { shells = λ i j li lj e. e; low = λ i l. low-uses one 0 points (patchesOf (rowsOf table) ps [] is) (points-low g) i }
 
   module _ {X : List ℕ} (b : BodyJoined ps v m W X) (long : length X ≡ length W) where
-    point-at : (x : ℕ) → x < v → getD X (v + x) 0 ≡ getD points x 0
-    point-at x l = sym (stretch-at v v X x 0 l) ∙ ap (λ (p : List ℕ). getD p x 0) (b .points)
-
     shell-at : (k : ℕ) → k < m → getD X (4 * v + k) 0 ≡ 0
     shell-at k l =
         sym (stretch-at (4 * v) m X k 0 l)
@@ -85,40 +60,15 @@ module _ {table : List ℕ} {ps : List Float} {is W : List ℕ} {v m : ℕ} (g :
         ∙ each-copy (λ (x : ℕ). x ≡ 0) 0 0 m refl k (omega (arith, length-replicate {A = ℕ} m 0))
 
     -- the first users can be found
-    pub users-ready : UsersReady table is X v (4 * v) (4 * v + 4 * m)
-    users-ready =
-        record {
-          names =
-              record {
-                body =
-                    record {
-                      rows = g .rows;
-                      whole = g .threes;
-                      below = λ k l j h. g .inside k j l h;
-                      inside = omega (arith, g .all-indices);
-                      apart = omega (arith, g .vertices);
-                      room = omega (arith, g .room, g .all-indices, long);
-                      low = λ x l. subst (λ (n : ℕ). n < 262144) (sym (point-at x (omega (arith, g .vertices)))) (points-low x);
-                    };
-                shells-apart = omega (arith, g .count);
-                shells-low = λ k l. omega (arith, shell-at k (omega (arith, g .count)));
-              };
-          all = g .all-indices;
-          few = g .few-indices;
-          room = omega (arith, g .room, long);
-        }
+    pub users-found : UsersReady table is X v (4 * v) (4 * v + 4 * m)
+    users-found = users-ready g X (4 * v) (b .points) long (omega arith) (λ k l. omega (arith, shell-at k l))
 
     -- what stands in the work area are the body's uses
-    uses-there : usesIn table is X v (4 * v) ≡ uses
-    uses-there =
-        row-uses-agree (drop (4 * v) X) (map one (rowsOf table)) 0 (drop v X) points (rowsOf table) is
-        (omega (arith, length-drop (4 * v) X, g .count, g .room, long)) (omega (arith, length-map (rowsOf table) one))
-        (λ k l. getD-drop (4 * v) X k 0 ∙ shell-at k (omega (arith, g .count)) ∙ sym (zeros-at (rowsOf table) k))
-        (λ x l. getD-drop v X x 0 ∙ point-at x (omega (arith, g .vertices))) inside
-        ∙ rows-uses one 0 points (rowsOf table) ps [] is
+    uses-are : usesIn table is X v (4 * v) ≡ uses
+    uses-are = uses-there g X (4 * v) (b .points) long (omega arith) one (λ k l. shell-at k l ∙ sym (zeros-at (rowsOf table) k))
 
-    uses-many : length uses ≡ length is
-    uses-many = sym (ap length uses-there) ∙ uses-count users-ready
+    uses-long : length uses ≡ length is
+    uses-long = sym (ap length uses-are) ∙ uses-many users-found
 
     module _ {Y : List ℕ} (u : UsesCounted table is X v (4 * v) (4 * v + 4 * m) Y) (y-long : length Y ≡ length X) where
       -- where the first uses stand
@@ -130,12 +80,12 @@ module _ {table : List ℕ} {ps : List Float} {is W : List ℕ} {v m : ℕ} (g :
       ns = map useName uses
 
       ns-many : length ns ≡ length is
-      ns-many = length-named useName uses ∙ uses-many
+      ns-many = length-named useName uses ∙ uses-long
 
       first-at : (i : ℕ) → i < length is → getD Y (at + i) 0 ≡ firstIndex ns i
       first-at i l =
           sym (stretch-at at (length is) Y i 0 l)
-          ∙ ap (λ (s : List ℕ). getD s i 0) (u .firsts ∙ ap (λ (us : List Use). joined (map useName us)) uses-there)
+          ∙ ap (λ (s : List ℕ). getD s i 0) (u .firsts ∙ ap (λ (us : List Use). joined (map useName us)) uses-are)
           ∙ joined-at ns i (omega (arith, ns-many))
 
       first-low : (i : ℕ) → i < length is → firstIndex ns i < length is
@@ -150,8 +100,8 @@ module _ {table : List ℕ} {ps : List Float} {is W : List ℕ} {v m : ℕ} (g :
           let place : at + 2 * length is + i ≡ 4 * v + 4 * m + 3 * length is + i = omega arith in
           ap (λ (k : ℕ). getD Y k 0) place
           ∙ sym (stretch-at (4 * v + 4 * m + 3 * length is) (length is) Y i 0 l)
-          ∙ ap (λ (s : List ℕ). getD s i 0) (u .runs ∙ ap (map useRun) uses-there)
-          ∙ getD-map useRun uses i (omega (arith, uses-many))
+          ∙ ap (λ (s : List ℕ). getD s i 0) (u .runs ∙ ap (map useRun) uses-are)
+          ∙ getD-map useRun uses i (omega (arith, uses-long))
 
       count-is : (i : ℕ) → i < length is → countIn Y at (length is) i ≡ usesOf uses (getD uses i noUse)
       count-is i l =
@@ -159,8 +109,8 @@ module _ {table : List ℕ} {ps : List Float} {is W : List ℕ} {v m : ℕ} (g :
           ap (λ (k : ℕ). getD Y (at + length is + k) 0) (first-at i l)
           ∙ ap (λ (k : ℕ). getD Y k 0) place
           ∙ u .count (firstIndex ns i) (first-low i l)
-          ∙ ap (λ (us : List Use). countIf (eqb (firstIndex ns i)) (joined (map useName us))) uses-there
-          ∙ edge-count uses apart i (omega (arith, uses-many))
+          ∙ ap (λ (us : List Use). countIf (eqb (firstIndex ns i)) (joined (map useName us))) uses-are
+          ∙ edge-count uses apart i (omega (arith, uses-long))
 
       flag-at : (i : ℕ) → i < length is → flagIn Y at (length is) i ≡ flagOf uses (getD uses i noUse)
       flag-at i l =
@@ -189,9 +139,9 @@ module _ {table : List ℕ} {ps : List Float} {is W : List ℕ} {v m : ℕ} (g :
         marked =
             record {
               names = front ∙ b .words;
-              flags = mapped-at (flagOf uses) uses (take (length is) (drop (flagsAt v m (length is)) E)) (flags-many ∙ sym uses-many) (λ i l. mark-at i (omega (arith, uses-many)));
+              flags = mapped-at (flagOf uses) uses (take (length is) (drop (flagsAt v m (length is)) E)) (flags-many ∙ sym uses-long) (λ i l. mark-at i (omega (arith, uses-long)));
               rest =
-                  rest-less (at + 3 * length is) (flagsEnd v m (length is)) Y E (f .rest) (omega arith)
+                  rest-less (at + 3 * length is) (usesEnd v m (length is)) Y E (f .rest) (omega arith)
                   ∙ u .rest
-                  ∙ rest-less (4 * v + m) (flagsEnd v m (length is)) W X (b .rest) (omega arith);
+                  ∙ rest-less (4 * v + m) (usesEnd v m (length is)) W X (b .rest) (omega arith);
             }

@@ -3,7 +3,8 @@
 use join::vertices::Rule;
 ghost use mathlib.Core.Path.{_≡_};
 ghost use Rattle.edges.specs.FirstUsers.{UsersReady};
-ghost use Rattle.loose.specs.Open.{Markable, Marked, Joinable, BodyJoined, UsesCounted, countIn, flagIn, FlagReady, FlagsReady, FlagsSet};
+ghost use Rattle.edges.specs.Area.{Layable};
+ghost use Rattle.loose.specs.Open.{Marked, Joinable, BodyJoined, UsesCounted, countIn, flagIn, FlagReady, FlagsReady, FlagsSet};
 
 // The v vertices are joined by key, and behind their table each of m rows gets shell 0.
 fn join_body(positions: &[f32], w: &mut [u64], v: usize, m: usize)
@@ -76,7 +77,7 @@ pub fn mark_open(
     v: usize,
     m: usize,
 )
-    requires { ⌜ Markable (now rows) (now positions) (now indices) (now w) v m ⌝ }
+    requires { ⌜ Layable (now rows) (now positions) (now indices) (now w) v m ⌝ }
     ensures { λ _. ⌜ Marked (now (rows .entry)) (now (positions .entry)) (now (indices .entry)) v m (now (w .entry)) (now (w .exit)) ⌝ }
 {
     let n = indices.len();

@@ -23,7 +23,8 @@ use Rattle.walk.specs.Walk.{coloured}
 use Rattle.walk.specs.Uses.{pairsBy}
 use Rattle.walk.specs.Area.{usesOf, Sound}
 use Rattle.walk.specs.Links.{uses-front, sound-kept}
-use Rattle.pairs.specs.Laid.{usesAt, usesEnd, Laid}
+use Rattle.edges.specs.Area.{usesEnd}
+use Rattle.pairs.specs.Laid.{usesAt, Laid}
 use Rattle.orient.specs.declared.turning.Counts.{Counts}
 use Rattle.orient.specs.declared.turning.Turned.the-variants.{Done, Refused}
 use Rattle.groups.specs.Groups.{Walks}

@@ -10,7 +10,7 @@ use Rattle.points.specs.Rule.{names}
 use Rattle.points.specs.Points.{key}
 use Rattle.join.specs.Join.{joined}
 use Rattle.body.specs.Body.{rowsOf, patchesOf}
-use Rattle.pairs.specs.Laid.{Layable}
+use Rattle.edges.specs.Area.{Layable}
 use Rattle.orient.specs.declared.turning.Counts.{Counts}
 use Rattle.orient.specs.declared.turning.Turned.{Turned}
 use Rattle.orient.specs.declared.turning.Turned.the-variants.{Done, Refused}

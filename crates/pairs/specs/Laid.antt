@@ -1,20 +1,21 @@
 -- The uses of a body laid out in the work area as the walk wants them. Assumes nothing.
 --
--- For v vertices, m rows and n uses: the table that joins the vertices at 0, of 4 v words, the one that joins the rows by shell behind it, of 4 m,
--- then the names of the uses, their first uses, their rows and their runs, of n words each.
+-- Where edges/specs/Area.antt leaves the words open: the table that joins the rows by shell stands behind the vertices', and the uses' rows and runs
+-- behind their first uses.
 use mathlib.Core.Path.{_≡_}
 use mathlib.Core.List.{List, [], map}
-use Prim.Native.Nat.{ℕ, _+_, _*_, _%_, _<_, _≤_}
-use lib.ListN.{length, getD, take, drop}
+use Prim.Native.Nat.{ℕ, _+_, _*_, _≤_}
+use lib.ListN.{length, take, drop}
 use lib.Ieee.{Float}
 use Rattle.points.specs.Rule.{names}
 use Rattle.points.specs.Points.{key}
 use Rattle.join.specs.Join.{joined}
-use Rattle.body.specs.Body.{Row, rowsOf, patchesOf, allVertices, allIndices}
-use Rattle.body.specs.Rows.{WholeRows, rowAt, indicesBefore}
+use Rattle.body.specs.Body.{Row, rowsOf, patchesOf}
+use Rattle.body.specs.Rows.{WholeRows}
 use Rattle.edges.specs.Edges.{Use, usesFrom}
 use Rattle.edges.specs.Named.{useName, useRun, rowNumbers}
 use Rattle.edges.specs.FirstUsers.{usesIn}
+use Rattle.edges.specs.Area.{namesAt, usesEnd}
 use Rattle.walk.specs.Uses.{pairsBy}
 use Rattle.walk.specs.Area.{usesOf, Sound}
 use Rattle.pairs.specs.Pairs.{pairsOf}
@@ -23,17 +24,9 @@ use Rattle.pairs.specs.Pairs.{pairsOf}
 abbrev pub shellsAt : ℕ → ℕ
 shellsAt v = 4 * v
 
--- where the uses' names stand
-abbrev pub namesAt : ℕ → ℕ → ℕ
-namesAt v m = 4 * v + 4 * m
-
 -- where the uses stand as the walk wants them: first uses, rows and runs
 abbrev pub usesAt : ℕ → ℕ → ℕ → ℕ
 usesAt v m n = 4 * v + 4 * m + n
-
--- where they end
-abbrev pub usesEnd : ℕ → ℕ → ℕ → ℕ
-usesEnd v m n = 4 * v + 4 * m + 4 * n
 
 -- the shell number of each row
 abbrev pub shellsOf : List Row → List ℕ
@@ -88,24 +81,11 @@ pub record UsesListed (table is W : List ℕ) (points shells at : ℕ) (E : List
   pub runs : take (length is) (drop (at + 3 * length is) E) ≡ map useRun (usesIn table is W points shells)
   pub rest : drop (at + 4 * length is) E ≡ drop (at + 4 * length is) W
 
--- what laying the uses out asks: v vertices, m rows of whole triangles and n indices that fill the slices and are of vertices, and room
-pub record Layable (table : List ℕ) (ps : List Float) (is W : List ℕ) (v m : ℕ) : Type 0 where
-  pub rows : WholeRows table
-  pub count : length (rowsOf table) ≡ m
-  pub vertices : allVertices (rowsOf table) ≡ v
-  pub few-vertices : v ≤ 262144
-  pub all-positions : length ps ≡ 3 * v
-  pub all-indices : length is ≡ allIndices (rowsOf table)
-  pub few-indices : allIndices (rowsOf table) ≤ 786432
-  pub threes : (k : ℕ) → k < length (rowsOf table) → rowAt table k .indices % 3 ≡ 0
-  pub inside : (k j : ℕ) → k < length (rowsOf table) → j < rowAt table k .indices → getD is (indicesBefore (rowsOf table) k + j) 0 < rowAt table k .vertices
-  pub room : usesEnd v m (length is) ≤ length W
-
 -- the uses of a body whose points are joined by key, as 01 has them: edges of different shells are different
 abbrev pub keyUses : List ℕ → List Float → List ℕ → List Use
 keyUses table ps is = usesFrom (λ r. r .shell) 0 (joined (names key ps)) (patchesOf (rowsOf table) ps [] is)
 
--- what it leaves: the uses' pairs are the definition's, and all behind them is as it was
+-- what laying the uses out leaves: their pairs are the definition's, and all behind them is as it was
 pub record Laid (table : List ℕ) (ps : List Float) (is : List ℕ) (v m : ℕ) (W E : List ℕ) : Type 0 where
   pub pairs : pairsBy (usesOf (length is) (drop (usesAt v m (length is)) E)) ≡ pairsOf (keyUses table ps is)
   pub sound : Sound (length is) m (drop (usesAt v m (length is)) E)

@@ -3,7 +3,7 @@ use mathlib.Core.Path.{_≡_, sym, ap, _∙_}
 use mathlib.Core.Bool.{_||_, cond}
 use mathlib.Core.List.{List, [], _∷_, map}
 use mathlib.Core.Option.{Option, none, some}
-use Prim.Native.Nat.{ℕ, zero, suc, _<_, min, max}
+use Prim.Native.Nat.{ℕ, zero, suc, _<_}
 use native.Mathlib.Nat.{zero-add}
 use native.Mathlib.Omega.{arith}
 use native.Mathlib.Decide.{ℕ-discrete, decLt}
@@ -16,7 +16,7 @@ use Rattle.join.specs.Join.{joined, firstIndex}
 use Rattle.join.specs.Representatives.{rep-below, rep-name, joined-at}
 use Rattle.edges.specs.Edges.{Use, skipped, firstUser}
 use Rattle.edges.specs.Named.{runOf, useRun, useRow}
-use Rattle.edges.specs.NameLaws.{higher-same, lower-same, run-equal}
+use Rattle.edges.specs.NameLaws.{SameEnds, ends-same, run-equal, run-apart}
 use Rattle.edges.specs.UseLaws.{noUse, nameBy, Apart, apart-tells, first-at, getD-map, length-named}
 use Rattle.walk.specs.Walk.{Pair}
 use Rattle.walk.specs.Uses.{Uses, own, far, records, agrees, pairAt, pairsBy, records-skip, records-same, records-yes, agrees-yes, agrees-not, pairs-match}
@@ -37,14 +37,6 @@ run-up a b l = rw (ne-eqb a b (λ e. omega arith), lt-ltb a b l)
 run-down : (a b : ℕ) → b < a → runOf a b ≡ 1
 unfolding runOf
 run-down a b l = rw (ne-eqb a b (λ e. omega arith), le-ltb a b (omega arith))
-
--- ends that differ
-run-apart : (a b : ℕ) → (a ≡ b → ⊥) → runOf a b ≡ 2 → ⊥
-run-apart a b h e = go (decLt a b)
-  where
-    go : Dec (a < b) → ⊥
-    go (yes l) = omega (arith, run-up a b l)
-    go (no l) = omega (arith, run-down a b (omega arith))
 
 -- the other way round it runs another way
 run-back : (a b : ℕ) → (a ≡ b → ⊥) → runOf b a ≡ runOf a b → ⊥
@@ -93,11 +85,8 @@ module _ (g : ℕ → ℕ) (us : List Use) (a : Apart g us) (k : ℕ) (l : k < l
   same-name : nameBy g found ≡ nameBy g here
   same-name = sym (getD-map (nameBy g) us place inside) ∙ rep-name (map (nameBy g) us) k (omega (arith, names-long)) ∙ getD-map (nameBy g) us k l
 
-  lower : min (found .start) (found .end) ≡ min (here .start) (here .end)
-  lower = lower-same (g (found .shell)) (g (here .shell)) (a .low place inside .start-low) (a .low place inside .end-low) (a .low k l .start-low) (a .low k l .end-low) same-name
-
-  higher : max (found .start) (found .end) ≡ max (here .start) (here .end)
-  higher = higher-same (g (found .shell)) (g (here .shell)) (a .low place inside .start-low) (a .low place inside .end-low) (a .low k l .start-low) (a .low k l .end-low) same-name
+  ends-are : SameEnds (found .start) (found .end) (here .start) (here .end)
+  ends-are = ends-same (g (found .shell)) (g (here .shell)) (a .low place inside .start-low) (a .low place inside .end-low) (a .low k l .start-low) (a .low k l .end-low) same-name
 
   -- the two agree exactly if they run oppositely
   agrees-is : (here .start ≡ here .end → ⊥) → agrees (listed g us) k ≡ eqb (found .start) (here .end)
@@ -105,13 +94,13 @@ module _ (g : ℕ → ℕ) (us : List Use) (a : Apart g us) (k : ℕ) (l : k < l
     where
       go : Dec (found .start ≡ here .end) → agrees (listed g us) k ≡ eqb (found .start) (here .end)
       go (yes e) =
-          let f : found .end ≡ here .start = omega (arith, lower, higher) in
+          let f : found .end ≡ here .start = omega (arith, ends-are .lower, ends-are .higher) in
           agrees-yes (listed g us) k
           (λ q. run-back (here .start) (here .end) n (sym (ap (λ (x : ℕ). runOf x (found .end)) e ∙ ap (runOf (here .end)) f) ∙ sym run-first ∙ q ∙ run-is))
           ∙ sym (eq-eqb (found .start) (here .end) e)
       go (no e) =
-          let s : found .start ≡ here .start = omega (arith, lower, higher) in
-          let f : found .end ≡ here .end = omega (arith, lower, higher) in
+          let s : found .start ≡ here .start = omega (arith, ends-are .lower, ends-are .higher) in
+          let f : found .end ≡ here .end = omega (arith, ends-are .lower, ends-are .higher) in
           agrees-not (listed g us) k (run-first ∙ ap (λ (x : ℕ). runOf x (found .end)) s ∙ ap (runOf (here .start)) f ∙ sym run-is)
           ∙ sym (ne-eqb (found .start) (here .end) e)
 

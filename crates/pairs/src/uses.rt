@@ -3,7 +3,8 @@
 use crate::shells::join_shells;
 use join::vertices::Rule;
 ghost use Rattle.edges.specs.FirstUsers.{UsersReady};
-ghost use Rattle.pairs.specs.Laid.{Joinable, BodyJoined, UsesListed, Layable, Laid};
+ghost use Rattle.edges.specs.Area.{Layable};
+ghost use Rattle.pairs.specs.Laid.{Joinable, BodyJoined, UsesListed, Laid};
 
 // The v vertices are joined by key, and the m rows behind them by shell.
 fn join_body(rows: &[u32], positions: &[f32], w: &mut [u64], v: usize, m: usize)

@@ -10,7 +10,7 @@ use lib.Dec.{eqb}
 use borrow.Author.Tests.{eq-eqb, ne-eqb}
 use Rattle.splits.specs.Entries.{entriesOf, entriesIn}
 use Rattle.rings.specs.declared.fan.Fan.{Fan}
-use Rattle.rings.specs.Rings.{numbersOf, ringAfter}
+use Rattle.rings.specs.Rings.{numbersOf, edgesOf, ringAfter}
 use Rattle.rings.specs.Added.{FanReady, FanWritten}
 use Rattle.rings.specs.FanSteps.{picked, edgeNumbers, Held, PushRoom, PickReady, EdgeReady, Pushed}
 use Rattle.rings.proofs.PushLaws.{pushed-none, pushed-then}
@@ -86,7 +86,7 @@ in-front next true e = ap (λ (v : List ℕ). next ∷ v) e
 in-front next false e = e
 
 -- they are those of the entries that have parameters
-numbers-are : (e next : ℕ) (X Y : List ℕ) → numbersOf e next (entriesOf X Y) ≡ edgeNumbers e next (take (length Y) X)
+numbers-are : (e next : ℕ) (X Y : List ℕ) → numbersOf e next (edgesOf (entriesOf X Y)) ≡ edgeNumbers e next (take (length Y) X)
 unfolding numbersOf entriesOf edgeNumbers
 numbers-are e next [] [] = refl
 numbers-are e next [] (y ∷ Y) = refl
@@ -173,7 +173,7 @@ module _ {a b c next : ℕ} {W : List ℕ} {at kept o : ℕ} {out : List ℕ} (r
   abbrev Y : List ℕ
   Y = edgeNumbers 0 next X ++ (b ∷ edgeNumbers 1 next X) ++ (c ∷ edgeNumbers 2 next X)
 
-  numbers : (e : ℕ) → numbersOf e next (entriesIn W at ts kept) ≡ edgeNumbers e next X
+  numbers : (e : ℕ) → numbersOf e next (edgesOf (entriesIn W at ts kept)) ≡ edgeNumbers e next X
   numbers e =
       numbers-are e next (take kept (drop at W)) (take kept (drop ts W))
       ∙ ap (λ (k : ℕ). edgeNumbers e next (take k (take kept (drop at W)))) (sym (n .all))
@@ -231,8 +231,8 @@ module _ {a b c next : ℕ} {W : List ℕ} {at kept o : ℕ} {out : List ℕ} (r
               ring : Y ≡ ringAfter b c next (entriesIn W at ts kept)
               ring =
                   ap (λ (v : List ℕ). v ++ (b ∷ edgeNumbers 1 next X) ++ (c ∷ edgeNumbers 2 next X)) (sym (numbers 0))
-                  ∙ ap (λ (v : List ℕ). numbersOf 0 next (entriesIn W at ts kept) ++ (b ∷ v) ++ (c ∷ edgeNumbers 2 next X)) (sym (numbers 1))
-                  ∙ ap (λ (v : List ℕ). numbersOf 0 next (entriesIn W at ts kept) ++ (b ∷ numbersOf 1 next (entriesIn W at ts kept)) ++ (c ∷ v)) (sym (numbers 2))
+                  ∙ ap (λ (v : List ℕ). numbersOf 0 next (edgesOf (entriesIn W at ts kept)) ++ (b ∷ v) ++ (c ∷ edgeNumbers 2 next X)) (sym (numbers 1))
+                  ∙ ap (λ (v : List ℕ). numbersOf 0 next (edgesOf (entriesIn W at ts kept)) ++ (b ∷ numbersOf 1 next (edgesOf (entriesIn W at ts kept))) ++ (c ∷ v)) (sym (numbers 2))
 
               whole : Pushed a (empty o) (ringAfter b c next (entriesIn W at ts kept)) out E k
               whole = subst (λ (v : List ℕ). Pushed a (empty o) v out E k) ring pushed

@@ -29,37 +29,24 @@ three-stored out k x y z =
 
 -- ---- the corners of an edge
 
--- an edge that is neither of the first two runs from c
+-- an edge that is neither of the first two runs from the third of the corners
 pub start-last : (a b c e : ℕ) → (e ≡ 0 → ⊥) → (e ≡ 1 → ⊥) → c ≡ startOf a b c e
 start-last a b c zero n m = absurd (n refl)
 start-last a b c (suc zero) n m = absurd (m refl)
 start-last a b c (suc (suc e)) n m = refl
 
--- and to a
-pub end-last : (a b c e : ℕ) → (e ≡ 0 → ⊥) → (e ≡ 1 → ⊥) → a ≡ endOf a b c e
-end-last a b c zero n m = absurd (n refl)
-end-last a b c (suc zero) n m = absurd (m refl)
-end-last a b c (suc (suc e)) n m = refl
+-- the normal of the corner from which edge e runs is there
+pub corner-inside : {ns : List Float} {a b c : ℕ} → Corners ns a b c → (e : ℕ) {p : ℕ} → p ≡ startOf a b c e → 3 * p + 2 < length ns
+corner-inside {ns} {a} {b} {c} k e h = subst (λ (n : ℕ). 3 * n + 2 < length ns) (sym h) (at e)
+  where
+    at : (e : ℕ) → 3 * startOf a b c e + 2 < length ns
+    at zero = k .in-a
+    at (suc zero) = k .in-b
+    at (suc (suc e)) = k .in-c
 
-module _ {ns : List Float} {a b c : ℕ} (k : Corners ns a b c) where
-  -- the normals of all corners are there
-  start-in : (e : ℕ) → 3 * startOf a b c e + 2 < length ns
-  start-in zero = k .in-a
-  start-in (suc zero) = k .in-b
-  start-in (suc (suc e)) = k .in-c
-
-  end-in : (e : ℕ) → 3 * endOf a b c e + 2 < length ns
-  end-in zero = k .in-b
-  end-in (suc zero) = k .in-c
-  end-in (suc (suc e)) = k .in-a
-
-  -- the normal of an edge's start is there
-  pub start-inside : (e : ℕ) {p : ℕ} → p ≡ startOf a b c e → 3 * p + 2 < length ns
-  start-inside e h = subst (λ (n : ℕ). 3 * n + 2 < length ns) (sym h) (start-in e)
-
-  -- and that of its end
-  pub end-inside : (e : ℕ) {q : ℕ} → q ≡ endOf a b c e → 3 * q + 2 < length ns
-  end-inside e h = subst (λ (n : ℕ). 3 * n + 2 < length ns) (sym h) (end-in e)
+-- the corners from the second on, to which the edges run
+pub next-corners : {ns : List Float} {a b c : ℕ} → Corners ns a b c → Corners ns b c a
+next-corners k = record { in-a = k .in-b; in-b = k .in-c; in-c = k .in-a }
 
 -- the normal mixed from those of an edge's ends
 pub normal-is : (ns : List Float) (a b c e : ℕ) (t : Float) {p q : ℕ} {na nb : Vec3} {r : Normal} → p ≡ startOf a b c e → q ≡ endOf a b c e → na ≡ vertexAt ns (3 * p) → nb ≡ vertexAt ns (3 * q)

@@ -1,6 +1,6 @@
 -- The ring of a split triangle: its corners with the new vertices between them, what these are, and the fan. Assumes nothing.
 use mathlib.Core.Bool.{Bool, true, false, cond}
-use mathlib.Core.List.{List, [], _∷_, _++_}
+use mathlib.Core.List.{List, [], _∷_, _++_, map}
 use Prim.Native.Nat.{ℕ, zero, suc, _+_, _*_}
 use lib.ListN.{getD}
 use lib.Dec.{eqb}
@@ -37,25 +37,27 @@ startOf a b c zero = a
 startOf a b c (suc zero) = b
 startOf a b c (suc (suc e)) = c
 
--- the corner to which it runs
+-- the corner to which it runs: the one from which the next edge runs
 abbrev pub endOf : ℕ → ℕ → ℕ → ℕ → ℕ
-endOf a b c zero = b
-endOf a b c (suc zero) = c
-endOf a b c (suc (suc e)) = a
+endOf a b c e = startOf b c a e
 
 -- the normals of the new vertices: mixed from those of their edge's ends
 unfoldable pub newNormals : List Float → ℕ → ℕ → ℕ → List Entry → List Float
 newNormals ns a b c [] = []
 newNormals ns a b c (x ∷ xs) = mixed (pointAt ns (startOf a b c (x .e))) (pointAt ns (endOf a b c (x .e))) (x .t) ++ newNormals ns a b c xs
 
--- the numbers of the new vertices on edge e, the first of all being `next`
-unfoldable pub numbersOf : ℕ → ℕ → List Entry → List ℕ
+-- the numbers of the new vertices on edge e, the first of all being `next`; the list has the edge of each
+unfoldable pub numbersOf : ℕ → ℕ → List ℕ → List ℕ
 numbersOf e next [] = []
-numbersOf e next (x ∷ xs) = let rest = numbersOf e (next + 1) xs in cond (eqb (x .e) e) (next ∷ rest) rest
+numbersOf e next (x ∷ xs) = let rest = numbersOf e (next + 1) xs in cond (eqb x e) (next ∷ rest) rest
+
+-- the edge of each entry
+abbrev pub edgesOf : List Entry → List ℕ
+edgesOf xs = map (λ x. x .e) xs
 
 -- the ring behind corner a: the new vertices of each edge, with the corners b and c between them
 abbrev pub ringAfter : ℕ → ℕ → ℕ → List Entry → List ℕ
-ringAfter b c next xs = numbersOf 0 next xs ++ (b ∷ numbersOf 1 next xs) ++ (c ∷ numbersOf 2 next xs)
+ringAfter b c next xs = numbersOf 0 next (edgesOf xs) ++ (b ∷ numbersOf 1 next (edgesOf xs)) ++ (c ∷ numbersOf 2 next (edgesOf xs))
 
 -- ---- the fan as it is written: one vertex after another, each with the one before it
 

@@ -25,16 +25,14 @@ start n h = record { some = omega arith; fits = omega arith; root = omega arith;
 pub root-lt : {n left s r i : ℕ} → Taken n left s r i → s < 2 ^ 53
 root-lt v = lt-of-lt-of-le (v .root) (pow-mono (v .some))
 
-two-more : (i : ℕ) → 2 ^ (i + 1) ≡ 2 * 2 ^ i
-two-more i = ap (λ (x : ℕ). 2 ^ x) (add-one i) ∙ pow-succ' 2 i
-
-four-more : (i : ℕ) → 4 ^ (i + 1) ≡ 4 * 4 ^ i
-four-more i = ap (λ (x : ℕ). 4 ^ x) (add-one i) ∙ pow-succ' 4 i
+-- one digit more
+digit-more : (b i : ℕ) → b ^ (i + 1) ≡ b * b ^ i
+digit-more b i = ap (λ (x : ℕ). b ^ x) (add-one i) ∙ pow-succ' b i
 
 -- two bits more, b, and the rest of them
 module _ {n left s r i : ℕ} (v : Taken n left s r i) (l : i < 53) where
   next : n * 1024 * 4 ^ (i + 1) ≡ (4 * (s * s + r) + left / 2 ^ 62) * 2 ^ 64 + left % 2 ^ 62 * 4
-  next = ap (λ (x : ℕ). n * 1024 * x) (four-more i) ∙ more (n * 1024 * 4 ^ i) (s * s + r) (n * 1024 * (4 * 4 ^ i)) (omega arith) (v .taken)
+  next = ap (λ (x : ℕ). n * 1024 * x) (digit-more 4 i) ∙ more (n * 1024 * 4 ^ i) (s * s + r) (n * 1024 * (4 * 4 ^ i)) (omega arith) (v .taken)
     where
       more : (a p z : ℕ) → z ≡ 4 * a → a ≡ p * 2 ^ 64 + left → z ≡ (4 * p + left / 2 ^ 62) * 2 ^ 64 + left % 2 ^ 62 * 4
       more a p z e h = omega arith
@@ -43,7 +41,7 @@ module _ {n left s r i : ℕ} (v : Taken n left s r i) (l : i < 53) where
   step-yes h = record {
     some = omega arith;
     fits = omega arith;
-    root = omega (arith, v .root, two-more i);
+    root = omega (arith, v .root, digit-more 2 i);
     rest = omega (arith, v .rest, v .fits);
     taken = next ∙ same (left / 2 ^ 62) h;
   }
@@ -58,7 +56,7 @@ module _ {n left s r i : ℕ} (v : Taken n left s r i) (l : i < 53) where
   step-no h = record {
     some = omega arith;
     fits = omega arith;
-    root = omega (arith, v .root, two-more i);
+    root = omega (arith, v .root, digit-more 2 i);
     rest = omega (arith, v .rest, v .fits);
     taken = next ∙ ap (λ (x : ℕ). x * 2 ^ 64 + left % 2 ^ 62 * 4) (sq (left / 2 ^ 62));
   }

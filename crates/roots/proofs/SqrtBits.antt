@@ -13,14 +13,14 @@ use lib.Ieee.{Float, nan, inf, fin, binary64, up, down, size, fits, ofBits, toBi
 use lib.Ieee.Bits.{toBits-ofBits}
 use lib.Ieee.Exact.{HasValue}
 use lib.Ieee.Fits.{up-pos, down-pos, round-fits, nan-fits, inf-fits}
-use Rattle.rounding.specs.Fields.{digits, digits-normal, nan-above, no-nan-below}
+use Rattle.rounding.specs.Fields.{digits, nan-above, no-nan-below}
 use Rattle.rounding.specs.Near.{Cmp, cmp}
 use Rattle.rounding.specs.Pattern.{exact-bits}
 use Rattle.rounding.specs.Shift.{product}
 use Rattle.roots.specs.Roots.{nearestRoot, rootOf, sqrt, sqrtBits}
 use Rattle.roots.specs.Root.{nearest-near, near-below}
 use Rattle.roots.specs.SquareRoot.{Rooted, sqrt-value}
-use Rattle.floats.specs.Patterns.{sign, field, tail, all, value, infinite}
+use Rattle.floats.specs.Patterns.{sign, field, tail, all, all-is, value, infinite}
 
 -- ---- the pattern of a root of 53 digits
 pub root-pattern : {n k N q : ℕ} → Rooted n k N q → toBits binary64 (rootOf n) ≡ k * 2 ^ 52 + q
@@ -114,16 +114,16 @@ module _ (b : ℕ) where
 
   pub sqrt-normal : 2 ^ 52 ≤ b → b < 2047 * 2 ^ 52 → sqrtBits b ≡ toBits binary64 (rootOf ((2 ^ 52 + b % 2 ^ 52) * 2 ^ (b / 2 ^ 52 + 1073)))
   sqrt-normal l h =
-      by-value (2 ^ 52 + b % 2 ^ 52) (b / 2 ^ 52 + 1073) h (subst (λ (z : ℕ). 0 < z) (sym all-is) (omega arith))
-      (ap (λ (z : ℕ). z * 2 ^ (field b - 1) * 2 ^ 1074) all-is ∙ mul-assoc (2 ^ 52 + tail b) (2 ^ (field b - 1)) (2 ^ 1074) ∙ ap (λ (z : ℕ). (2 ^ 52 + tail b) * z) (product (field b - 1) 1074 (b / 2 ^ 52 + 1073) (omega arith)))
+      by-value (2 ^ 52 + b % 2 ^ 52) (b / 2 ^ 52 + 1073) h (subst (λ (z : ℕ). 0 < z) (sym normal) (omega arith))
+      (ap (λ (z : ℕ). z * 2 ^ (field b - 1) * 2 ^ 1074) normal ∙ mul-assoc (2 ^ 52 + tail b) (2 ^ (field b - 1)) (2 ^ 1074) ∙ ap (λ (z : ℕ). (2 ^ 52 + tail b) * z) (product (field b - 1) 1074 (b / 2 ^ 52 + 1073) (omega arith)))
     where
-      all-is : all b ≡ 2 ^ 52 + tail b
-      all-is = digits-normal binary64 (field b) (tail b) (omega arith)
+      normal : all b ≡ 2 ^ 52 + tail b
+      normal = all-is b (omega arith)
 
   pub sqrt-subnormal : 0 < b → b < 2 ^ 52 → (z : ℕ) → z ≤ 1074 → sqrtBits b ≡ toBits binary64 (rootOf (b * 2 ^ z * 2 ^ (1074 - z)))
   sqrt-subnormal p h z l =
-      by-value b 1074 (omega arith) (subst (λ (y : ℕ). 0 < y) (sym all-is) p)
-      (ap (λ (y : ℕ). y * 2 ^ (field b - 1) * 2 ^ 1074) all-is ∙ ap (λ (y : ℕ). b * 2 ^ y * 2 ^ 1074) (bare (field b) (omega arith)) ∙ ap (λ (y : ℕ). y * 2 ^ 1074) (mul-one b))
+      by-value b 1074 (omega arith) (subst (λ (y : ℕ). 0 < y) (sym subnormal) p)
+      (ap (λ (y : ℕ). y * 2 ^ (field b - 1) * 2 ^ 1074) subnormal ∙ ap (λ (y : ℕ). b * 2 ^ y * 2 ^ 1074) (bare (field b) (omega arith)) ∙ ap (λ (y : ℕ). y * 2 ^ 1074) (mul-one b))
       ∙ ap (λ (y : ℕ). toBits binary64 (rootOf y)) (sym (mul-assoc b (2 ^ z) (2 ^ (1074 - z)) ∙ ap (λ (y : ℕ). b * y) (product z (1074 - z) 1074 (omega arith))))
     where
       bare : (e : ℕ) → e ≡ 0 → e - 1 ≡ 0
@@ -132,8 +132,8 @@ module _ (b : ℕ) where
       field-is : field b ≡ 0
       field-is = omega arith
 
-      all-is : all b ≡ b
-      all-is = ap (λ (e : ℕ). digits binary64 e (tail b)) field-is ∙ omega arith
+      subnormal : all b ≡ b
+      subnormal = ap (λ (e : ℕ). digits binary64 e (tail b)) field-is ∙ omega arith
 
   again : b < 2 ^ 64 → b % 2 ^ 63 ≤ 2047 * 2 ^ 52 → toBits binary64 (ofBits binary64 b) ≡ b
   again h l = toBits-ofBits binary64 b h (no-nan-below binary64 b l)

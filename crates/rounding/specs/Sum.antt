@@ -100,11 +100,9 @@ patch-sixth v n {x} {c} {d} y six r l z fine =
     go (inr b) (inl e) g = inl (omega (arith, g, ap (λ (a : ℕ). 97 * a * v) e))
     go (inr b) (inr p) g = inr (omega (arith, mul-le-mul p b))
 
-part-le : (v n : ℕ) {x : Float} {c d : ℕ} (r : Part v n x c d) → n ≤ 2 ^ 40 → r .near .size * 6 ≤ 97 * n * v
-part-le v n r l = sixth-le (97 * n * v) (96 * n * v) (r .near) (r .exact) (omega (arith, mul-le-mul-left (n * v) (few n l)))
-  where
-    few : (n : ℕ) → n ≤ 2 ^ 40 → 505 + 49 * n ≤ 2 ^ 53
-    few n l = omega arith
+-- the size of a sixth whose error grows with the square of n, where that error is a small part of it
+few-le : (v n a b : ℕ) {x : Float} {c d : ℕ} (r : Sixth x c d ((a * n + b * (n * n)) * v)) → Size c d (96 * n * v) → a + b * n ≤ 2 ^ 53 → r .size * 6 ≤ 97 * n * v
+few-le v n a b r z l = sixth-le (97 * n * v) (96 * n * v) r z (omega (arith, mul-le-mul-left (n * v) l))
 
 -- ---- the sum of the sixths of patches of t determinants in all
 pub record Total (v t : ℕ) (x : Float) (c d : ℕ) : Type 0 where
@@ -114,17 +112,11 @@ pub record Total (v t : ℕ) (x : Float) (c d : ℕ) : Type 0 where
 pub total-zero : (v : ℕ) → Total v 0 (fin false 0 (pos 0)) 0 0
 total-zero v = record { near = record { sign = false; size = 0; is = (refl, refl); hi = omega arith; lo = omega arith }; exact = omega arith }
 
-total-le : (v n : ℕ) {x : Float} {c d : ℕ} (r : Total v n x c d) → n ≤ 2 ^ 40 → r .near .size * 6 ≤ 97 * n * v
-total-le v n r l = sixth-le (97 * n * v) (96 * n * v) (r .near) (r .exact) (omega (arith, mul-le-mul-left (n * v) (few n l)))
-  where
-    few : (n : ℕ) → n ≤ 2 ^ 40 → 604 + 50 * n ≤ 2 ^ 53
-    few n l = omega arith
-
 pub total-more : (v t n : ℕ) {x y : Float} {c d c' d' : ℕ} → Total v t x c d → Part v n y c' d' → 0 < n → t + n ≤ 2 ^ 40 → v * 2 ^ 60 + 2 ^ 60 < top64
     → Total v (t + n) (add binary64 x y) (c + c') (d + d')
 total-more v t n {x} {y} {c} {d} {c'} {d'} r q p l fine =
-    let h : r .near .size * 6 ≤ 97 * t * v = total-le v t r (omega arith) in
-    let k : q .near .size * 6 ≤ 97 * n * v = part-le v n q (omega arith) in
+    let h : r .near .size * 6 ≤ 97 * t * v = few-le v t 604 50 (r .near) (r .exact) (omega arith) in
+    let k : q .near .size * 6 ≤ 97 * n * v = few-le v n 505 49 (q .near) (q .exact) (omega arith) in
     let o = add-sixth (97 * (t + n) * v) (r .near) (q .near) (omega arith) (omega (arith, mul-le-mul-right v l)) in
     let b : (604 * t + 50 * (t * t)) * v + (505 * n + 49 * (n * n)) * v + 97 * (t + n) * v ≤ (604 * (t + n) + 50 * ((t + n) * (t + n))) * v = omega (arith, mul-le-mul-left (t * v) p) in
     record {

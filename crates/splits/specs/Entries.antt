@@ -9,6 +9,7 @@ use lib.Dec.{eqb, ltb}
 use lib.Ieee.{Float, lt}
 use Rattle.floats.specs.Floats.{f64, absolute}
 use Rattle.geometry.specs.Geometry.{sub}
+use Rattle.loose.specs.Put.{put}
 use Rattle.splits.specs.Splits.{near-last}
 
 -- a vertex placed on edge e of a triangle at parameter t
@@ -103,7 +104,7 @@ pub record WordRoom (at count p : ℕ) (W : List ℕ) : Type 0 where
 
 -- what it leaves: the word between those before place p and the others; nothing else was written
 pub record WordInserted (at count p x : ℕ) (W E : List ℕ) : Type 0 where
-  pub words : take (count + 1) (drop at E) ≡ take p (take count (drop at W)) ++ x ∷ drop p (take count (drop at W))
+  pub words : take (count + 1) (drop at E) ≡ put p x (take count (drop at W))
   pub front : take at E ≡ take at W
   pub rest : drop (at + count + 1) E ≡ drop (at + count + 1) W
 

@@ -1,9 +1,7 @@
 -- The stitched body: new vertices, the fan of each triangle, and its splits. Assumes nothing.
-use mathlib.Core.Bool.{cond}
 use mathlib.Core.List.{List, [], _∷_, _++_, map, flatMap}
 use Prim.Native.Nat.{ℕ, _+_}
 use lib.ListN.{length}
-use lib.Dec.{eqb}
 use lib.Ieee.{Float}
 use Rattle.lists.specs.Lists.{sumOf}
 use Rattle.body.specs.Body.{Patch}
@@ -12,7 +10,7 @@ use Rattle.geometry.specs.Geometry.{pointAt}
 use Rattle.projection.specs.Projection.{mixed}
 use Rattle.loose.specs.Loose.{Facet, facetsIn, looseIn}
 use Rattle.splits.specs.Splits.{Placed, SplitTriangle, splitTriangle}
-use Rattle.rings.specs.Rings.{fan}
+use Rattle.rings.specs.Rings.{fan, numbersOf}
 
 -- the normal of a new vertex
 unfoldable pub newNormal : List Float → Placed → List Float
@@ -22,15 +20,11 @@ newNormal ns p = mixed (pointAt ns (p .side .start .index)) (pointAt ns (p .side
 unfoldable pub coordinates : Vec3 → List Float
 coordinates p = p .x ∷ p .y ∷ p .z ∷ []
 
--- the numbers of the vertices that edge e keeps, the first of all being `next`
-unfoldable pub numbersOn : ℕ → ℕ → List Placed → List ℕ
-numbersOn e next [] = []
-numbersOn e next (p ∷ ps) = let rest = numbersOn e (next + 1) ps in cond (eqb (p .e) e) (next ∷ rest) rest
-
--- the ring of a triangle: each corner, and the new vertices of the edge from it
+-- the ring of a triangle: each corner, and the numbers of the new vertices of the edge from it, the first of all being `next`
 unfoldable pub ring : Facet → List Placed → ℕ → List ℕ
 ring f kept next =
-    (f .c₀ .index ∷ numbersOn 0 next kept) ++ (f .c₁ .index ∷ numbersOn 1 next kept) ++ (f .c₂ .index ∷ numbersOn 2 next kept)
+    let es = map (λ p. p .e) kept in
+    (f .c₀ .index ∷ numbersOf 0 next es) ++ (f .c₁ .index ∷ numbersOf 1 next es) ++ (f .c₂ .index ∷ numbersOf 2 next es)
 
 -- the indices of the triangles of a patch, the first new vertex being `next`
 unfoldable pub fanned : ℕ → List SplitTriangle → List ℕ

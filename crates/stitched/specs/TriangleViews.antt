@@ -18,8 +18,8 @@ use Rattle.splits.specs.Found.{edgeFrom, sidesFrom, triangleFound, triangleKept
 use Rattle.splits.specs.FoundPoints.{Distinct}
 use Rattle.splits.specs.Places.{sideAt, placedOf}
 use Rattle.splits.specs.FoundLaws.{found-is, kept-is}
-use Rattle.rings.specs.Rings.{fan, fanGo, coordinatesAt, newPositions, newNormals, startOf, endOf, numbersOf, ringAfter}
-use Rattle.stitched.specs.StitchedBody.{newNormal, coordinates, numbersOn, ring}
+use Rattle.rings.specs.Rings.{fan, fanGo, coordinatesAt, newPositions, newNormals, startOf, endOf, numbersOf, edgesOf, ringAfter}
+use Rattle.stitched.specs.StitchedBody.{newNormal, coordinates, ring}
 use Rattle.counting.specs.Views.{edgeAt, sidesAt, View, viewOf}
 use Rattle.rings.specs.FanLaws.{fan-go}
 
@@ -98,11 +98,11 @@ module _ {ps : List Float} {nms : List ℕ} {base n : ℕ} {qs : List Float} {ms
 -- ---- what the entries add
 
 module _ (f : Facet) (ps : List Float) where
-  -- the numbers of the new vertices of an edge
-  entry-numbers : (e next : ℕ) (C : List Entry) → numbersOn e next (map (placedOf f ps) C) ≡ numbersOf e next C
-  unfolding numbersOn numbersOf placedOf
-  entry-numbers e next [] = refl
-  entry-numbers e next (x ∷ C) = ap (λ (l : List ℕ). cond (eqb (x .e) e) (next ∷ l) l) (entry-numbers e (next + 1) C)
+  -- the edges of the new vertices
+  entry-edges : (C : List Entry) → map (λ (p : Placed). p .e) (map (placedOf f ps) C) ≡ edgesOf C
+  unfolding placedOf
+  entry-edges [] = refl
+  entry-edges (x ∷ C) = ap (λ (l : List ℕ). x .e ∷ l) (entry-edges C)
 
   -- the positions of the new vertices
   entry-positions : (C : List Entry) → flatMap (λ k. coordinates (k .point)) (map (placedOf f ps) C) ≡ newPositions ps C
@@ -172,5 +172,5 @@ module _ {ps : List Float} {n : ℕ} {s : SplitTriangle} {x : View} (h : Seen ps
       let f = s .facet in
       let C = x .kept in
       ap (λ (l : List Placed). fan (ring f l next)) (h .kept)
-      ∙ (λ k. fan ((h .first k ∷ entry-numbers f ps 0 next C k) ++ (h .second k ∷ entry-numbers f ps 1 next C k) ++ (h .third k ∷ entry-numbers f ps 2 next C k)))
+      ∙ (λ k. fan ((h .first k ∷ numbersOf 0 next (entry-edges f ps C k)) ++ (h .second k ∷ numbersOf 1 next (entry-edges f ps C k)) ++ (h .third k ∷ numbersOf 2 next (entry-edges f ps C k))))
       ∙ fan-go (x .a) (ringAfter (x .b) (x .c) next C)

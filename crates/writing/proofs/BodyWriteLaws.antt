@@ -1,28 +1,25 @@
 -- Laws of writing all rows of the stitched body. Assumes nothing.
 use mathlib.Core.Path.{_≡_, refl, sym, ap, _∙_, subst}
 use mathlib.Core.List.{List, [], _∷_, _++_, append-assoc, append-nil}
-use Prim.Native.Nat.{ℕ, suc, _+_, _-_, _*_, _%_, _<_, _≤_}
+use Prim.Native.Nat.{ℕ, _+_, _-_, _*_, _%_, _<_, _≤_}
 use native.Mathlib.Omega.{arith}
-use lib.ListN.{length, getD, take, drop, length-append, length-drop, drop-of-length-le}
-use lib.Seq.{drop-drop, drop-cons, length-take-le}
+use lib.ListN.{length, take, drop, length-append, length-drop, drop-of-length-le}
+use lib.Seq.{drop-drop, length-take-le}
 use lib.Ieee.{Float}
 use Rattle.lists.specs.Lists.{sumOf, written}
-use Rattle.lists.specs.Stretches.{stretch-front, stretch-kept, front-less}
-use Rattle.body.specs.Body.{Row, trianglesOf, rowsOf, tableOf}
-use Rattle.body.specs.Rows.{noRow, rowAt, verticesBefore, indicesBefore}
-use Rattle.body.specs.Patches.{before-none, indices-next, indices-room, vertices-next, vertices-room}
+use Rattle.body.specs.Body.{Row, rowsOf, tableOf}
+use Rattle.body.specs.Rows.{rowAt, verticesBefore, indicesBefore}
+use Rattle.body.specs.Patches.{before-none, indices-next, vertices-next}
 use Rattle.append.specs.Appended.{Appended, appended-none, appended-written, behind, part-low}
-use Rattle.counting.specs.Views.{View, rowViews, bodyViews, keptIn, rowPositions, rowNormals, rowIndices, viewedRow, viewedRows, viewedPositions, viewedNormals, viewedIndices}
+use Rattle.counting.specs.Views.{View, keptIn, rowPositions, rowNormals, rowIndices, viewedRow, viewedRows, viewedPositions, viewedNormals, viewedIndices}
 use Rattle.counting.specs.Counting.{Stands, viewsIn}
 use Rattle.writing.specs.Writing.{RowWritable, RowWritten, viewsOf, BodyWritable, BodyWritten}
 use Rattle.writing.specs.Tables.{table-more, table-long}
 use Rattle.writing.specs.Lengths.{row-positions-length, row-normals-length}
 use Rattle.writing.specs.BodyLengths.{viewed-positions-length, viewed-indices-length}
 use Rattle.counting.specs.RowLaws.{stands-kept}
-
--- the views of the rows from row k on, whose vertices start at `base` and whose indices at i
-abbrev viewsFrom : List Float → List ℕ → Float → ℕ → ℕ → ℕ → ℕ → ℕ → ℕ → List Row → List ℕ → List (List View)
-viewsFrom ps is sag v list count flags base i rows W = bodyViews sag ps (take v W) (take count (drop list W)) base (drop i (take (length is) (drop flags W))) rows (drop i is)
+use Rattle.counting.specs.RowByRow.{viewsFrom, vertices-within, indices-within, views-here}
+use Rattle.edges.specs.RowUses.{rows-here, row-inside}
 
 -- the rows before row k are written: W became E, and R, P, N, I became S, Q, M, J, where vo vertices and io indices stand
 pub record WritingRows (table : List ℕ) (ps ns : List Float) (is : List ℕ) (sag : Float) (v list count at ts flags : ℕ) (W R : List ℕ) (P N : List Float) (I : List ℕ) (vo io base i k : ℕ) (E S : List ℕ) (Q M : List Float) (J : List ℕ) : Type 0 where
@@ -123,43 +120,15 @@ module _ {table : List ℕ} {ps ns : List Float} {is : List ℕ} {sag beyond : F
     more = omega arith
 
     pub end-low : end ≤ length is
-    unfolding rowAt
-    end-low = omega (arith, c .at-i, indices-room (rowsOf table) k more, g .body .all)
+    end-low = indices-within (g .body) k more ev (c .at-i) ee
 
     pub base-low : base + vertices ≤ v
-    unfolding rowAt
-    base-low = omega (arith, c .at-v, ev, vertices-room (rowsOf table) k more, g .body .vertices)
+    base-low = vertices-within (g .body) k more ev (c .at-v)
 
-    -- the row's views
-    views-are : viewsIn ps is sag v list count flags base i end E
-        ≡ rowViews sag ps (take v W) (take count (drop list W)) base (take (rowAt table k .indices) (drop i (take (length is) (drop flags W)))) (trianglesOf (take (rowAt table k .indices) (drop i is)))
-    views-are =
-        let stands = g .body .stands in
-        let size : end - i ≡ rowAt table k .indices = omega arith in
-        let names : take v E ≡ take v W = front-less v at W E (c .front) (omega (arith, stands .listed .behind, stands .flags-behind, stands .behind)) in
-        let listed : take count (drop list E) ≡ take count (drop list W) = stretch-kept list count at W E (c .front) (omega (arith, stands .flags-behind, stands .behind)) in
-        let flagged : take (end - i) (drop (flags + i) E) ≡ take (rowAt table k .indices) (drop i (take (length is) (drop flags W))) =
-        stretch-kept (flags + i) (end - i) at W E (c .front) (omega (arith, end-low, stands .behind))
-        ∙ ap (take (end - i)) (sym (drop-drop i flags W))
-        ∙ ap (λ (x : ℕ). take x (drop i (drop flags W))) size
-        ∙ sym (stretch-front i (rowAt table k .indices) (length is) (drop flags W) (omega (arith, end-low))) in
-        λ j. rowViews sag ps (names j) (listed j) base (flagged j) (trianglesOf (take (size j) (drop i is)))
-
-    -- the views from row k on begin with them
-    views-here : viewsFrom ps is sag v list count flags base i (drop k (rowsOf table)) W
+    -- the views from row k on begin with the row's
+    views-first : viewsFrom ps is sag v list count flags base i (drop k (rowsOf table)) W
         ≡ viewsIn ps is sag v list count flags base i end E ∷ viewsFrom ps is sag v list count flags (base + vertices) end (drop (k + 1) (rowsOf table)) W
-    unfolding bodyViews rowAt
-    views-here =
-        let FL = take (length is) (drop flags W) in
-        let r = rowAt table k in
-        let f : suc k ≡ k + 1 = omega arith in
-        ap (λ (rows : List Row). bodyViews sag ps (take v W) (take count (drop list W)) base (drop i FL) rows (drop i is)) (drop-cons (rowsOf table) k noRow more)
-        ∙ (λ j. sym views-are j ∷ bodyViews sag ps (take v W) (take count (drop list W)) (base + sym ev j) ((drop-drop (r .indices) i FL ∙ ap (λ (x : ℕ). drop x FL) (sym ee)) j) (drop (f j) (rowsOf table)) ((drop-drop (r .indices) i is ∙ ap (λ (x : ℕ). drop x is) (sym ee)) j))
-
-    -- the rows from row k on begin with it
-    rows-here : drop k (rowsOf table) ≡ rowAt table k ∷ drop (k + 1) (rowsOf table)
-    unfolding rowAt
-    rows-here = let f : suc k ≡ k + 1 = omega arith in drop-cons (rowsOf table) k noRow more ∙ ap (λ (x : ℕ). rowAt table k ∷ drop x (rowsOf table)) f
+    views-first = views-here (g .body) k more ev (c .at-i) ee base E (c .front)
 
     -- where the next row's three numbers for each vertex start
     rest-here : (xs : List Float) → drop (3 * vertices) (drop (3 * base) xs) ≡ drop (3 * (base + vertices)) xs
@@ -183,13 +152,13 @@ module _ {table : List ℕ} {ps ns : List Float} {is : List ℕ} {sag beyond : F
     viewed-here : viewedRows (drop k (rowsOf table)) (viewsFrom ps is sag v list count flags base i (drop k (rowsOf table)) W)
         ≡ viewedRow (rowAt table k) vs ∷ viewedRows (drop (k + 1) (rowsOf table)) later
     unfolding viewedRows
-    viewed-here = λ j. viewedRows (rows-here j) (views-here j)
+    viewed-here = λ j. viewedRows (rows-here table k more j) (views-first j)
 
     positions-here : viewedPositions ps (drop k (rowsOf table)) (drop (3 * base) ps) (viewsFrom ps is sag v list count flags base i (drop k (rowsOf table)) W)
         ≡ own-positions ++ viewedPositions ps (drop (k + 1) (rowsOf table)) (drop (3 * (base + vertices)) ps) later
     unfolding viewedPositions
     positions-here =
-        (λ j. viewedPositions ps (rows-here j) (drop (3 * base) ps) (views-here j))
+        (λ j. viewedPositions ps (rows-here table k more j) (drop (3 * base) ps) (views-first j))
         ∙ (λ j. (take (3 * sym ev j) (drop (3 * base) ps) ++ rowPositions ps vs) ++ viewedPositions ps (drop (k + 1) (rowsOf table)) (drop (3 * sym ev j) (drop (3 * base) ps)) later)
         ∙ ap (λ (xs : List Float). own-positions ++ viewedPositions ps (drop (k + 1) (rowsOf table)) xs later) (rest-here ps)
 
@@ -197,7 +166,7 @@ module _ {table : List ℕ} {ps ns : List Float} {is : List ℕ} {sag beyond : F
         ≡ own-normals ++ viewedNormals ns (base + vertices) (drop (k + 1) (rowsOf table)) (drop (3 * (base + vertices)) ns) later
     unfolding viewedNormals
     normals-here =
-        (λ j. viewedNormals ns base (rows-here j) (drop (3 * base) ns) (views-here j))
+        (λ j. viewedNormals ns base (rows-here table k more j) (drop (3 * base) ns) (views-first j))
         ∙ (λ j. (take (3 * sym ev j) (drop (3 * base) ns) ++ rowNormals ns base vs) ++ viewedNormals ns (base + sym ev j) (drop (k + 1) (rowsOf table)) (drop (3 * sym ev j) (drop (3 * base) ns)) later)
         ∙ ap (λ (xs : List Float). own-normals ++ viewedNormals ns (base + vertices) (drop (k + 1) (rowsOf table)) xs later) (rest-here ns)
 
@@ -205,7 +174,7 @@ module _ {table : List ℕ} {ps ns : List Float} {is : List ℕ} {sag beyond : F
         ≡ rowIndices vertices vs ++ viewedIndices (drop (k + 1) (rowsOf table)) later
     unfolding viewedIndices
     indices-here =
-        (λ j. viewedIndices (rows-here j) (views-here j))
+        (λ j. viewedIndices (rows-here table k more j) (views-first j))
         ∙ ap (λ (x : ℕ). rowIndices x vs ++ viewedIndices (drop (k + 1) (rowsOf table)) later) (sym ev)
 
     -- how long it is
@@ -260,7 +229,7 @@ module _ {table : List ℕ} {ps ns : List Float} {is : List ℕ} {sag beyond : F
           inside = omega (arith, end-low);
           all-indices = en;
           few = omega (arith, g .body .all, g .body .few);
-          below = λ j a b. subst (λ (x : ℕ). getD is j 0 < x) (sym ev) (inside j a b);
+          below = row-inside table is k (λ j h. g .body .inside k j more h) (c .at-i) ee ev;
           vertices-low = base-low;
           all = g .all;
           small = omega (arith, vertices-fit, g .small);
@@ -271,11 +240,6 @@ module _ {table : List ℕ} {ps ns : List Float} {is : List ℕ} {sag beyond : F
       where
         size : end - i ≡ rowAt table k .indices
         size = omega arith
-
-        inside : (j : ℕ) → i ≤ j → j < end → getD is j 0 < rowAt table k .vertices
-        inside j a b =
-            let q : indicesBefore (rowsOf table) k + (j - i) ≡ j = omega (arith, c .at-i) in
-            subst (λ (x : ℕ). getD is x 0 < rowAt table k .vertices) q (g .body .inside k (j - i) more (omega arith))
 
     -- there is room for its five numbers
     pub row-room : 5 * k + 5 ≤ length S
@@ -342,10 +306,10 @@ module _ {table : List ℕ} {ps ns : List Float} {is : List ℕ} {sag beyond : F
   unfolding viewedRows viewedPositions viewedNormals viewedIndices
   writing-all {vo} {io} {base} {i} {k} {m} {E} {S} {Q} {M} {J} c em l =
       record {
-        rows-are = appended-written (c .rows-put) ∙ ap (λ (xs : List Row). written (tableOf xs) R) all-rows;
-        positions-are = appended-written (c .positions-put) ∙ ap (λ (xs : List Float). written xs P) all-positions;
-        normals-are = appended-written (c .normals-put) ∙ ap (λ (xs : List Float). written xs N) all-normals;
-        indices-are = appended-written (c .indices-put) ∙ ap (λ (xs : List ℕ). written xs I) all-indices;
+        rows-are = appended-written (c .rows-put) ∙ ap (λ (xs : List Row). written (tableOf xs) R) (whole (c .done-rows) _ (λ rows. viewedRows rows left) refl (c .rows-are));
+        positions-are = appended-written (c .positions-put) ∙ ap (λ (xs : List Float). written xs P) (whole (c .done-positions) _ (λ rows. viewedPositions ps rows (drop (3 * base) ps) left) refl (c .positions-are));
+        normals-are = appended-written (c .normals-put) ∙ ap (λ (xs : List Float). written xs N) (whole (c .done-normals) _ (λ rows. viewedNormals ns base rows (drop (3 * base) ns) left) refl (c .normals-are));
+        indices-are = appended-written (c .indices-put) ∙ ap (λ (xs : List ℕ). written xs I) (whole (c .done-indices) _ (λ rows. viewedIndices rows left) refl (c .indices-are));
         front = c .front;
         rest = c .rest;
       }
@@ -356,14 +320,6 @@ module _ {table : List ℕ} {ps ns : List Float} {is : List ℕ} {sag beyond : F
       left : List (List View)
       left = viewsFrom ps is sag v list count flags base i (drop k (rowsOf table)) W
 
-      all-rows : c .done-rows ≡ viewedRows (rowsOf table) (viewsOf table ps is sag v list count flags W)
-      all-rows = sym (append-nil (c .done-rows)) ∙ ap (λ (rows : List Row). c .done-rows ++ viewedRows rows left) (sym none) ∙ c .rows-are
-
-      all-positions : c .done-positions ≡ viewedPositions ps (rowsOf table) ps (viewsOf table ps is sag v list count flags W)
-      all-positions = sym (append-nil (c .done-positions)) ∙ ap (λ (rows : List Row). c .done-positions ++ viewedPositions ps rows (drop (3 * base) ps) left) (sym none) ∙ c .positions-are
-
-      all-normals : c .done-normals ≡ viewedNormals ns 0 (rowsOf table) ns (viewsOf table ps is sag v list count flags W)
-      all-normals = sym (append-nil (c .done-normals)) ∙ ap (λ (rows : List Row). c .done-normals ++ viewedNormals ns base rows (drop (3 * base) ns) left) (sym none) ∙ c .normals-are
-
-      all-indices : c .done-indices ≡ viewedIndices (rowsOf table) (viewsOf table ps is sag v list count flags W)
-      all-indices = sym (append-nil (c .done-indices)) ∙ ap (λ (rows : List Row). c .done-indices ++ viewedIndices rows left) (sym none) ∙ c .indices-are
+      -- nothing is left of a list that has nothing for no rows
+      whole : {A : Type 0} (done all : List A) (rest : List Row → List A) → rest [] ≡ [] → done ++ rest (drop k (rowsOf table)) ≡ all → done ≡ all
+      whole {A} done all rest e h = sym (append-nil done) ∙ ap (λ (xs : List A). done ++ xs) (sym e) ∙ ap (λ (rows : List Row). done ++ rest rows) (sym none) ∙ h

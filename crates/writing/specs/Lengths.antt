@@ -20,7 +20,7 @@ use Rattle.splits.specs.Splits.{near-last}
 use Rattle.splits.specs.Entries.{Entry, after, insertEntry, dropAfter, keptEntries}
 use Rattle.splits.specs.Found.{foundOnly, Spot, nearerSpot, spotOf, withSpot, withVertex, entriesOn, triangleKept}
 use Rattle.splits.specs.Places.{OnEdges}
-use Rattle.rings.specs.Rings.{coordinatesAt, newPositions, newNormals, startOf, endOf, numbersOf, ringAfter, fanGo}
+use Rattle.rings.specs.Rings.{coordinatesAt, newPositions, newNormals, startOf, endOf, numbersOf, edgesOf, ringAfter, fanGo}
 use Rattle.counting.specs.Views.{sidesAt, View, rowViews, keptIn, rowPositions, rowNormals, rowIndices}
 use Rattle.rings.specs.FanLaws.{first-none}
 
@@ -109,10 +109,10 @@ kept-edges sag ps ns s gs =
 -- ---- one triangle
 
 -- The edges have a number for each entry.
-pub numbers-length : (next : ℕ) (C : List Entry) → OnEdges C → length (numbersOf 0 next C) + length (numbersOf 1 next C) + length (numbersOf 2 next C) ≡ length C
+pub numbers-length : (next : ℕ) (C : List Entry) → OnEdges C → length (numbersOf 0 next (edgesOf C)) + length (numbersOf 1 next (edgesOf C)) + length (numbersOf 2 next (edgesOf C)) ≡ length C
 unfolding numbersOf
 numbers-length next [] o = refl
-numbers-length next (x ∷ C) o = go (x .e) (o .0) (numbersOf 0 (next + 1) C) (numbersOf 1 (next + 1) C) (numbersOf 2 (next + 1) C) (numbers-length (next + 1) C (o .1))
+numbers-length next (x ∷ C) o = go (x .e) (o .0) (numbersOf 0 (next + 1) (edgesOf C)) (numbersOf 1 (next + 1) (edgesOf C)) (numbersOf 2 (next + 1) (edgesOf C)) (numbers-length (next + 1) C (o .1))
   where
     go : (k : ℕ) → k ≤ 2 → (A B D : List ℕ) → length A + length B + length D ≡ length C
         → length (cond (eqb k 0) (next ∷ A) A) + length (cond (eqb k 1) (next ∷ B) B) + length (cond (eqb k 2) (next ∷ D) D) ≡ suc (length C)
@@ -124,9 +124,9 @@ numbers-length next (x ∷ C) o = go (x .e) (o .0) (numbersOf 0 (next + 1) C) (n
 -- the ring behind corner a has two corners, and a vertex for each entry
 pub ring-length : (b c next : ℕ) (C : List Entry) → OnEdges C → length (ringAfter b c next C) ≡ length C + 2
 ring-length b c next C o =
-    let A = numbersOf 0 next C in
-    let B = b ∷ numbersOf 1 next C in
-    let D = c ∷ numbersOf 2 next C in
+    let A = numbersOf 0 next (edgesOf C) in
+    let B = b ∷ numbersOf 1 next (edgesOf C) in
+    let D = c ∷ numbersOf 2 next (edgesOf C) in
     omega (arith, length-append (A ++ B) D, length-append A B, numbers-length next C o)
 
 -- The fan has a triangle for each entry, and one more.

@@ -1,5 +1,5 @@
 -- `count_firsts` meets its contract. Assumes nothing.
-use Rattle.counts.proofs.MeshLaws.{count-ready, firsts-counted}
+use Rattle.counts.proofs.MeshLaws.{counts-room, firsts-counted}
 use borrow.Author.Needs.{needs}
 use Rattle.counts.proofs.mesh.count_firsts.Statement.{statement}
 use Rattle.counts.proofs.mesh.count_firsts.Tie as tie
@@ -17,7 +17,7 @@ add-count-uses-2 : tie.Need-add-count-uses-2
 add-count-uses-2 c = search needs
 
 count-uses-requires : tie.Need-count-uses-requires
-count-uses-requires c κs = search count-ready
+count-uses-requires c κs = search counts-room
 
 same-length : tie.Need-same-length
 same-length c = search needs

@@ -1,6 +1,7 @@
 -- `floats::bits_of_f64` meets its contract. Assumes nothing.
+use lib.Ieee.{binary64, toBits}
 use Rattle.rounding.specs.Fields.{equals-itself}
-use Rattle.floats.specs.Patterns.{bits-of-nan-64}
+use Rattle.floats.specs.Patterns.{bits-of-nan}
 use borrow.Author.Needs.{needs}
 use Rattle.floats.proofs.conversion.bits_of_f64.Statement.{statement}
 use Rattle.floats.proofs.conversion.bits_of_f64.Tie as tie
@@ -9,7 +10,8 @@ float-to-bits-result : tie.Need-float-to-bits-result
 float-to-bits-result c = equals-itself (c .before .args .x) (c .if1 .left)
 
 returns : tie.Need-returns
-returns c = bits-of-nan-64 (c .before .args .x) (c .if1 .taken)
+unfolding toBits
+returns c = bits-of-nan binary64 (c .before .args .x) (c .if1 .taken)
 
 returns-2 : tie.Need-returns-2
 returns-2 c = search needs

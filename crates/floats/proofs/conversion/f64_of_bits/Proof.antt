@@ -1,7 +1,7 @@
 -- `floats::f64_of_bits` meets its contract. Assumes nothing.
 use Rattle.rounding.specs.Fields.{no-nan-bits}
 use lib.Ieee.{binary64}
-use Rattle.floats.specs.Patterns.{nan-of-bits-64}
+use Rattle.floats.specs.Patterns.{nan-of-bits}
 use borrow.Author.Needs.{needs}
 use Rattle.floats.proofs.conversion.f64_of_bits.Statement.{statement}
 use Rattle.floats.proofs.conversion.f64_of_bits.Tie as tie
@@ -10,7 +10,7 @@ float-from-bits-result : tie.Need-float-from-bits-result
 float-from-bits-result c = no-nan-bits binary64 (c .before .args .b) (c .if1 .left)
 
 returns : tie.Need-returns
-returns c = nan-of-bits-64 (c .before .args .b) (c .if1 .taken)
+returns c = nan-of-bits binary64 (c .before .args .b) (c .if1 .taken)
 
 returns-2 : tie.Need-returns-2
 returns-2 c = search needs

@@ -1,16 +1,16 @@
 -- `write_mesh` meets its contract. What was written is the mesh that is counted. Assumes nothing.
 use mathlib.Core.Path.{refl}
 use native.Mathlib.Omega.{arith}
-use Rattle.meshing.proofs.MeshLaws.{vertices-low, indices-low, positions-ready, normals-ready, tables-ready, count-ready, parts-low, ranges-low, failures-low, mesh-written}
+use Rattle.meshing.proofs.MeshLaws.{vertices-low, indices-low, vertices-ready, tables-ready, count-ready, parts-low, ranges-low, failures-low, mesh-written}
 use borrow.Author.Needs.{needs}
 use Rattle.meshing.proofs.written.write_mesh.Statement.{statement}
 use Rattle.meshing.proofs.written.write_mesh.Tie as tie
 
 write-vertices-requires : tie.Need-write-vertices-requires
-write-vertices-requires c κs = positions-ready (c .before .before .before .before .before .before .before .before .before .before .before .before .before .pre)
+write-vertices-requires c κs = let g = c .before .before .before .before .before .before .before .before .before .before .before .before .before .pre in vertices-ready g (g .decided .passed .all-positions) (g .positions-room)
 
 write-vertices-requires-2 : tie.Need-write-vertices-requires-2
-write-vertices-requires-2 c κs = normals-ready (c .before .before .before .before .before .before .before .before .before .before .before .before .before .before .before .before .before .before .pre)
+write-vertices-requires-2 c κs = let g = c .before .before .before .before .before .before .before .before .before .before .before .before .before .before .before .before .before .before .pre in vertices-ready g (g .decided .passed .all-normals) (g .normals-room)
 
 write-tables-requires : tie.Need-write-tables-requires
 write-tables-requires c κs = tables-ready (c .before .before .before .before .before .before .before .before .before .before .before .before .before .before .before .before .before .before .before .before .before .before .before .before .before .before .pre)

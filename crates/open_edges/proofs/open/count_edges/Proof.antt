@@ -1,5 +1,5 @@
 -- `count_edges` meets its contract. Assumes nothing.
-use Rattle.open_edges.proofs.OpenStages.{count-ready, runs-ready, uses-counted}
+use Rattle.open_edges.proofs.OpenStages.{counts-room, runs-room, uses-counted}
 use native.Mathlib.Omega.{arith}
 use borrow.Author.Needs.{needs}
 use Rattle.open_edges.proofs.open.count_edges.Statement.{statement}
@@ -18,7 +18,7 @@ add-count-uses-2 : tie.Need-add-count-uses-2
 add-count-uses-2 c = search needs
 
 count-uses-requires : tie.Need-count-uses-requires
-count-uses-requires c κs = search count-ready
+count-uses-requires c κs = search counts-room
 
 mul-list-runs : tie.Need-mul-list-runs
 mul-list-runs c = search needs
@@ -30,7 +30,7 @@ list-runs-requires : tie.Need-list-runs-requires
 list-runs-requires c κs =
     let k = c .before .before .before in
     let u = k .before .before .before .before in
-    runs-ready (u .before .before .before .before .before .pre) (u .first-users .ensures) (omega arith) (k .count-uses .ensures) (omega arith)
+    runs-room (u .before .before .before .before .before .pre) (u .first-users .ensures) (omega arith) (k .count-uses .ensures) (omega arith)
 
 same-length : tie.Need-same-length
 same-length c = search needs

@@ -1,5 +1,5 @@
 -- `mark_open` meets its contract. Assumes nothing.
-use Rattle.open_edges.proofs.OpenLaws.{users-ready, flags-ready, marked}
+use Rattle.open_edges.proofs.OpenLaws.{users-found, flags-ready, marked}
 use native.Mathlib.Omega.{arith}
 use borrow.Author.Needs.{needs}
 use Rattle.open_edges.proofs.open.mark_open.Statement.{statement}
@@ -21,7 +21,7 @@ add-count-edges : tie.Need-add-count-edges
 add-count-edges c = search needs
 
 count-edges-requires : tie.Need-count-edges-requires
-count-edges-requires c κs = search users-ready
+count-edges-requires c κs = search users-found
 
 mul-mark-uses : tie.Need-mul-mark-uses
 mul-mark-uses c = search needs

@@ -1,5 +1,5 @@
 -- `lay_uses` meets its contract. Assumes nothing.
-use Rattle.pairs.proofs.LaidLaws.{joinable, users-ready, laid}
+use Rattle.pairs.proofs.LaidLaws.{joinable, users-found, laid}
 use borrow.Author.Needs.{needs}
 use Rattle.pairs.proofs.uses.lay_uses.Statement.{statement}
 use Rattle.pairs.proofs.uses.lay_uses.Tie as tie
@@ -23,7 +23,7 @@ add-list-uses-2 : tie.Need-add-list-uses-2
 add-list-uses-2 c = search needs
 
 list-uses-requires : tie.Need-list-uses-requires
-list-uses-requires c κs = search users-ready
+list-uses-requires c κs = search users-found
 
 same-length : tie.Need-same-length
 same-length c = search needs

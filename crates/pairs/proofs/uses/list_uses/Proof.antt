@@ -1,5 +1,5 @@
 -- `list_uses` meets its contract. Assumes nothing.
-use Rattle.pairs.proofs.StageLaws.{rows-room, runs-ready, uses-listed}
+use Rattle.pairs.proofs.StageLaws.{rows-room, runs-room, uses-listed}
 use native.Mathlib.Omega.{arith}
 use borrow.Author.Needs.{needs}
 use Rattle.pairs.proofs.uses.list_uses.Statement.{statement}
@@ -27,7 +27,7 @@ list-runs-requires : tie.Need-list-runs-requires
 list-runs-requires c κs =
     let r = c .before .before .before in
     let u = r .before .before .before .before in
-    runs-ready (u .before .before .before .before .before .pre) (u .first-users .ensures) (omega arith) (r .list-rows .ensures)
+    runs-room (u .before .before .before .before .before .pre) (u .first-users .ensures) (omega arith) (r .list-rows .ensures)
 
 same-length : tie.Need-same-length
 same-length c = search needs

@@ -1,6 +1,6 @@
 -- `edge_normal` meets its contract. Assumes nothing.
 use native.Mathlib.Omega.{arith}
-use Rattle.rings.proofs.VertexLaws.{start-inside, end-inside, normal-is}
+use Rattle.rings.proofs.VertexLaws.{corner-inside, next-corners, normal-is}
 use borrow.Author.Needs.{needs}
 use Rattle.rings.proofs.vertices.edge_normal.Statement.{statement}
 use Rattle.rings.proofs.vertices.edge_normal.Tie as tie
@@ -14,18 +14,18 @@ end-of-requires c κs = search needs
 mul-vertex : tie.Need-mul-vertex
 mul-vertex c =
     let s = c .before .before .before in
-    omega (arith, start-inside (s .pre) (s .args .e) (c .before .start-of .ensures))
+    omega (arith, corner-inside (s .pre) (s .args .e) (c .before .start-of .ensures))
 
 vertex-requires : tie.Need-vertex-requires
-vertex-requires c κs = search start-inside
+vertex-requires c κs = search corner-inside
 
 mul-vertex-2 : tie.Need-mul-vertex-2
 mul-vertex-2 c =
     let s = c .before .before .before .before in
-    omega (arith, end-inside (s .pre) (s .args .e) (c .before .end-of .ensures))
+    omega (arith, corner-inside (next-corners (s .pre)) (s .args .e) (c .before .end-of .ensures))
 
 vertex-requires-2 : tie.Need-vertex-requires-2
-vertex-requires-2 c κs = search end-inside
+vertex-requires-2 c κs = search (corner-inside, next-corners)
 
 mixed-normal-requires : tie.Need-mixed-normal-requires
 mixed-normal-requires c κs = search needs
