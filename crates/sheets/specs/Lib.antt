@@ -1,3 +1,4 @@
+-- The sheets with their answers, one to a file.
 pub mod WorkedExample
 pub mod Pinwheel
 pub mod MoebiusStrip
