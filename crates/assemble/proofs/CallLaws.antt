@@ -14,7 +14,8 @@ use Rattle.lists.specs.Lists.{written}
 use Rattle.lists.specs.Sets.{drop-sets}
 use Rattle.lists.specs.Stretches.{stretch-sets, stretch-at, rest-less}
 use Rattle.points.specs.Points.{bits}
-use Rattle.body.specs.Body.{Row, Patch, rowsOf, patchesOf, allVertices, workNeeded, cleared, firstFailing}
+use Rattle.body.specs.Body.{Row, Patch, rowsOf, patchesOf, allVertices, workNeeded, firstFailing}
+use Rattle.checks.specs.Cleared.{cleared-is}
 use Rattle.checks.specs.BodyChecks.{bodyChecks}
 use Rattle.body.specs.Rows.{Total}
 use Rattle.body.specs.Patches.{noPatch, length-patches}
@@ -237,24 +238,15 @@ module _ {table : List ℕ} {ps ns : List Float} {is W : List ℕ} {m : ℕ} (g 
 -- ---- the words cleared
 
 module _ {table : List ℕ} {ps ns : List Float} {is : List ℕ} (W : List ℕ) {u m n : ℕ} (p : Passed table ps ns is (length W)) (ev : Total (allVertices (rowsOf table)) u) (em : m ≡ length (rowsOf table)) (en : n ≡ length is) where
-  words-are : 16 * n + 16 * m + 4 * u ≡ workNeeded (rowsOf table)
-  unfolding workNeeded
-  words-are = omega (arith, p .all-indices, ev .is, em, en)
-
-  -- they can be
-  pub clearable : (X : List ℕ) → length X ≡ length W → 16 * n + 16 * m + 4 * u ≤ length X
-  clearable X l = omega (arith, p .enough, words-are)
-
   -- the body is assembled as the definition says
   pub accepted-assembled : {box : Aabb} {materials : List ℕ} {default : ℕ} {P P' N N' : List Float} {I I' parts parts' ranges ranges' failures failures' X Z : List ℕ} {r : Assembled}
       → BodyAssembled table ps ns is box materials default P P' N N' I I' parts parts' ranges ranges' failures failures' W X r
       → Z ≡ replicate (16 * n + 16 * m + 4 * u) 0 ++ drop (16 * n + 16 * m + 4 * u) X
       → leftMesh r (slicesOf P' N' I' parts' ranges' failures' Z) ≡ assembleAnswered (assembleAccepted table ps ns is box materials default (slicesOf P N I parts ranges failures W))
-  unfolding clearedMesh cleared
+  unfolding clearedMesh
   accepted-assembled {box} {materials} {default} {P} {P'} {N} {N'} {I} {I'} {parts} {parts'} {ranges} {ranges'} {failures} {failures'} {X} {Z} b z =
-      let e : Z ≡ cleared (rowsOf table) W = z ∙ ap (λ (k : ℕ). replicate k 0 ++ drop k X) words-are ∙ ap (λ (l : List ℕ). replicate (workNeeded (rowsOf table)) 0 ++ l) (b .rest) in
       b .same Z
-      ∙ ap (λ (work : List ℕ). assembleAnswered (assembleOrRefuse (rowsOf table) materials default (acceptance box materials default (patchesOf (rowsOf table) ps ns is)) (slicesOf P N I parts ranges failures work))) e
+      ∙ ap (λ (work : List ℕ). assembleAnswered (assembleOrRefuse (rowsOf table) materials default (acceptance box materials default (patchesOf (rowsOf table) ps ns is)) (slicesOf P N I parts ranges failures work))) (cleared-is W p ev em en X (b .rest) z)
 
 -- ---- the call
 

@@ -16,6 +16,7 @@ use Rattle.points.specs.Rule.{names}
 use Rattle.points.specs.Points.{key}
 use Rattle.join.specs.Join.{joined}
 use Rattle.body.specs.Body.{rowsOf, patchesOf, allVertices, workNeeded, cleared, firstFailing}
+use Rattle.checks.specs.Cleared.{words-are, cleared-is}
 use Rattle.checks.specs.BodyChecks.{bodyChecks}
 use Rattle.body.specs.Rows.{Total}
 use Rattle.checks.specs.Accepted.{Passed, passed, passed-rows}
@@ -104,8 +105,7 @@ module _ {table : List ℕ} {ps : List Float} {is W : List ℕ} {v m n at end : 
 
 module _ {table : List ℕ} {ps ns : List Float} {is : List ℕ} (W : List ℕ) {v m n : ℕ} (p : Passed table ps ns is (length W)) (ev : Total (allVertices (rowsOf table)) v) (em : m ≡ length (rowsOf table)) (en : n ≡ length is) where
   needed : workNeeded (rowsOf table) ≡ 16 * length is + 16 * m + 4 * v
-  unfolding workNeeded
-  needed = omega (arith, p .all-indices, ev .is)
+  needed = omega (arith, words-are W p ev em en)
 
   -- its rows can be coloured
   pub colourable : Colourable table ps is W v m
@@ -140,10 +140,6 @@ module _ {table : List ℕ} {ps ns : List Float} {is : List ℕ} (W : List ℕ) 
         room = omega (arith, p .enough, needed);
       }
 
-  -- the words that it needs can be cleared
-  pub clearable : (X : List ℕ) → length X ≡ length W → 16 * n + 16 * m + 4 * v ≤ length X
-  clearable X l = omega (arith, p .enough, needed)
-
   module _ {X Z : List ℕ} {ns' : List Float} {is' : List ℕ} {against turned : ℕ} (long : length X ≡ length W) (c : Coloured table ps is v m W X against)
       (r : Reversed (take (length (rowsOf table)) (drop (4 * v + 6 * m + 6 * n) X)) table ns is ns' is' turned)
       (z : Z ≡ replicate (16 * n + 16 * m + 4 * v) 0 ++ drop (16 * n + 16 * m + 4 * v) X) where
@@ -171,13 +167,7 @@ module _ {table : List ℕ} {ps ns : List Float} {is : List ℕ} (W : List ℕ) 
     indices-are = r .indices ∙ ap (λ (cs : List ℕ). changedRows swapped indexCount cs (rowsOf table) is) colours-are
 
     work-is : Z ≡ cleared (rowsOf table) W
-    unfolding cleared
-    work-is =
-        let e : 16 * n + 16 * m + 4 * v ≡ workNeeded (rowsOf table) = omega (arith, needed) in
-        let f : 16 * length is + 16 * m + 4 * v ≡ workNeeded (rowsOf table) = omega (arith, needed) in
-        z
-        ∙ ap (λ (k : ℕ). replicate k 0 ++ drop k X) e
-        ∙ ap (λ (l : List ℕ). replicate (workNeeded (rowsOf table)) 0 ++ l) (subst (λ (k : ℕ). drop k X ≡ drop k W) f (c .rest))
+    work-is = cleared-is W p ev em en X (subst (λ (k : ℕ). drop k X ≡ drop k W) (sym needed) (c .rest)) z
 
     -- the body is turned as the definition says
     pub accepted-turned : leftDone (record { turned = turned; against = against }) ns' is' Z ≡ turnDone table ps ns is W

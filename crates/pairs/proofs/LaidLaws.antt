@@ -1,6 +1,6 @@
 -- Laws of the uses laid out: what stands in the work area is the definition's uses, by first use, row and run. Assumes nothing.
-use mathlib.Core.Path.{_≡_, refl, sym, ap, _∙_, subst}
-use mathlib.Core.List.{List, [], _∷_, map}
+use mathlib.Core.Path.{_≡_, sym, ap, _∙_, subst}
+use mathlib.Core.List.{List, [], map, map-map}
 use Prim.Native.Nat.{ℕ, _+_, _*_, _<_}
 use native.Mathlib.Omega.{arith}
 use lib.ListN.{length, getD, take, drop, length-map}
@@ -27,11 +27,6 @@ use Rattle.pairs.specs.Laid.{shellsOf, usesAt, keyUses, Joinable, BodyJo
 use Rattle.pairs.proofs.ShellLaws.{shell-at}
 use Rattle.pairs.proofs.StageLaws.{rows-there}
 
--- a list mapped twice
-map-twice : {A B C : Type 0} (f : B → C) (g : A → B) (xs : List A) → map f (map g xs) ≡ map (λ x. f (g x)) xs
-map-twice f g [] = refl
-map-twice f g (x ∷ xs) = ap (λ l. f (g x) ∷ l) (map-twice f g xs)
-
 module _ {table : List ℕ} {ps : List Float} {is W : List ℕ} {v m : ℕ} (g : Layable table ps is W v m) where
   -- the vertices and rows can be joined
   pub joinable : Joinable table ps v m W
@@ -56,7 +51,7 @@ module _ {table : List ℕ} {ps : List Float} {is W : List ℕ} {v m : ℕ} (g :
 
   numbers-are : joined (shellsOf (rowsOf table)) ≡ numbers
   unfolding joined number
-  numbers-are = map-twice (λ (s : ℕ). indexOf s (shellsOf (rowsOf table))) (λ (r : Row). r .shell) (rowsOf table)
+  numbers-are = map-map (λ (s : ℕ). indexOf s (shellsOf (rowsOf table))) (λ (r : Row). r .shell) (rowsOf table)
 
   -- the number of a row's shell leads back to it
   shell-back : (k : ℕ) → k < length (rowsOf table) → getD (shellsOf (rowsOf table)) (number (getD (rowsOf table) k noRow .shell)) 0 ≡ getD (rowsOf table) k noRow .shell
@@ -106,7 +101,7 @@ module _ {table : List ℕ} {ps : List Float} {is W : List ℕ} {v m : ℕ} (g :
       listed-there = λ i. record { count = sym uses-long i; first = firsts i; row = rows i; run = runs i }
         where
           firsts : take (length is) (drop (usesAt v m (length is)) E) ≡ joined (map (nameBy number) uses)
-          firsts = u .firsts ∙ ap (λ (us : List Use). joined (map useName us)) uses-are ∙ ap joined (map-twice useName (inShell number) uses)
+          firsts = u .firsts ∙ ap (λ (us : List Use). joined (map useName us)) uses-are ∙ ap joined (map-map useName (inShell number) uses)
 
           place : usesAt v m (length is) + length is ≡ 4 * v + 4 * m + 2 * length is
           place = omega arith
@@ -120,14 +115,14 @@ module _ {table : List ℕ} {ps : List Float} {is W : List ℕ} {v m : ℕ} (g :
               ∙ u .rows
               ∙ sym (rows-there users-found)
               ∙ ap (map useRow) uses-are
-              ∙ map-twice useRow (inShell number) uses
+              ∙ map-map useRow (inShell number) uses
 
           runs : take (length is) (drop (2 * length is) (drop (usesAt v m (length is)) E)) ≡ map useRun uses
           runs =
               ap (take (length is)) (drop-drop (2 * length is) (usesAt v m (length is)) E ∙ ap (λ (k : ℕ). drop k E) place-2)
               ∙ u .runs
               ∙ ap (map useRun) uses-are
-              ∙ map-twice useRun (inShell number) uses
+              ∙ map-map useRun (inShell number) uses
 
       -- first uses are uses, and rows are rows
       sound-there : Sound (length is) m (drop (usesAt v m (length is)) E)
@@ -144,7 +139,7 @@ module _ {table : List ℕ} {ps : List Float} {is W : List ℕ} {v m : ℕ} (g :
           first-low i l = omega (arith, joined-below (map (nameBy number) uses) i (omega (arith, named-many)), named-many)
 
           numbered : map useRow uses ≡ rowNumbers 0 (rowsOf table)
-          numbered = sym (map-twice useRow (inShell number) uses) ∙ sym (ap (map useRow) uses-are) ∙ rows-there users-found
+          numbered = sym (map-map useRow (inShell number) uses) ∙ sym (ap (map useRow) uses-are) ∙ rows-there users-found
 
           row-low : (i : ℕ) → i < length is → getD (map useRow uses) i 0 < m
           row-low i l =

@@ -41,10 +41,14 @@ unfoldable pub insertEntry : Entry → List Entry → List Entry
 insertEntry x [] = x ∷ []
 insertEntry x (y ∷ ys) = elim (after x y) [ true ↦ x ∷ y ∷ ys | false ↦ y ∷ insertEntry x ys ]
 
--- one on the edge of the last kept and closer than 1e-9 to it is dropped
+-- whether y is on the edge of x and closer than 1e-9 to it
+abbrev pub closeTo : Entry → Entry → Bool
+closeTo x y = eqb (y .e) (x .e) && lt (absolute (sub (y .t) (x .t))) near-last
+
+-- one that close to the last kept is dropped
 unfoldable pub dropAfter : Entry → List Entry → List Entry
 dropAfter last [] = []
-dropAfter last (y ∷ ys) = elim (eqb (y .e) (last .e) && lt (absolute (sub (y .t) (last .t))) near-last) [ true ↦ dropAfter last ys | false ↦ y ∷ dropAfter y ys ]
+dropAfter last (y ∷ ys) = elim (closeTo last y) [ true ↦ dropAfter last ys | false ↦ y ∷ dropAfter y ys ]
 
 -- the first is kept
 unfoldable pub keptEntries : List Entry → List Entry
@@ -81,10 +85,6 @@ pub record EntriesKept (at ts count : ℕ) (W E : List ℕ) (r : ℕ) : Type 0 w
 -- the entry at place j
 abbrev pub entryAt : List ℕ → ℕ → ℕ → ℕ → Entry
 entryAt W at ts j = entryOf (getD W (at + j) 0) (getD W (ts + j) 0)
-
--- whether y is on the edge of x and closer than 1e-9 to it
-abbrev pub closeTo : Entry → Entry → Bool
-closeTo x y = eqb (y .e) (x .e) && lt (absolute (sub (y .t) (x .t))) near-last
 
 -- what looking at place j asks
 pub record EntryPlace (at ts j : ℕ) (W : List ℕ) : Type 0 where

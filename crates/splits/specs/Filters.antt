@@ -1,4 +1,4 @@
--- Laws of `map`, `filter`, `filterMap` and `countIf`: over an append, over one another, and of functions that agree. Assumes nothing.
+-- Laws of `filter`, `filterMap` and `countIf`: over an append, over a `map`, over one another, and of functions that agree. Assumes nothing.
 use mathlib.Core.Path.{_≡_, refl, ap}
 use mathlib.Core.Bool.{Bool, true, false, cond}
 use mathlib.Core.List.{List, [], _∷_, _++_, map}
@@ -34,11 +34,6 @@ module _ {A : Type 0} where
       go false e = e
 
 module _ {A B : Type 0} where
-  -- what a function makes of two lists
-  pub map-append : (f : A → B) (xs ys : List A) → map f (xs ++ ys) ≡ map f xs ++ map f ys
-  map-append f [] ys = refl
-  map-append f (x ∷ xs) ys = ap (λ (l : List B). f x ∷ l) (map-append f xs ys)
-
   -- a test of what a function makes
   pub filter-map : (p : B → Bool) (f : A → B) (xs : List A) → filter p (map f xs) ≡ map f (filter (λ x. p (f x)) xs)
   unfolding filter

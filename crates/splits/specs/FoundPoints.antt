@@ -1,7 +1,7 @@
 -- The points that the definition finds for a triangle are those of the vertices that the code finds, in order. Assumes nothing.
 use mathlib.Core.Path.{_≡_, refl, sym, ap, _∙_}
 use mathlib.Core.Bool.{Bool, true, false, not, _&&_, _||_, cond, or-false}
-use mathlib.Core.List.{List, [], _∷_, _++_, map, append-nil, append-assoc}
+use mathlib.Core.List.{List, [], _∷_, _++_, map, append-nil, append-assoc, map-append}
 use Prim.Native.Nat.{ℕ, zero, suc, _+_, _<_}
 use native.Mathlib.Nat.{le-of-suc-le-suc, not-suc-le-zero}
 use native.Mathlib.Omega.{arith}
@@ -19,7 +19,7 @@ use Rattle.loose.specs.Listed.{looseOf}
 use Rattle.splits.specs.declared.sides.Sides.{Sides}
 use Rattle.splits.specs.Splits.{Side, sideOf, sidesOf, sameCell, splits, foundOn, foundFrom}
 use Rattle.splits.specs.Found.{edgeFrom, sidesFrom, counts, countsOn, foundOnly, foundCount, triangleFound}
-use Rattle.splits.specs.Filters.{filter-none, filter-same, filter-length, map-append}
+use Rattle.splits.specs.Filters.{filter-none, filter-same, filter-length}
 use Rattle.splits.specs.Cells.{cell-self}
 
 -- vertices whose names rise, and of which two in one cell have one name

@@ -1,7 +1,7 @@
 -- Entries that are sorted and dropped in one list are those sorted and dropped edge by edge. Assumes nothing.
 use mathlib.Core.Path.{_≡_, refl, sym, ap, _∙_}
 use mathlib.Core.Bool.{Bool, true, false, _&&_, _||_, cond}
-use mathlib.Core.List.{List, [], _∷_, _++_, map, append-nil, append-assoc}
+use mathlib.Core.List.{List, [], _∷_, _++_, map, map-append, append-nil, append-assoc}
 use Prim.Native.Nat.{ℕ, zero, suc, _≤_, _<_}
 use native.Mathlib.Omega.{arith}
 use lib.Dec.{eqb}
@@ -13,7 +13,7 @@ use Rattle.geometry.specs.Geometry.{sub}
 use Rattle.loose.specs.Loose.{Facet}
 use Rattle.splits.specs.Splits.{near-last, Placed, insertPlaced, sortPlaced, dropNear, dropClose, keptOn}
 use Rattle.splits.specs.Entries.{Entry, insertEntry, dropAfter, keptEntries}
-use Rattle.splits.specs.Filters.{map-append, filter-map}
+use Rattle.splits.specs.Filters.{filter-map}
 use Rattle.splits.specs.Places.{OnEdges, placedOf}
 
 -- ---- one edge

@@ -2,17 +2,17 @@
 use mathlib.Core.Path.{_≡_, sym, ap, _∙_, subst}
 use mathlib.Core.Bool.{Bool, true, false}
 use mathlib.Core.List.{List, _++_}
-use Prim.Native.Nat.{ℕ, _+_, _*_, _≤_}
-use native.Mathlib.Omega.{arith}
+use Prim.Native.Nat.{ℕ, _+_, _*_}
 use lib.ListN.{length, drop, replicate}
 use lib.Ieee.{Float, lt}
 use borrow.Author.Tests.{eq-eqb, ne-eqb}
 use Rattle.points.specs.Rule.{names}
 use Rattle.points.specs.Points.{key}
-use Rattle.body.specs.Body.{Patch, rowsOf, patchesOf, allVertices, workNeeded, cleared, firstFailing}
+use Rattle.body.specs.Body.{Patch, rowsOf, patchesOf, allVertices, cleared, firstFailing}
 use Rattle.checks.specs.BodyChecks.{bodyChecks}
 use Rattle.body.specs.Rows.{Total}
 use Rattle.checks.specs.Accepted.{Passed}
+use Rattle.checks.specs.Cleared.{cleared-is}
 use Rattle.geometry.specs.Geometry.{zero64}
 use Rattle.results.specs.declared.answer.Stitched.{Stitched}
 use Rattle.results.specs.declared.answer.Stitched.the-variants.{Done, Refused}
@@ -48,20 +48,11 @@ module _ {table : List ℕ} {ps ns : List Float} {is : List ℕ} (W : List ℕ) 
   pub ready : StitchReady table ps ns is W v m
   ready = record { passed = p; vertices = ev .is; rows = em }
 
-  -- the words that it needs can be cleared
-  pub clearable : (X : List ℕ) → length X ≡ length W → 16 * n + 16 * m + 4 * v ≤ length X
-  clearable X l = omega (arith, p .enough, words-needed ready)
-
   module _ (sag : Float) {R R' : List ℕ} {P P' N N' : List Float} {I I' X Z : List ℕ} {r : Stitched}
       (b : BodyStitched (stitchBody sag (names key ps) (patchesOf (rowsOf table) ps ns is)) R R' P P' N N' I I' (16 * length is + 16 * m + 4 * v) W X r)
       (z : Z ≡ replicate (16 * n + 16 * m + 4 * v) 0 ++ drop (16 * n + 16 * m + 4 * v) X) where
     work-is : Z ≡ cleared (rowsOf table) W
-    unfolding cleared
-    work-is =
-        let e : 16 * n + 16 * m + 4 * v ≡ workNeeded (rowsOf table) = omega (arith, words-needed ready) in
-        z
-        ∙ ap (λ (k : ℕ). replicate k 0 ++ drop k X) e
-        ∙ ap (λ (l : List ℕ). replicate (workNeeded (rowsOf table)) 0 ++ l) (subst (λ (k : ℕ). drop k X ≡ drop k W) (sym (words-needed ready)) (b .rest))
+    work-is = cleared-is W p ev em en X (subst (λ (k : ℕ). drop k X ≡ drop k W) (sym (words-needed ready)) (b .rest)) z
 
     -- the body is stitched as the definition says
     pub accepted-stitched : leftStitch r (slicesOf R' P' N' I' Z) ≡ stitchAnswered (stitchAccepted table ps ns is sag (slicesOf R P N I W))

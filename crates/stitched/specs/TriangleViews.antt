@@ -3,7 +3,7 @@ use mathlib.Core.Path.{_≡_, refl, ap, _∙_}
 use mathlib.Core.Bool.{Bool, true, false, not, cond}
 use mathlib.Core.List.{List, [], _∷_, _++_, map, flatMap}
 use Prim.Native.Nat.{ℕ, zero, suc, _+_, _<_}
-use lib.ListN.{length, getD}
+use lib.ListN.{length, getD, length-map}
 use lib.Dec.{eqb}
 use lib.Ieee.{Float}
 use Rattle.body.specs.Body.{Triangle}
@@ -110,11 +110,6 @@ module _ (f : Facet) (ps : List Float) where
   entry-positions [] = refl
   entry-positions (x ∷ C) = ap (λ (l : List Float). coordinatesAt ps (x .vertex) ++ l) (entry-positions C)
 
-  -- as many as entries
-  entry-count : (C : List Entry) → length (map (placedOf f ps) C) ≡ length C
-  entry-count [] = refl
-  entry-count (x ∷ C) = ap suc (entry-count C)
-
 -- the normals at a triangle's corners
 record NormalsAt (f : Facet) (ts ns : List Float) (a b c : ℕ) : Type 0 where
   at-a : pointAt ts (f .c₀ .index) ≡ pointAt ns a
@@ -147,7 +142,7 @@ module _ {f : Facet} {ts ns : List Float} {a b c : ℕ} (h : NormalsAt f ts ns a
 module _ {ps : List Float} {n : ℕ} {s : SplitTriangle} {x : View} (h : Seen ps n s x) where
   -- as many new vertices as the view keeps
   pub seen-count : length (s .kept) ≡ length (x .kept)
-  seen-count = ap length (h .kept) ∙ entry-count (s .facet) ps (x .kept)
+  seen-count = ap length (h .kept) ∙ length-map (x .kept) (placedOf (s .facet) ps)
 
   -- at the same positions
   pub seen-positions : flatMap (λ k. coordinates (k .point)) (s .kept) ≡ newPositions ps (x .kept)

@@ -113,9 +113,11 @@ module _ {ps ns : List Float} {is : List ℕ} {sag beyond : Float} {n v list cou
   pub own-normals : StretchReady ns (3 * base) (3 * (base + vertices)) N (3 * vo)
   own-normals = record { order = omega arith; inside = omega (arith, g .vertices-low, g .all); room = omega (arith, g .room-normals) }
 
-  -- the numbers of the stretch
-  size : 3 * (base + vertices) - 3 * base ≡ 3 * vertices
-  size = omega arith
+  -- such a stretch, in the contract's words
+  own : (xs : List Float) {X Y : List Float} → Appended (3 * vo) (take (3 * (base + vertices) - 3 * base) (drop (3 * base) xs)) X Y → Appended (3 * vo) (take (3 * vertices) (drop (3 * base) xs)) X Y
+  own xs {X} {Y} =
+      let size : 3 * (base + vertices) - 3 * base ≡ 3 * vertices = omega arith in
+      subst (λ (m : ℕ). Appended (3 * vo) (take m (drop (3 * base) xs)) X Y) size
 
   -- a stretch of that many numbers
   own-long : (xs : List Float) → length xs ≡ 3 * v → length (take (3 * vertices) (drop (3 * base) xs)) ≡ 3 * vertices
@@ -123,21 +125,13 @@ module _ {ps ns : List Float} {is : List ℕ} {sag beyond : Float} {n v list cou
 
   module _ {Q M : List Float} (p : Appended (3 * vo) (take (3 * (base + vertices) - 3 * base) (drop (3 * base) ps)) P Q)
       (q : Appended (3 * vo) (take (3 * (base + vertices) - 3 * base) (drop (3 * base) ns)) N M) where
-    -- the same, in the contract's words
-    own-p : Appended (3 * vo) (take (3 * vertices) (drop (3 * base) ps)) P Q
-    own-p = subst (λ (m : ℕ). Appended (3 * vo) (take m (drop (3 * base) ps)) P Q) size p
-
-    -- and for the normals
-    own-n : Appended (3 * vo) (take (3 * vertices) (drop (3 * base) ns)) N M
-    own-n = subst (λ (m : ℕ). Appended (3 * vo) (take m (drop (3 * base) ns)) N M) size q
-
     -- the slice of the positions is as long as it was
     pub long-p : length Q ≡ length P
-    long-p = appended-long own-p (omega (arith, own-long ps (g .stands .all), g .room-positions))
+    long-p = appended-long (own ps p) (omega (arith, own-long ps (g .stands .all), g .room-positions))
 
     -- so is that of the normals
     pub long-n : length M ≡ length N
-    long-n = appended-long own-n (omega (arith, own-long ns (g .all), g .room-normals))
+    long-n = appended-long (own ns q) (omega (arith, own-long ns (g .all), g .room-normals))
 
     -- no triangle is written yet
     pub writing-none : Writing ps ns is sag v list count at ts flags base vertices from to vo io W Q M I W Q M I (vo + vertices) io from
@@ -180,12 +174,12 @@ module _ {ps ns : List Float} {is : List ℕ} {sag beyond : Float} {n v list cou
               subst
               (λ (vs : List View). Appended (3 * vo) (take (3 * vertices) (drop (3 * base) ps) ++ rowPositions ps vs) P P')
               e
-              (appended-twice own-p (subst (λ (o : ℕ). Appended o (rowPositions ps (c .done)) Q P') at-p (c .positions)));
+              (appended-twice (own ps p) (subst (λ (o : ℕ). Appended o (rowPositions ps (c .done)) Q P') at-p (c .positions)));
           normals =
               subst
               (λ (vs : List View). Appended (3 * vo) (take (3 * vertices) (drop (3 * base) ns) ++ rowNormals ns base vs) N N')
               e
-              (appended-twice own-n (subst (λ (o : ℕ). Appended o (rowNormals ns base (c .done)) M N') at-n (c .normals)));
+              (appended-twice (own ns q) (subst (λ (o : ℕ). Appended o (rowNormals ns base (c .done)) M N') at-n (c .normals)));
           indices-are = subst (λ (vs : List View). Appended io (rowIndices vertices vs) I I') e (c .indices-are);
           vertices-end = c .vertices-end ∙ ap (λ (vs : List View). vo + vertices + keptIn vs) e;
           indices-end = c .indices-end ∙ ap (λ (vs : List View). io + length (rowIndices vertices vs)) e;

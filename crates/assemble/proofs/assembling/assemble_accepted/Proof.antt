@@ -1,7 +1,8 @@
 -- `assemble_accepted` meets its contract. What is cleared in the end does not matter to what was written. Assumes nothing.
 use mathlib.Core.Path.{refl}
 use native.Mathlib.Omega.{arith}
-use Rattle.assemble.proofs.CallLaws.{clearable, accepted-assembled}
+use Rattle.checks.specs.Cleared.{clearable}
+use Rattle.assemble.proofs.CallLaws.{accepted-assembled}
 use borrow.Author.Needs.{needs}
 use Rattle.assemble.proofs.assembling.assemble_accepted.Statement.{statement}
 use Rattle.assemble.proofs.assembling.assemble_accepted.Tie as tie

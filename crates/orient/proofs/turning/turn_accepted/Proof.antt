@@ -1,5 +1,6 @@
 -- `turn_accepted` meets its contract. Assumes nothing.
-use Rattle.orient.proofs.TurnLaws.{colourable, reversible, clearable, accepted-turned}
+use Rattle.checks.specs.Cleared.{clearable}
+use Rattle.orient.proofs.TurnLaws.{colourable, reversible, accepted-turned}
 use mathlib.Core.Path.{refl}
 use native.Mathlib.Omega.{arith}
 use borrow.Author.Needs.{needs}

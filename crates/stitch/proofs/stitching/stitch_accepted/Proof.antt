@@ -1,5 +1,6 @@
 -- `stitch_accepted` meets its contract. Assumes nothing.
-use Rattle.stitch.proofs.StitchLaws.{clearable, accepted-stitched}
+use Rattle.checks.specs.Cleared.{clearable}
+use Rattle.stitch.proofs.StitchLaws.{accepted-stitched}
 use mathlib.Core.Path.{refl}
 use borrow.Author.Needs.{needs}
 use Rattle.stitch.proofs.stitching.stitch_accepted.Statement.{statement}
