@@ -1,5 +1,5 @@
 -- No printed line is longer than 17 bytes, so a program may print into so many. Assumes nothing.
-use Prim.Native.Nat.{ℕ, _≤_}
+use Prim.Native.Nat.{_≤_}
 use native.Mathlib.Omega.{arith}
 use lib.ListN.{length}
 use Rattle.digits.specs.Digits.{digits}
