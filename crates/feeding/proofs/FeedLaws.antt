@@ -2,7 +2,7 @@
 use mathlib.Core.Bool.{Bool, true, false, not, _&&_, cond}
 use mathlib.Core.List.{List, [], _∷_, _++_, append-assoc, append-nil}
 use mathlib.Core.Path.{_≡_, refl, sym, _∙_, ap, subst}
-use Prim.Native.Nat.{ℕ, suc, _+_, _%_, _≤_, _<_}
+use Prim.Native.Nat.{ℕ, suc, _+_, _≤_, _<_}
 use native.Mathlib.Numerals.{add-one}
 use native.Mathlib.Omega.{arith}
 use borrow.Author.Tests.{eqb-true, leb-true, leb-false, ne-eqb}
@@ -16,12 +16,12 @@ use Rattle.line_order.specs.Laws.{long-line, noLF, read-end, read-line}
 use Rattle.line_order.specs.Reading.{State, cut, finished, readFrom, readLine, sheetOf}
 use Rattle.reader.specs.declared.Reader.{Reader}
 use Rattle.reader.specs.Kept.{Kept, ended-state, kept-line}
-use Rattle.reader.specs.Slices.{Lent, ended, fitsIn, lastFits, lent, readInto, refused, stateOf}
+use Rattle.reader.specs.Slices.{Lent, ended, fitsIn, inLimits, lent, readInto, refused, stateOf}
 use Rattle.sheet.specs.Bench.{bench, printed}
 use Rattle.sheet.specs.Meaning.{meant}
 use Rattle.finish.specs.Finish.{finish}
 use Rattle.answer.specs.Answer.{refusalLine}
-use Rattle.finisher.specs.Answered.{answerIn, inLimits}
+use Rattle.finisher.specs.Answered.{answerIn}
 use Rattle.feeding.specs.declared.Fed.{Fed}
 use Rattle.feeding.specs.Feeding.{Ended, Fed-on, SoFar}
 use Rattle.lists.specs.Both.{both-left}
@@ -119,16 +119,10 @@ same-end : (s : State) (front xs : List ℕ) → eqb (length front) 0 ≡ eqb (l
 unfolding finished
 same-end s front xs q = rw q
 
-chop : (a x y : Bool) → (x ≡ true → y ≡ true) → a && x ≡ true → a && y ≡ true
-chop true x y f e = f e
-chop false x y f e = e
-
 -- slices with room for the next line are within the limits
 limits-fit : (r : Reader) (table : List ℕ) (p n i m : ℕ) → fitsIn r table p n i m ≡ true → inLimits r (length table) p n i m ≡ true
-unfolding fitsIn inLimits
-limits-fit r table p n i m =
-    let rest : Bool = eqb (r .indices % 3) 0 && lastFits (r .place) (r .rows) table in
-    chop (leb 80 (length table)) _ _ (chop (leb 288 p) _ _ (chop (leb 288 n) _ _ (chop (leb 96 i) _ _ (chop (leb 64 m) _ _ (chop (leb (r .rows) 16) _ _ (chop (leb (r .vertices) 96) _ _ (both-left (leb (r .indices) 96) rest)))))))
+unfolding fitsIn
+limits-fit r table p n i m e = both-left (inLimits r (length table) p n i m) _ e
 
 limits-ended : (r : Reader) (rest : List ℕ) (t p n i m : ℕ) → inLimits (ended r rest) t p n i m ≡ inLimits r t p n i m
 unfolding ended inLimits

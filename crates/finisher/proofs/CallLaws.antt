@@ -1,10 +1,8 @@
 -- The laws of what is printed of stitch's answer and of turn's. Assumes nothing.
-use mathlib.Core.Bool.{Bool, true, false}
 use mathlib.Core.List.{List}
 use mathlib.Core.Path.{_≡_, refl, sym, _∙_, ap, subst}
 use Prim.Native.Nat.{ℕ, _*_, _<_}
 use native.Mathlib.Omega.{arith}
-use lib.Dec.{eqb}
 use lib.Ieee.{Float}
 use lib.ListN.{length, take, replicate}
 use Rattle.answer.specs.Answer.{Written, refusalLine}
@@ -16,49 +14,23 @@ use Rattle.orient.specs.declared.turning.Counts.{Counts}
 use Rattle.orient.specs.declared.turning.Turned.{Turned}
 use Rattle.orient.specs.declared.turning.Turned.the-variants as TurnCase
 use Rattle.orient.specs.Orient.{AfterTurn, turnOf}
-use Rattle.orient.specs.Turned.{Left, left, answerOf, answered}
+use Rattle.orient.specs.Turned.{Left, left, answered}
 use Rattle.results.specs.declared.answer.Sizes.{Sizes}
 use Rattle.results.specs.declared.answer.Stitched.{Stitched}
 use Rattle.results.specs.declared.answer.Stitched.the-variants as StitchCase
 use Rattle.results.specs.Slices.{AfterStitch, StitchSlices}
 use Rattle.stitch.specs.Stitch.{stitchOf}
-use Rattle.results.specs.Stitched.{LeftStitch, leftStitch, slicesOf, stitchAnswer, stitchAnswered}
+use Rattle.results.specs.Stitched.{LeftStitch, leftStitch, slicesOf, stitchAnswered}
 use Rattle.finish.specs.Finish.{benchRoom, area, stitchSlices}
-use Rattle.finisher.proofs.TextLaws.{told-refusal, zero-same}
+use Rattle.finisher.proofs.CaseLaws.{Cases, told-done, told-refused}
+use Rattle.finisher.proofs.TextLaws.{zero-same}
 use Rattle.finisher.specs.Texts.{FrontsSaid, StitchSaid, Told, TurnSaid, assembledText, finishedText, stitchPrinted, stitchedText, turnPrinted}
 
-zero-not-one : {X : Type 0} → _≡_ {A = ℕ} 0 1 → X
-zero-not-one e = absurd (omega arith)
+stitch-cases : Cases StitchCase.Done StitchCase.Refused
+stitch-cases = record { apart = λ c n e. let z : _≡_ {A = ℕ} 0 1 = cc in omega arith; result = λ c d e. cc; number = λ m n e. cc }
 
--- ---- which case an answer of stitch is
-abbrev stitchTag : Stitched → ℕ
-stitchTag (StitchCase.Done c) = 0
-stitchTag (StitchCase.Refused n) = 1
-
-abbrev stitchSizes : Sizes → Stitched → Sizes
-stitchSizes d (StitchCase.Done c) = c
-stitchSizes d (StitchCase.Refused n) = d
-
-abbrev stitchNumber : Stitched → ℕ
-stitchNumber (StitchCase.Done c) = 0
-stitchNumber (StitchCase.Refused n) = n
-
-module _ (m : Sizes) (n : ℕ) where
-  stitch-done : (b : Bool) (c : Sizes) → StitchCase.Done c ≡ elim b as (λ x. Stitched) [ true ↦ StitchCase.Done m | false ↦ StitchCase.Refused n ] → b ≡ true
-  stitch-done true c e = refl
-  stitch-done false c e = zero-not-one (ap stitchTag e)
-
-  stitch-sizes : (b : Bool) (c : Sizes) → StitchCase.Done c ≡ elim b as (λ x. Stitched) [ true ↦ StitchCase.Done m | false ↦ StitchCase.Refused n ] → c ≡ m
-  stitch-sizes true c e = ap (stitchSizes c) e
-  stitch-sizes false c e = zero-not-one (ap stitchTag e)
-
-  stitch-refused : (b : Bool) (k : ℕ) → StitchCase.Refused k ≡ elim b as (λ x. Stitched) [ true ↦ StitchCase.Done m | false ↦ StitchCase.Refused n ] → b ≡ false
-  stitch-refused true k e = zero-not-one (ap stitchTag (sym e))
-  stitch-refused false k e = refl
-
-  stitch-number : (b : Bool) (k : ℕ) → StitchCase.Refused k ≡ elim b as (λ x. Stitched) [ true ↦ StitchCase.Done m | false ↦ StitchCase.Refused n ] → k ≡ n
-  stitch-number true k e = zero-not-one (ap stitchTag (sym e))
-  stitch-number false k e = ap stitchNumber e
+turn-cases : Cases TurnCase.Done TurnCase.Refused
+turn-cases = record { apart = λ c n e. let z : _≡_ {A = ℕ} 0 1 = cc in omega arith; result = λ c d e. cc; number = λ m n e. cc }
 
 -- ---- stitch's answer printed
 abbrev sizesIn : AfterStitch → Sizes
@@ -72,26 +44,16 @@ module _ (T : List ℕ) (box : Aabb) (M : List ℕ) (d : ℕ) (t : Counts) (g : 
     where
       go : (s : AfterStitch) (w : List ℕ) → leftStitch g (slicesOf R P N I w) ≡ stitchAnswered s → Told E (stitchPrinted T box M d t s) W r
       go s w e =
-          let is : StitchCase.Done z ≡ stitchAnswer s = sym q ∙ ap (λ (l : LeftStitch). l .answer) e in
-          let b : eqb (s .refusal) 0 ≡ true = stitch-done (sizesIn s) (s .refusal) (eqb (s .refusal) 0) z is in
-          let k : z ≡ sizesIn s = stitch-sizes (sizesIn s) (s .refusal) (eqb (s .refusal) 0) z is in
           let o : slicesOf R P N I w ≡ s .slices = ap (λ (l : LeftStitch). l .slices) e in
           let one : assembledText A B C D box M d t (z .splits) ≡ assembledText (take (length T) R) (take (3 * z .vertices) P) (take (3 * z .vertices) N) (take (z .indices) I) box M d t (z .splits) =
           λ j. assembledText (ea j) (eb j) (ec j) (ed j) box M d t (z .splits) in
-          let two : assembledText (take (length T) R) (take (3 * z .vertices) P) (take (3 * z .vertices) N) (take (z .indices) I) box M d t (z .splits) ≡ assembledText (take (length T) (s .slices .table)) (take (3 * s .vertices) (s .slices .positions)) (take (3 * s .vertices) (s .slices .normals)) (take (s .indices) (s .slices .indices)) box M d t (s .splits) =
-          λ j. assembledText (take (length T) (o j .table)) (take (3 * k j .vertices) (o j .positions)) (take (3 * k j .vertices) (o j .normals)) (take (k j .indices) (o j .indices)) box M d t (k j .splits) in
-          subst (λ (x : List ℕ). Told E x W r) (one ∙ two ∙ sym (rw (b, stitchPrinted))) v
+          let all : z ≡ sizesIn s → assembledText (take (length T) R) (take (3 * z .vertices) P) (take (3 * z .vertices) N) (take (z .indices) I) box M d t (z .splits) ≡ assembledText (take (length T) (s .slices .table)) (take (3 * s .vertices) (s .slices .positions)) (take (3 * s .vertices) (s .slices .normals)) (take (s .indices) (s .slices .indices)) box M d t (s .splits) =
+          λ k j. assembledText (take (length T) (o j .table)) (take (3 * k j .vertices) (o j .positions)) (take (3 * k j .vertices) (o j .normals)) (take (k j .indices) (o j .indices)) box M d t (k j .splits) in
+          told-done stitch-cases (sizesIn s) (s .refusal) E W r _ z (sym q ∙ ap (λ (l : LeftStitch). l .answer) e) (λ k. subst (λ (x : List ℕ). Told E x W r) (one ∙ all k) v)
 
   pub stitch-said-refused : (k : ℕ) → g ≡ StitchCase.Refused k → Written E (refusalLine k) W r → StitchSaid T box M d t g R P N I E W r
   unfolding stitchPrinted
-  stitch-said-refused k q v = record { says = go }
-    where
-      go : (s : AfterStitch) (w : List ℕ) → leftStitch g (slicesOf R P N I w) ≡ stitchAnswered s → Told E (stitchPrinted T box M d t s) W r
-      go s w e =
-          let is : StitchCase.Refused k ≡ stitchAnswer s = sym q ∙ ap (λ (l : LeftStitch). l .answer) e in
-          let b : eqb (s .refusal) 0 ≡ false = stitch-refused (sizesIn s) (s .refusal) (eqb (s .refusal) 0) k is in
-          let n : k ≡ s .refusal = stitch-number (sizesIn s) (s .refusal) (eqb (s .refusal) 0) k is in
-          subst (λ (x : List ℕ). Told E x W r) (ap refusalLine n ∙ sym (rw (b, stitchPrinted))) (told-refusal E k W r v)
+  stitch-said-refused k q v = record { says = λ s w e. told-refused stitch-cases (sizesIn s) (s .refusal) E W r _ k (sym q ∙ ap (λ (l : LeftStitch). l .answer) e) v }
 
 abbrev stitchZeros : Float → StitchSlices
 stitchZeros z = slicesOf (replicate 80 0) (replicate 576 z) (replicate 576 z) (replicate 192 0) (replicate 4096 0)
@@ -110,36 +72,6 @@ unfolding stitchedText
 stitched-text T Q U J sag box M d t g R P N I w E W r m e =
     m .says (stitchOf key T Q U J sag (stitchSlices benchRoom)) w (e ∙ ap (λ (z : StitchSlices). stitchAnswered (stitchOf key T Q U J sag z)) stitch-zeros)
 
--- ---- which case an answer of turn is
-abbrev turnTag : Turned → ℕ
-turnTag (TurnCase.Done c) = 0
-turnTag (TurnCase.Refused n) = 1
-
-abbrev turnCounts : Counts → Turned → Counts
-turnCounts d (TurnCase.Done c) = c
-turnCounts d (TurnCase.Refused n) = d
-
-abbrev turnNumber : Turned → ℕ
-turnNumber (TurnCase.Done c) = 0
-turnNumber (TurnCase.Refused n) = n
-
-module _ (m : Counts) (n : ℕ) where
-  turn-done : (b : Bool) (c : Counts) → TurnCase.Done c ≡ elim b as (λ x. Turned) [ true ↦ TurnCase.Done m | false ↦ TurnCase.Refused n ] → b ≡ true
-  turn-done true c e = refl
-  turn-done false c e = zero-not-one (ap turnTag e)
-
-  turn-counts : (b : Bool) (c : Counts) → TurnCase.Done c ≡ elim b as (λ x. Turned) [ true ↦ TurnCase.Done m | false ↦ TurnCase.Refused n ] → c ≡ m
-  turn-counts true c e = ap (turnCounts c) e
-  turn-counts false c e = zero-not-one (ap turnTag e)
-
-  turn-refused : (b : Bool) (k : ℕ) → TurnCase.Refused k ≡ elim b as (λ x. Turned) [ true ↦ TurnCase.Done m | false ↦ TurnCase.Refused n ] → b ≡ false
-  turn-refused true k e = zero-not-one (ap turnTag (sym e))
-  turn-refused false k e = refl
-
-  turn-number : (b : Bool) (k : ℕ) → TurnCase.Refused k ≡ elim b as (λ x. Turned) [ true ↦ TurnCase.Done m | false ↦ TurnCase.Refused n ] → k ≡ n
-  turn-number true k e = zero-not-one (ap turnTag (sym e))
-  turn-number false k e = ap turnNumber e
-
 -- ---- turn's answer printed
 abbrev countsIn : AfterTurn → Counts
 countsIn t = record { turned = t .turned; against = t .against }
@@ -151,23 +83,13 @@ module _ (T : List ℕ) (P : List Float) (sag : Float) (box : Aabb) (M : List �
     where
       go : (t : AfterTurn) (w : List ℕ) → left g N I w ≡ answered t → Told E (turnPrinted T P sag box M d t) W r
       go t w e =
-          let is : TurnCase.Done c ≡ answerOf t = sym q ∙ ap (λ (l : Left). l .answer) e in
-          let b : eqb (t .refusal) 0 ≡ true = turn-done (countsIn t) (t .refusal) (eqb (t .refusal) 0) c is in
-          let k : c ≡ countsIn t = turn-counts (countsIn t) (t .refusal) (eqb (t .refusal) 0) c is in
-          let two : stitchedText T P N I sag box M d c ≡ stitchedText T P (t .normals) (t .indices) sag box M d (countsIn t) =
-          λ j. stitchedText T P (e j .normals) (e j .indices) sag box M d (k j) in
-          subst (λ (x : List ℕ). Told E x W r) (two ∙ sym (rw (b, turnPrinted))) v
+          let all : c ≡ countsIn t → stitchedText T P N I sag box M d c ≡ stitchedText T P (t .normals) (t .indices) sag box M d (countsIn t) =
+          λ k j. stitchedText T P (e j .normals) (e j .indices) sag box M d (k j) in
+          told-done turn-cases (countsIn t) (t .refusal) E W r _ c (sym q ∙ ap (λ (l : Left). l .answer) e) (λ k. subst (λ (x : List ℕ). Told E x W r) (all k) v)
 
   pub turn-said-refused : (k : ℕ) → g ≡ TurnCase.Refused k → Written E (refusalLine k) W r → TurnSaid T P sag box M d g N I E W r
   unfolding turnPrinted
-  turn-said-refused k q v = record { says = go }
-    where
-      go : (t : AfterTurn) (w : List ℕ) → left g N I w ≡ answered t → Told E (turnPrinted T P sag box M d t) W r
-      go t w e =
-          let is : TurnCase.Refused k ≡ answerOf t = sym q ∙ ap (λ (l : Left). l .answer) e in
-          let b : eqb (t .refusal) 0 ≡ false = turn-refused (countsIn t) (t .refusal) (eqb (t .refusal) 0) k is in
-          let n : k ≡ t .refusal = turn-number (countsIn t) (t .refusal) (eqb (t .refusal) 0) k is in
-          subst (λ (x : List ℕ). Told E x W r) (ap refusalLine n ∙ sym (rw (b, turnPrinted))) (told-refusal E k W r v)
+  turn-said-refused k q v = record { says = λ t w e. told-refused turn-cases (countsIn t) (t .refusal) E W r _ k (sym q ∙ ap (λ (l : Left). l .answer) e) v }
 
 area-zeros : replicate 4096 0 ≡ area benchRoom
 unfolding benchRoom area

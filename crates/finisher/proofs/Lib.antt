@@ -1,6 +1,6 @@
 -- The laws that the proofs of this crate cite.
 mod CopyLaws
-mod LimitLaws
+mod CaseLaws
 mod TextLaws
 mod CallLaws
 mod SheetLaws

@@ -7,6 +7,7 @@ use fronts::front_floats;
 use fronts::front_long;
 use geometry::Aabb;
 use reader::Reader;
+use reader::in_limits;
 use sheet::box_of;
 use sheet::floats_of;
 use sheet::sag_of;
@@ -14,10 +15,11 @@ ghost use mathlib.Core.Path.{_≡_};
 ghost use mathlib.Core.List.{_++_};
 ghost use lib.ListN.{length, take, drop};
 ghost use Rattle.finish.specs.Finish.{finish};
+ghost use Rattle.reader.specs.Limits.{Limited};
 ghost use Rattle.reader.specs.Slices.{lent, patternsOf};
 ghost use Rattle.sheet.specs.Bench.{printed};
 ghost use Rattle.sheet.specs.Meaning.{meant};
-ghost use Rattle.finisher.specs.Answered.{Limited, answerIn, inLimits};
+ghost use Rattle.finisher.specs.Answered.{answerIn};
 ghost use Rattle.finisher.specs.Texts.{FrontsSaid, Told};
 
 // Numbers copied, as many as there is room for.
@@ -32,41 +34,6 @@ fn copy(from: &[u32], to: &mut [u32])
         to[i] = from[i];
         i += 1;
     }
-}
-
-// Whether the reader counts no more than the limits, and slices of these lengths have room for these.
-fn in_limits(
-    s: Reader,
-    table: usize,
-    positions: usize,
-    normals: usize,
-    indices: usize,
-    materials: usize,
-) -> bool
-    ensures { λ r. ⌜ r ≡ inLimits s table positions normals indices materials ⌝ }
-{
-    if table < 80 {
-        return false;
-    }
-    if positions < 288 {
-        return false;
-    }
-    if normals < 288 {
-        return false;
-    }
-    if indices < 96 {
-        return false;
-    }
-    if materials < 64 {
-        return false;
-    }
-    if 16 < s.rows {
-        return false;
-    }
-    if 96 < s.vertices {
-        return false;
-    }
-    s.indices <= 96
 }
 
 // A body in the first n coordinates and m indices of slices, finished; 52 where these are fewer.
@@ -114,7 +81,7 @@ fn answer_body(
     materials: &[u64],
     out: &mut [u8],
 ) -> usize
-    requires { ⌜ Limited s (now table) (now positions) (now normals) (now indices) (now materials) ⌝ }
+    requires { ⌜ Limited s (length (now table)) (length (now positions)) (length (now normals)) (length (now indices)) (length (now materials)) ⌝ }
     ensures { λ r. ⌜ Told (now (out .entry)) (printed (finish (meant (patternsOf (lent s (now (table .entry)) (now (positions .entry)) (now (normals .entry)) (now (indices .entry)) (now (materials .entry))))))) (now (out .exit)) r ⌝ }
 {
     let n = 3 * s.vertices;

@@ -68,7 +68,7 @@ same-length : tie.Need-same-length
 same-length c = search needs
 
 returns : tie.Need-returns
-returns c = body-told _ _ _ _ _ _ (c .before .before .before .before .before .before .before .before .before .before .before .before .before .before .before .before .before .before .before .before .before .before .before .before .before .before .before .before .before .before .before .before .before .pre) _ _ _ _ _ (replicate 288 (f32 0)) (replicate 288 (f32 0)) _ _ (replicate 96 0) _ _ _ _ _ _ (c .before .before .before .before .before .before .before .before .before .before .before .before .before .before .before .before .before .before .before .before .before .before .before .before .front .ensures) (c .before .before .before .before .before .before .before .before .before .before .before .before .before .before .before .before .before .before .before .before .front2 .ensures) (c .before .before .before .before .before .before .before .before .before .before .before .before .before .before .before .before .front3 .ensures) (c .before .before .before .before .before .before .before .before .before .before .before .before .front4 .ensures) (c .before .before .before .before .before .before .front-long .ensures) (c .before .before .before .before .before .before .before .before .before .before .before .before .before .before .before .before .before .before .before .before .before .before .floats-of .ensures) (c .before .before .before .before .before .before .before .before .before .before .before .before .before .before .before .before .before .before .floats-of2 .ensures) (c .before .before .before .before .before .before .before .before .before .before .before .before .before .before .copy .ensures) (c .before .before .before .before .before .before .before .before .sag-of .ensures) (c .before .before .before .before .before .before .before .box-of .ensures) (c .before .before .before .before .finish-fronts .ensures) (length-replicate 288 (f32 0)) (length-replicate 288 (f32 0)) (length-replicate {A = ℕ} 96 0)
+returns c = body-told _ _ _ _ _ (c .before .before .before .before .before .before .before .before .before .before .before .before .before .before .before .before .before .before .before .before .before .before .before .before .before .before .before .before .before .before .before .before .before .args .materials .now) (c .before .before .before .before .before .before .before .before .before .before .before .before .before .before .before .before .before .before .before .before .before .before .before .before .before .before .before .before .before .before .before .before .before .pre) _ _ _ _ _ (replicate 288 (f32 0)) (replicate 288 (f32 0)) _ _ (replicate 96 0) _ _ _ _ _ _ (c .before .before .before .before .before .before .before .before .before .before .before .before .before .before .before .before .before .before .before .before .before .before .before .before .front .ensures) (c .before .before .before .before .before .before .before .before .before .before .before .before .before .before .before .before .before .before .before .before .front2 .ensures) (c .before .before .before .before .before .before .before .before .before .before .before .before .before .before .before .before .front3 .ensures) (c .before .before .before .before .before .before .before .before .before .before .before .before .front4 .ensures) (c .before .before .before .before .before .before .front-long .ensures) (c .before .before .before .before .before .before .before .before .before .before .before .before .before .before .before .before .before .before .before .before .before .before .floats-of .ensures) (c .before .before .before .before .before .before .before .before .before .before .before .before .before .before .before .before .before .before .floats-of2 .ensures) (c .before .before .before .before .before .before .before .before .before .before .before .before .before .before .copy .ensures) (c .before .before .before .before .before .before .before .before .sag-of .ensures) (c .before .before .before .before .before .before .before .box-of .ensures) (c .before .before .before .before .finish-fronts .ensures) (length-replicate 288 (f32 0)) (length-replicate 288 (f32 0)) (length-replicate {A = ℕ} 96 0)
 
 pub answer-body-spec : {M : Type 1} → statement M
 answer-body-spec =

@@ -1,6 +1,5 @@
 -- `answer_sheet` writes what the program is to print of the sheet. Assumes nothing.
-use Rattle.finisher.proofs.LimitLaws.{limited}
-use Rattle.finisher.proofs.SheetLaws.{sheet-large, sheet-refused, sheet-told}
+use Rattle.finisher.proofs.SheetLaws.{sheet-large, sheet-refused, sheet-told, within-limits}
 use borrow.Author.Needs.{needs}
 use Rattle.finisher.proofs.sheets.answer_sheet.Statement.{statement}
 use Rattle.finisher.proofs.sheets.answer_sheet.Tie as tie
@@ -27,7 +26,7 @@ returns-2 : tie.Need-returns-2
 returns-2 c = sheet-large _ _ _ _ _ _ _ _ _ _ (c .before .before .before .before .before .before .if1 .left) (c .before .before .before .before .before .in-limits .ensures) (c .before .before .before .before .if2 .taken) (c .before .before .write-refusal2 .ensures)
 
 answer-body-requires : tie.Need-answer-body-requires
-answer-body-requires c κs = search (needs, limited)
+answer-body-requires c κs = search (needs, within-limits)
 
 same-length-3 : tie.Need-same-length-3
 same-length-3 c = search needs

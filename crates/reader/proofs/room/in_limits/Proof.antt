@@ -1,8 +1,8 @@
 -- `in_limits` meets its contract. Assumes nothing.
-use Rattle.finisher.proofs.LimitLaws.{all-else, many-rows, many-vertices, short-indices, short-materials, short-normals, short-positions, short-table}
+use Rattle.reader.proofs.RoomLaws.{all-else, many-rows, many-vertices, short-indices, short-materials, short-normals, short-positions, short-table}
 use borrow.Author.Needs.{needs}
-use Rattle.finisher.proofs.sheets.in_limits.Statement.{statement}
-use Rattle.finisher.proofs.sheets.in_limits.Tie as tie
+use Rattle.reader.proofs.room.in_limits.Statement.{statement}
+use Rattle.reader.proofs.room.in_limits.Tie as tie
 
 returns : tie.Need-returns
 returns c = search (needs, short-table)
