@@ -2,7 +2,7 @@
 use mathlib.Core.Bool.{Bool, true, false, not}
 use mathlib.Core.List.{List, [], _∷_, _++_, map}
 use mathlib.Core.Path.{_≡_, sym, _∙_, ap, subst}
-use Prim.Native.Nat.{ℕ, _*_, _≤_}
+use Prim.Native.Nat.{ℕ, _*_, _≤_, _<_}
 use native.Mathlib.Omega.{arith}
 use borrow.Author.Tests.{eq-eqb, ne-eqb, not-true, not-false}
 use lib.Ieee.{Float}
@@ -17,10 +17,10 @@ use Rattle.reader.specs.Limits.{Limited, limited}
 use Rattle.reader.specs.Slices.{inLimits, lent, patternsOf}
 use Rattle.sheet.specs.Bench.{printed}
 use Rattle.sheet.specs.Meaning.{boxOf, meant}
-use Rattle.finisher.proofs.CaseLaws.{told-refusal}
-use Rattle.finisher.specs.Answered.{answerIn}
+use Rattle.calls.specs.Told.{Told, told-refusal}
+use Rattle.calls.specs.Texts.{finishedText}
+use Rattle.finisher.specs.Answered.{FrontsSaid, answerIn}
 use Rattle.finisher.specs.Printed.{printed-finish}
-use Rattle.finisher.specs.Texts.{FrontsSaid, Told, finishedText}
 
 -- ---- an array filled from its front
 module _ {A : Type 0} (ys E : List A) (m n : ℕ) (e : length ys ≡ n) (h : n ≤ length E) where
@@ -29,6 +29,17 @@ module _ {A : Type 0} (ys E : List A) (m n : ℕ) (e : length ys ≡ n) (h : n �
       ap (take n) q
       ∙ ap (λ (xs : List A). take n (xs ++ drop m E)) (take-all (length E) ys (omega arith))
       ∙ take-at ys (drop m E) n e
+
+-- ---- the fronts of slices
+module _ (T : List ℕ) (P N : List Float) (I : List ℕ) (n m : ℕ) (sag : Float) (box : Aabb) (M : List ℕ) (d : ℕ) (E W : List ℕ) (r : ℕ) where
+  pub few-normals : length N < n → FrontsSaid T P N I n m sag box M d E W r
+  few-normals h = record { says = λ a b. absurd (omega arith) }
+
+  pub few-indices : length I < m → FrontsSaid T P N I n m sag box M d E W r
+  few-indices h = record { says = λ a b. absurd (omega arith) }
+
+  pub fronts-said : (A : List Float) → A ≡ take n P → Told E (finishedText T A (take n N) (take m I) sag box M d) W r → FrontsSaid T P N I n m sag box M d E W r
+  fronts-said A e v = record { says = λ a b. subst (λ (B : List Float). Told E (finishedText T B (take n N) (take m I) sag box M d) W r) e v }
 
 -- ---- the body
 module _ (s : Reader) (T P N I M : List ℕ) (v : Limited s (length T) (length P) (length N) (length I) (length M)) where

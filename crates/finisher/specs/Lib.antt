@@ -1,4 +1,3 @@
 pub mod Answered
-pub mod Texts
 pub mod Printed
 pub mod Whole
