@@ -2,14 +2,13 @@
 use mathlib.Core.List.{List, [], _∷_, _++_, map, append-nil, append-assoc}
 use mathlib.Core.Path.{_≡_, refl, sym, _∙_, ap, subst}
 use Prim.Native.Nat.{ℕ, _+_, _-_, _≤_, _<_}
-use native.Mathlib.Numerals.{add-one}
 use native.Mathlib.Omega.{arith}
 use borrow.Author.Tests.{eq-eqb, ne-eqb}
 use lib.Ieee.{Float, nan}
 use lib.ListN.{length, getD, drop, length-drop, length-map}
-use lib.Seq.{drop-cons}
 use Rattle.floats.specs.Floats.{bits32}
 use Rattle.digits.specs.Given.{Wrote}
+use Rattle.digits.specs.Next.{next}
 use Rattle.digits.specs.Wrote.{wrote-none, wrote-then}
 use Rattle.lines.specs.Forms.{Piece, line, vertexForm}
 use Rattle.lines.specs.Pattern.{pieces}
@@ -17,24 +16,21 @@ use Rattle.answer.specs.Answer.{cornerAt, threeAt, emptyForm, escapeForm
 
 -- ---- three and four items from a place on
 module _ {A : Type 0} (d : A) where
-  one-more : (xs : List A) (i : ℕ) → i < length xs → drop i xs ≡ getD xs i d ∷ drop (i + 1) xs
-  one-more xs i h = drop-cons xs i d h ∙ ap (λ (n : ℕ). getD xs i d ∷ drop n xs) (sym (add-one i))
-
   pub three-more : (xs : List A) (i : ℕ) → i + 3 ≤ length xs → drop i xs ≡ getD xs i d ∷ getD xs (i + 1) d ∷ getD xs (i + 2) d ∷ drop (i + 3) xs
   three-more xs i h =
       let two : i + 1 + 1 ≡ i + 2 = omega arith in
       let three : i + 2 + 1 ≡ i + 3 = omega arith in
-      one-more xs i (omega arith)
-      ∙ ap (λ (ys : List A). getD xs i d ∷ ys) (one-more xs (i + 1) (omega arith))
+      next xs i d (omega arith)
+      ∙ ap (λ (ys : List A). getD xs i d ∷ ys) (next xs (i + 1) d (omega arith))
       ∙ ap (λ (n : ℕ). getD xs i d ∷ getD xs (i + 1) d ∷ drop n xs) two
-      ∙ ap (λ (ys : List A). getD xs i d ∷ getD xs (i + 1) d ∷ ys) (one-more xs (i + 2) (omega arith))
+      ∙ ap (λ (ys : List A). getD xs i d ∷ getD xs (i + 1) d ∷ ys) (next xs (i + 2) d (omega arith))
       ∙ ap (λ (n : ℕ). getD xs i d ∷ getD xs (i + 1) d ∷ getD xs (i + 2) d ∷ drop n xs) three
 
   pub four-more : (xs : List A) (i : ℕ) → i + 4 ≤ length xs → drop i xs ≡ getD xs i d ∷ getD xs (i + 1) d ∷ getD xs (i + 2) d ∷ getD xs (i + 3) d ∷ drop (i + 4) xs
   four-more xs i h =
       let four : i + 3 + 1 ≡ i + 4 = omega arith in
       three-more xs i (omega arith)
-      ∙ ap (λ (ys : List A). getD xs i d ∷ getD xs (i + 1) d ∷ getD xs (i + 2) d ∷ ys) (one-more xs (i + 3) (omega arith))
+      ∙ ap (λ (ys : List A). getD xs i d ∷ getD xs (i + 1) d ∷ getD xs (i + 2) d ∷ ys) (next xs (i + 3) d (omega arith))
       ∙ ap (λ (n : ℕ). getD xs i d ∷ getD xs (i + 1) d ∷ getD xs (i + 2) d ∷ getD xs (i + 3) d ∷ drop n xs) four
 
 -- ---- what is written, and what is left

@@ -13,12 +13,12 @@ use Rattle.floats.specs.Floats.{bits32}
 use Rattle.digits.specs.Bytes.{bytes}
 use Rattle.digits.specs.Given.{Wrote}
 use Rattle.digits.specs.Wrote.{wrote-then}
-use Rattle.lines.specs.Forms.{line}
-use Rattle.lines.specs.Pattern.{pieces, split}
+use Rattle.lines.specs.Forms.{line, numbers, triangleForm}
+use Rattle.lines.specs.Pattern.{piece, pieces, split}
 use Rattle.answer.specs.declared.Sizes.{Sizes}
 use Rattle.answer.specs.declared.Tallies.{Tallies}
-use Rattle.answer.specs.Answer.{Written, countText, failureLines, meshText, refusalLine, threes, vertexLines}
-use Rattle.answer.proofs.FormLaws.{against-line, closed-line, edges-line, mesh-line, ok-line, open-line, over-line, part-threes, range-threes, refused-line, split-line, triangle-threes, turned-line}
+use Rattle.answer.specs.Answer.{Written, againstForm, closedForm, countText, edgesForm, failureLines, meshForm, meshText, okForm, openForm, overForm, partForm, rangeForm, refusalLine, refusedForm, splitForm, threes, turnedForm, vertexLines}
+use Rattle.answer.proofs.FormLaws.{as-form, as-threes}
 
 -- ---- the counts
 pub counts-written : {E W1 W2 W3 W4 W5 W6 W7 W8 : List ℕ} {at r1 r2 r3 r4 r5 r6 r7 r8 : ℕ} (t : Tallies) {n : ℕ} → n ≡ cond (t .closed) 1 0
@@ -31,11 +31,11 @@ pub counts-written : {E W1 W2 W3 W4 W5 W6 W7 W8 : List ℕ} {at r1 r2 r3 r4 r5 r
     → Wrote W6 r6 (line (pieces (bytes "(over#)")) (t .over ∷ [])) W7 r7
     → Wrote W7 r7 (line (pieces (bytes "(closed#)")) (n ∷ [])) W8 r8
     → Wrote E at (countText t) W8 r8
-unfolding countText
+unfolding countText piece split numbers
 counts-written {E} {W1} {W2} {W3} {W4} {W5} {W6} {W7} {W8} {at} {r1} {r2} {r3} {r4} {r5} {r6} {r7} {r8} t {n} z a b c d e f g h =
     wrote-then
-    (wrote-then (wrote-then (wrote-then (wrote-then (wrote-then (wrote-then (turned-line (t .turned ∷ []) a) (against-line (t .against ∷ []) b)) (split-line (t .split ∷ []) c)) (ok-line (t .ok ∷ []) d)) (edges-line (t .edges ∷ []) e)) (open-line (t .single ∷ []) f)) (over-line (t .over ∷ []) g))
-    (closed-line (cond (t .closed) 1 0 ∷ []) (subst (λ (m : ℕ). Wrote W7 r7 (line (pieces (bytes "(closed#)")) (m ∷ [])) W8 r8) z h))
+    (wrote-then (wrote-then (wrote-then (wrote-then (wrote-then (wrote-then (as-form turnedForm (bytes "(turned#)") refl (t .turned ∷ []) a) (as-form againstForm (bytes "(against#)") refl (t .against ∷ []) b)) (as-form splitForm (bytes "(split#)") refl (t .split ∷ []) c)) (as-form okForm (bytes "(ok#)") refl (t .ok ∷ []) d)) (as-form edgesForm (bytes "(edges#)") refl (t .edges ∷ []) e)) (as-form openForm (bytes "(open#)") refl (t .single ∷ []) f)) (as-form overForm (bytes "(over#)") refl (t .over ∷ []) g))
+    (as-form closedForm (bytes "(closed#)") refl (cond (t .closed) 1 0 ∷ []) (subst (λ (m : ℕ). Wrote W7 r7 (line (pieces (bytes "(closed#)")) (m ∷ [])) W8 r8) z h))
 
 -- ---- the mesh
 pub mesh-written : {E W1 W2 W3 W4 W5 W6 : List ℕ} {at r1 r2 r3 r4 r5 r6 : ℕ} (z : Sizes) (ps ns : List Float) (is parts ranges failures : List ℕ) {ps' ns' : List Float} {is' parts' ranges' failures' : List ℕ}
@@ -47,18 +47,18 @@ pub mesh-written : {E W1 W2 W3 W4 W5 W6 : List ℕ} {at r1 r2 r3 r4 r5 r6 : ℕ}
     → Wrote W4 r4 (threes (pieces (bytes "(range###)")) ranges') W5 r5
     → Wrote W5 r5 (failureLines failures') W6 r6
     → Wrote E at (meshText z ps ns is parts ranges failures) W6 r6
-unfolding meshText
+unfolding meshText piece split numbers
 mesh-written {E} {W1} {W2} {W3} {W4} {W5} {W6} {at} {r1} {r2} {r3} {r4} {r5} {r6} z ps ns is parts ranges failures {ps'} {ns'} {is'} {parts'} {ranges'} {failures'} ep en ea ei er ef a b c d e f =
     wrote-then
     (wrote-then
     (wrote-then
     (wrote-then
-    (wrote-then (mesh-line (z .vertices ∷ z .indices ∷ []) a)
+    (wrote-then (as-form meshForm (bytes "(mesh##)") refl (z .vertices ∷ z .indices ∷ []) a)
     (subst (λ (xs : List Float). Wrote W1 r1 (vertexLines (map bits32 xs) (map bits32 (take (3 * z .vertices) ns))) W2 r2) ep
     (subst (λ (xs : List Float). Wrote W1 r1 (vertexLines (map bits32 ps') (map bits32 xs)) W2 r2) en b)))
-    (part-threes (take (3 * z .parts) parts) (subst (λ (xs : List ℕ). Wrote W2 r2 (threes (pieces (bytes "(part###)")) xs) W3 r3) ea c)))
-    (triangle-threes (take (z .indices) is) (subst (λ (xs : List ℕ). Wrote W3 r3 (threes (pieces (bytes "(t###)")) xs) W4 r4) ei d)))
-    (range-threes (take (3 * z .ranges) ranges) (subst (λ (xs : List ℕ). Wrote W4 r4 (threes (pieces (bytes "(range###)")) xs) W5 r5) er e)))
+    (as-threes partForm (bytes "(part###)") refl (take (3 * z .parts) parts) (subst (λ (xs : List ℕ). Wrote W2 r2 (threes (pieces (bytes "(part###)")) xs) W3 r3) ea c)))
+    (as-threes triangleForm (bytes "(t###)") refl (take (z .indices) is) (subst (λ (xs : List ℕ). Wrote W3 r3 (threes (pieces (bytes "(t###)")) xs) W4 r4) ei d)))
+    (as-threes rangeForm (bytes "(range###)") refl (take (3 * z .ranges) ranges) (subst (λ (xs : List ℕ). Wrote W4 r4 (threes (pieces (bytes "(range###)")) xs) W5 r5) er e)))
     (subst (λ (xs : List ℕ). Wrote W5 r5 (failureLines xs) W6 r6) ef f)
 
 -- ---- the slice
@@ -85,5 +85,5 @@ pub answer-written : (E : List ℕ) (a b W U : List ℕ) (q r : ℕ) → Wrote E
 answer-written E a b W U q r v w = written E (a ++ b) U r (wrote-then v w)
 
 pub refusal-written : (E W : List ℕ) (n r : ℕ) → Wrote E 0 (line (pieces (bytes "(refused#)")) (n ∷ [])) W r → Written E (refusalLine n) W r
-unfolding refusalLine
-refusal-written E W n r v = written E (line _ (n ∷ [])) W r (refused-line (n ∷ []) v)
+unfolding refusalLine piece split numbers
+refusal-written E W n r v = written E (line refusedForm (n ∷ [])) W r (as-form refusedForm (bytes "(refused#)") refl (n ∷ []) v)

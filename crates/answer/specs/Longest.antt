@@ -10,6 +10,7 @@ use lib.ListN.{length, take, length-append, length-map, length-take}
 use Rattle.digits.specs.Digits.{digits, decimalTo, decimal, hex}
 use Rattle.floats.specs.Floats.{bits32}
 use Rattle.lines.specs.Forms.{Piece, Word, Bits, Number, print, line, numbers, vertexForm, triangleForm}
+use Rattle.lines.specs.Lengths.{longest}
 use Rattle.answer.specs.declared.Sizes.{Sizes}
 use Rattle.answer.specs.declared.Tallies.{Tallies}
 use Rattle.answer.specs.Answer.{againstForm, closedForm, countText, edgesForm, emptyForm, escapeForm, failureLine, failureLines, meshForm, meshText, okForm, openForm, overForm, partForm, rangeForm, refusalLine, refusedForm, splitForm, threes, turnedForm, upstreamForm, vertexLines}
@@ -32,29 +33,22 @@ decimal-length (suc k) n = go (ltb n (10 ^ suc k)) (decimal-length k n)
 
 -- ---- lines
 
--- the longest line of a form, its LF included; a number has at most 20 digits
-abbrev pub longest : List Piece → ℕ
-longest [] = 1
-longest (Word w ∷ ps) = length w + longest ps
-longest (Bits k ∷ ps) = suc k + longest ps
-longest (Number ∷ ps) = 21 + longest ps
-
-print-length : (ps : List Piece) (ns : List ℕ) → suc (length (print ps ns)) ≤ longest ps
+print-length : (ps : List Piece) (ns : List ℕ) → length (print ps ns) ≤ longest 20 ps
 unfolding print
 print-length [] ns = omega arith
 print-length (Word w ∷ ps) ns = omega (arith, length-append w (print ps ns), print-length ps ns)
-print-length (Bits k ∷ ps) [] = omega (arith, print-length ps [])
+print-length (Bits k ∷ ps) [] = omega arith
 print-length (Bits k ∷ ps) (n ∷ ns) = omega (arith, length-append (hex k n) (print ps ns), digits-length 16 k n, print-length ps ns)
-print-length (Number ∷ ps) [] = omega (arith, print-length ps [])
+print-length (Number ∷ ps) [] = omega arith
 print-length (Number ∷ ps) (n ∷ ns) = omega (arith, length-append (decimal n) (print ps ns), decimal-length 19 n, print-length ps ns)
 
-pub line-length : (ps : List Piece) (ns : List ℕ) → length (line ps ns) ≤ longest ps
+pub line-length : (ps : List Piece) (ns : List ℕ) → length (line ps ns) ≤ suc (longest 20 ps)
 unfolding line
 line-length ps ns = omega (arith, length-append (print ps ns) (10 ∷ []), print-length ps ns)
 
 -- ---- a line for every row
 
-threes-length : (ps : List Piece) (ns : List ℕ) → longest ps ≤ 71 → 3 * length (threes ps ns) ≤ 71 * length ns
+threes-length : (ps : List Piece) (ns : List ℕ) → longest 20 ps ≤ 70 → 3 * length (threes ps ns) ≤ 71 * length ns
 unfolding threes
 threes-length ps [] h = omega arith
 threes-length ps (a ∷ []) h = omega arith

@@ -10,10 +10,10 @@ use native.Mathlib.Omega.{arith}
 use borrow.Author.Tests.{le-leb, lt-leb, le-ltb, lt-ltb, eq-eqb, ne-eqb}
 use lib.Dec.{ltb, eqb, lit<}
 use lib.ListN.{length, getD, drop, drop-of-length-le}
-use lib.Seq.{drop-cons}
 use Rattle.digits.specs.Digits.{below32, decimalFrom, digitOf, Found, found, hexFrom, readDecimal, readHex}
 use Rattle.digits.specs.Given.{Number}
 use Rattle.digits.specs.Lengths.{Grown, decimal-length}
+use Rattle.digits.specs.Next.{next}
 use Rattle.digits.specs.declared.reading.Taken.{Taken}
 
 -- ---- the digit of a byte, by where the byte stands
@@ -38,10 +38,6 @@ unfolding digitOf
 digit-high c l = rw (le-leb 48 c (omega arith), lt-leb c 57 (omega arith), le-leb 65 c (omega arith), lt-leb c 70 l)
 
 -- ---- answers
-
--- what stands from a place on
-next : (xs : List ℕ) (i : ℕ) → i < length xs → drop i xs ≡ getD xs i 0 ∷ drop (i + 1) xs
-next xs i h = drop-cons xs i 0 h ∙ ap (λ (n : ℕ). getD xs i 0 ∷ drop n xs) (sym (add-one i))
 
 -- no number is there
 pub no-number : (text : List ℕ) (bound : ℕ) (o : Option Found) (r : Taken) (at : ℕ) → at ≤ length text → 0 < bound → r ≡ record { ok = false; value = 0; next = at } → none ≡ o → Number text bound o r
@@ -76,7 +72,7 @@ module _ (text : List ℕ) (at k value i : ℕ) (v : Hexed text at k value i) (h
   hexed-short l = ap (hexFrom value (suc (k - (i + 1)))) (sym (drop-of-length-le text l)) ∙ left
 
   there : at + i < length text → hexFrom value (suc (k - (i + 1))) (getD text (at + i) 0 ∷ drop (at + (i + 1)) text) ≡ readHex k (drop at text)
-  there l = ap (hexFrom value (suc (k - (i + 1)))) (sym (next text (at + i) l ∙ ap (λ (n : ℕ). getD text (at + i) 0 ∷ drop n text) (add-assoc at i 1))) ∙ left
+  there l = ap (hexFrom value (suc (k - (i + 1)))) (sym (next text (at + i) 0 l ∙ ap (λ (n : ℕ). getD text (at + i) 0 ∷ drop n text) (add-assoc at i 1))) ∙ left
 
   -- a byte that is no digit
   pub hexed-other : (d : ℕ) → at + i < length text → d ≡ digitOf (getD text (at + i) 0) → 16 ≤ d → none ≡ readHex k (drop at text)
@@ -149,14 +145,14 @@ module _ (text : List ℕ) (at before value i : ℕ) (v : Tens text at before va
         let t : ltb (digitOf (getD text i 0)) 10 ≡ false = le-ltb (digitOf (getD text i 0)) 10 (subst (λ (n : ℕ). 10 ≤ n) e b) in
         let stop : decimalFrom value (getD text i 0 ∷ drop (i + 1) text) ≡ found value (getD text i 0 ∷ drop (i + 1) text) = rw (t, decimalFrom) in
         whole text value i (below32 (decimalFrom before (drop at text))) (v .inside) (v .small)
-        (ap (λ (xs : List ℕ). below32 (found value xs)) (next text i l) ∙ ap below32 (sym stop) ∙ ap (λ (xs : List ℕ). below32 (decimalFrom value xs)) (sym (next text i l)) ∙ v .same)
+        (ap (λ (xs : List ℕ). below32 (found value xs)) (next text i 0 l) ∙ ap below32 (sym stop) ∙ ap (λ (xs : List ℕ). below32 (decimalFrom value xs)) (sym (next text i 0 l)) ∙ v .same)
 
     step : d < 10 → below32 (decimalFrom (value * 10 + d) (drop (i + 1) text)) ≡ below32 (decimalFrom before (drop at text))
     unfolding decimalFrom
     step b =
         let t : ltb (digitOf (getD text i 0)) 10 ≡ true = lt-ltb (digitOf (getD text i 0)) 10 (subst (λ (n : ℕ). n < 10) e b) in
         let more : decimalFrom value (getD text i 0 ∷ drop (i + 1) text) ≡ decimalFrom (value * 10 + digitOf (getD text i 0)) (drop (i + 1) text) = rw (t, decimalFrom) in
-        ap (λ (n : ℕ). below32 (decimalFrom (value * 10 + n) (drop (i + 1) text))) e ∙ ap below32 (sym more) ∙ ap (λ (xs : List ℕ). below32 (decimalFrom value xs)) (sym (next text i l)) ∙ v .same
+        ap (λ (n : ℕ). below32 (decimalFrom (value * 10 + n) (drop (i + 1) text))) e ∙ ap below32 (sym more) ∙ ap (λ (xs : List ℕ). below32 (decimalFrom value xs)) (sym (next text i 0 l)) ∙ v .same
 
     pub tens-more : d < 10 → value * 10 + d ≤ 4294967295 → Tens text at before (value * 10 + d) (i + 1)
     tens-more b s = record { inside = omega arith; small = omega arith; same = step b }
@@ -176,7 +172,7 @@ module _ (text : List ℕ) (at : ℕ) where
     number-other r b q =
         let t : ltb (digitOf (getD text at 0)) 10 ≡ false = le-ltb (digitOf (getD text at 0)) 10 (subst (λ (n : ℕ). 10 ≤ n) e b) in
         let no : readDecimal (getD text at 0 ∷ drop (at + 1) text) ≡ none = rw (t, readDecimal) in
-        no-number text (2 ^ 32) (readDecimal (drop at text)) r at (omega arith) (omega arith) q (sym no ∙ ap readDecimal (sym (next text at l)))
+        no-number text (2 ^ 32) (readDecimal (drop at text)) r at (omega arith) (omega arith) q (sym no ∙ ap readDecimal (sym (next text at 0 l)))
 
     module _ (b : d < 10) where
       t : ltb (digitOf (getD text at 0)) 10 ≡ true
@@ -187,11 +183,11 @@ module _ (text : List ℕ) (at : ℕ) where
       number-zero z =
           let f : eqb (digitOf (getD text at 0)) 0 ≡ true = eq-eqb (digitOf (getD text at 0)) 0 (sym e ∙ z) in
           let nil : readDecimal (getD text at 0 ∷ drop (at + 1) text) ≡ some (found 0 (drop (at + 1) text)) = rw (t, f, readDecimal) in
-          record { is = sym nil ∙ ap readDecimal (sym (next text at l)); small = omega arith; within = omega arith }
+          record { is = sym nil ∙ ap readDecimal (sym (next text at 0 l)); small = omega arith; within = omega arith }
 
       pub number-more : (r : Taken) → (d ≡ 0 → ⊥) → Number text (2 ^ 32) (below32 (decimalFrom d (drop (at + 1) text))) r → Number text (2 ^ 32) (readDecimal (drop at text)) r
       unfolding readDecimal
       number-more r z v =
           let f : eqb (digitOf (getD text at 0)) 0 ≡ false = ne-eqb (digitOf (getD text at 0)) 0 (λ q. z (e ∙ q)) in
           let more : readDecimal (getD text at 0 ∷ drop (at + 1) text) ≡ below32 (decimalFrom (digitOf (getD text at 0)) (drop (at + 1) text)) = rw (t, f, readDecimal) in
-          subst (λ (o : Option Found). Number text (2 ^ 32) o r) (ap (λ (n : ℕ). below32 (decimalFrom n (drop (at + 1) text))) e ∙ sym more ∙ ap readDecimal (sym (next text at l))) v
+          subst (λ (o : Option Found). Number text (2 ^ 32) o r) (ap (λ (n : ℕ). below32 (decimalFrom n (drop (at + 1) text))) e ∙ sym more ∙ ap readDecimal (sym (next text at 0 l))) v

@@ -4,6 +4,7 @@ pub mod Digits
 pub mod ReadBack
 pub mod Lengths
 pub mod Exact
+pub mod Next
 pub mod Given
 pub mod Wrote
 pub mod Evaluation

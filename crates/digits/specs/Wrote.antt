@@ -8,7 +8,7 @@ use lib.Seq.{drop-drop, take-all}
 use Rattle.digits.specs.Given.{Wrote}
 
 -- Cutting a text off and again with more behind it is cutting it off once.
-take-again : (n : ℕ) (xs ys : List ℕ) → take n (take n xs ++ ys) ≡ take n (xs ++ ys)
+pub take-again : (n : ℕ) (xs ys : List ℕ) → take n (take n xs ++ ys) ≡ take n (xs ++ ys)
 take-again zero xs ys = refl
 take-again (suc n) [] ys = refl
 take-again (suc n) (x ∷ xs) ys = ap (λ (zs : List ℕ). x ∷ zs) (take-again n xs ys)

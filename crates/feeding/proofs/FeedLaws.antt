@@ -2,83 +2,47 @@
 use mathlib.Core.Bool.{Bool, true, false, not, _&&_, cond}
 use mathlib.Core.List.{List, [], _∷_, _++_, append-assoc, append-nil}
 use mathlib.Core.Path.{_≡_, refl, sym, _∙_, ap, subst}
-use Prim.Native.Nat.{ℕ, suc, _+_, _%_, _≤_, _<_}
+use Prim.Native.Nat.{ℕ, suc, _+_, _≤_, _<_}
 use native.Mathlib.Numerals.{add-one}
 use native.Mathlib.Omega.{arith}
 use borrow.Author.Tests.{eqb-true, leb-true, leb-false, ne-eqb}
 use lib.Dec.{T, leb, eqb}
-use lib.ListN.{length, getD, take, set, length-append, length-set, length-take}
-use lib.Seq.{take-all, take-append-le, take-nil, take-suc, take-suc-set}
+use lib.ListN.{length, getD, take, length-take}
+use lib.Seq.{length-take-le, take-all, take-nil, take-suc}
+use Rattle.digits.specs.Given.{Wrote}
 use Rattle.digits.specs.ReadBack.{and-left, and-right}
+use Rattle.digits.specs.Wrote.{take-again}
 use Rattle.line_order.specs.Laws.{long-line, noLF, read-end, read-line}
 use Rattle.line_order.specs.Reading.{State, cut, finished, readFrom, readLine, sheetOf}
 use Rattle.reader.specs.declared.Reader.{Reader}
 use Rattle.reader.specs.Kept.{Kept, ended-state, kept-line}
-use Rattle.reader.specs.Slices.{Lent, ended, fitsIn, lastFits, lent, readInto, refused, stateOf}
+use Rattle.reader.specs.Slices.{Lent, ended, fitsIn, inLimits, lent, readInto, refused, stateOf}
 use Rattle.sheet.specs.Bench.{bench, printed}
 use Rattle.sheet.specs.Meaning.{meant}
 use Rattle.finish.specs.Finish.{finish}
 use Rattle.answer.specs.Answer.{refusalLine}
-use Rattle.finisher.specs.Answered.{answerIn, inLimits}
+use Rattle.finisher.specs.Answered.{answerIn}
 use Rattle.feeding.specs.declared.Fed.{Fed}
-use Rattle.feeding.specs.Feeding.{Ended, Fed-on, Put, SoFar}
+use Rattle.feeding.specs.Feeding.{Ended, Fed-on, SoFar}
 use Rattle.lists.specs.Both.{both-left}
 
 -- ---- a byte is put behind the others
-
-pub put-room : (line : List ℕ) (k c : ℕ) → k < length line → Put line k c (set line k c) (k + 1)
-put-room line k c h = record { room = λ l. (refl, refl); full = λ l. absurd (omega arith) }
-
-pub put-full : (line : List ℕ) (k c : ℕ) → length line ≤ k → Put line k c line k
-put-full line k c h = record { room = λ l. absurd (omega arith); full = λ l. (refl, refl) }
 
 -- the buffer holds the tail, as far as it has room
 record Holds (line tail : List ℕ) (k : ℕ) : Type 0 where
   buffer : take k line ≡ take (length line) tail
   count : k ≡ length (take (length line) tail)
 
-module _ (line tail : List ℕ) (k c : ℕ) (h : Holds line tail k) where
-  abbrev L : ℕ
-  L = length line
-
-  holds-room : k < L → Holds (set line k c) (tail ++ c ∷ []) (k + 1)
-  holds-room l =
-      let long : length (tail ++ c ∷ []) ≡ length tail + 1 = length-append tail (c ∷ []) in
-      let short : length tail < L = omega (arith, h .count, length-take L tail) in
-      let same : length (set line k c) ≡ L = length-set line k c in
-      let all : take (length (set line k c)) (tail ++ c ∷ []) ≡ tail ++ c ∷ [] = take-all (length (set line k c)) (tail ++ c ∷ []) (omega arith) in
-      record {
-        buffer =
-            ap (λ (m : ℕ). take m (set line k c)) (add-one k)
-            ∙ take-suc-set line k c l
-            ∙ ap (λ (xs : List ℕ). xs ++ c ∷ []) (h .buffer ∙ take-all L tail (omega arith))
-            ∙ sym all;
-        count = omega (arith, h .count, ap length all, ap length (take-all L tail (omega arith)));
-      }
-
-  holds-full : L ≤ k → Holds line (tail ++ c ∷ []) k
-  holds-full l =
-      let long : L ≤ length tail = omega (arith, h .count, length-take L tail) in
-      let same : take L (tail ++ c ∷ []) ≡ take L tail = take-append-le L tail (c ∷ []) long in
-      record { buffer = h .buffer ∙ sym same; count = h .count ∙ ap length (sym same) }
-
-  holds-put : (line' : List ℕ) (n : ℕ) → Put line k c line' n → Holds line' (tail ++ c ∷ []) n
-  holds-put line' n p = go (leb L k) refl
-    where
-      go : (b : Bool) → leb L k ≡ b → Holds line' (tail ++ c ∷ []) n
-      go true q =
-          let e = p .full (leb-true L k q) in
-          subst (λ (xs : List ℕ). Holds xs (tail ++ c ∷ []) n) (sym (e .0)) (subst (λ (m : ℕ). Holds line (tail ++ c ∷ []) m) (sym (e .1)) (holds-full (leb-true L k q)))
-      go false q =
-          let e = p .room (leb-false L k q) in
-          subst (λ (xs : List ℕ). Holds xs (tail ++ c ∷ []) n) (sym (e .0)) (subst (λ (m : ℕ). Holds (set line k c) (tail ++ c ∷ []) m) (sym (e .1)) (holds-room (leb-false L k q)))
-
-  put-long : (line' : List ℕ) (n : ℕ) → Put line k c line' n → length line' ≡ L
-  put-long line' n p = go (leb L k) refl
-    where
-      go : (b : Bool) → leb L k ≡ b → length line' ≡ L
-      go true q = ap length (p .full (leb-true L k q) .0)
-      go false q = ap length (p .room (leb-false L k q) .0) ∙ length-set line k c
+holds-put : (line tail : List ℕ) (k c : ℕ) (line' : List ℕ) (n : ℕ) → Holds line tail k → Wrote line (length (take k line)) (c ∷ []) line' n → Holds line' (tail ++ c ∷ []) n
+holds-put line tail k c line' n h w =
+    let whole : length (take k line) ≡ k = ap length (h .buffer) ∙ sym (h .count) in
+    let front : take n line' ≡ take (length line') (tail ++ c ∷ []) =
+    w .front
+    ∙ ap (λ (i : ℕ). take (length line) (take i line ++ c ∷ [])) whole
+    ∙ ap (λ (xs : List ℕ). take (length line) (xs ++ c ∷ [])) (h .buffer)
+    ∙ take-again (length line) tail (c ∷ [])
+    ∙ ap (λ (i : ℕ). take i (tail ++ c ∷ [])) (sym (w .long)) in
+    record { buffer = front; count = sym (length-take-le n line' (omega (arith, w .within, w .long))) ∙ ap length front }
 
 -- ---- no line feed
 both : (a b : Bool) → T a → T b → T (a && b)
@@ -111,17 +75,17 @@ module _ (text : List ℕ) (f : Fed) (line table positions normals indices mater
   goes-on : (c : ℕ) (rest : List ℕ) → sheetOf (text ++ c ∷ [] ++ rest) ≡ readFrom (v .state) (cut (v .tail ++ c ∷ rest))
   goes-on c rest = ap sheetOf (append-assoc text (c ∷ []) rest) ∙ v .means (c ∷ rest)
 
-  byte-fed : (c : ℕ) (line' : List ℕ) (n : ℕ) → eqb c 10 ≡ false → Put line (f .length) c line' n
+  byte-fed : (c : ℕ) (line' : List ℕ) (n : ℕ) → eqb c 10 ≡ false → Wrote line (length (take (f .length) line)) (c ∷ []) line' n
       → SoFar (text ++ c ∷ []) (record { reader = f .reader; length = n }) line' table positions normals indices materials
   byte-fed c line' n q p =
-      let h = holds-put line (v .tail) (f .length) c held line' n p in
+      let h = holds-put line (v .tail) (f .length) c line' n held p in
       record {
         state = v .state;
         tail = v .tail ++ c ∷ [];
         plain = plain-more (v .tail) c (v .plain) q;
         means = λ rest. goes-on c rest ∙ ap (λ (xs : List ℕ). readFrom (v .state) (cut xs)) (sym (append-assoc (v .tail) (c ∷ []) rest));
         kept = v .kept;
-        room = omega (arith, v .room, put-long line (v .tail) (f .length) c held line' n p);
+        room = omega (arith, v .room, p .long);
         buffer = h .buffer;
         count = h .count;
       }
@@ -155,16 +119,10 @@ same-end : (s : State) (front xs : List ℕ) → eqb (length front) 0 ≡ eqb (l
 unfolding finished
 same-end s front xs q = rw q
 
-chop : (a x y : Bool) → (x ≡ true → y ≡ true) → a && x ≡ true → a && y ≡ true
-chop true x y f e = f e
-chop false x y f e = e
-
 -- slices with room for the next line are within the limits
 limits-fit : (r : Reader) (table : List ℕ) (p n i m : ℕ) → fitsIn r table p n i m ≡ true → inLimits r (length table) p n i m ≡ true
-unfolding fitsIn inLimits
-limits-fit r table p n i m =
-    let rest : Bool = eqb (r .indices % 3) 0 && lastFits (r .place) (r .rows) table in
-    chop (leb 80 (length table)) _ _ (chop (leb 288 p) _ _ (chop (leb 288 n) _ _ (chop (leb 96 i) _ _ (chop (leb 64 m) _ _ (chop (leb (r .rows) 16) _ _ (chop (leb (r .vertices) 96) _ _ (both-left (leb (r .indices) 96) rest)))))))
+unfolding fitsIn
+limits-fit r table p n i m e = both-left (inLimits r (length table) p n i m) _ e
 
 limits-ended : (r : Reader) (rest : List ℕ) (t p n i m : ℕ) → inLimits (ended r rest) t p n i m ≡ inLimits r t p n i m
 unfolding ended inLimits
@@ -215,9 +173,13 @@ module _ (f : Fed) (line table positions normals indices materials : List ℕ) w
   pub fed-none : Fed-on [] f line table positions normals indices materials f line table positions normals indices materials
   fed-none = record { goes = λ text v. subst (λ (t : List ℕ). SoFar t f line table positions normals indices materials) (sym (append-nil text)) v }
 
-  pub fed-byte : (c : ℕ) (line' : List ℕ) (n : ℕ) → (c ≡ 10 → ⊥) → Put line (f .length) c line' n
+  pub fed-byte : (c : ℕ) (front line' : List ℕ) (n : ℕ) → (c ≡ 10 → ⊥) → front ≡ take (f .length) line → Wrote line (length front) (c ∷ []) line' n
       → Fed-on (c ∷ []) f line table positions normals indices materials (record { reader = f .reader; length = n }) line' table positions normals indices materials
-  fed-byte c line' n q p = record { goes = λ text v. byte-fed text f line table positions normals indices materials v c line' n (ne-eqb c 10 q) p }
+  fed-byte c front line' n q e p =
+      record { goes = λ text v. byte-fed text f line table positions normals indices materials v c line' n (ne-eqb c 10 q) (subst (λ (xs : List ℕ). Wrote line (length xs) (c ∷ []) line' n) e p) }
+
+  pub kept-within : (front : List ℕ) → front ≡ take (f .length) line → length front ≤ length line
+  kept-within front e = omega (arith, ap length e, length-take (f .length) line)
 
   pub fed-line : (c : ℕ) (front : List ℕ) (t : Reader) (table' positions' normals' indices' materials' : List ℕ) → c ≡ 10 → front ≡ take (f .length) line
       → lent t table' positions' normals' indices' materials' ≡ readInto (lent (f .reader) table positions normals indices materials) front

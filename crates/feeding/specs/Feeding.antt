@@ -1,9 +1,9 @@
 -- A text fed piece by piece: what the reader, its slices and the line's buffer stand for. Assumes nothing.
 use mathlib.Core.List.{List, _++_}
 use mathlib.Core.Path.{_≡_}
-use Prim.Native.Nat.{ℕ, _+_, _≤_, _<_}
+use Prim.Native.Nat.{ℕ, _≤_}
 use lib.Dec.{T}
-use lib.ListN.{length, set, take}
+use lib.ListN.{length, take}
 use Rattle.line_order.specs.Laws.{noLF}
 use Rattle.line_order.specs.Reading.{State, cut, readFrom, sheetOf}
 use Rattle.reader.specs.declared.Reader.{Reader}
@@ -12,7 +12,7 @@ use Rattle.reader.specs.Slices.{lent}
 use Rattle.sheet.specs.Bench.{bench}
 use Rattle.finisher.specs.Answered.{answerIn}
 use Rattle.feeding.specs.declared.Fed.{Fed}
-use Rattle.finisher.specs.Texts.{Told}
+use Rattle.calls.specs.Told.{Told}
 
 -- A text was fed: the lines before its last LF were read, giving the state, and what stands after that LF, the tail, is in the buffer, as far as it has room. However the text goes on, the
 -- sheet is what the state and the tail then give.
@@ -25,11 +25,6 @@ pub record SoFar (text : List ℕ) (f : Fed) (line table positions normals indic
   pub room : 108 ≤ length line
   pub buffer : take (f .length) line ≡ take (length line) tail
   pub count : f .length ≡ length (take (length line) tail)
-
--- a byte was put behind the k bytes of a line, if there was room
-pub record Put (line : List ℕ) (k c : ℕ) (line' : List ℕ) (n : ℕ) : Type 0 where
-  pub room : k < length line → (line' ≡ set line k c) × (n ≡ k + 1)
-  pub full : length line ≤ k → (line' ≡ line) × (n ≡ k)
 
 -- a stretch of the text was fed behind what was
 pub record Fed-on (part : List ℕ) (f : Fed) (line table positions normals indices materials : List ℕ) (g : Fed) (line' table' positions' normals' indices' materials' : List ℕ) : Type 0 where

@@ -1,11 +1,12 @@
 // A text taken in byte by byte: a line feed has the line before it read.
 
+use digits::put_byte;
 use fronts::front_bytes;
 use reader::Reader;
 use reader::end_sheet;
 use reader::read_line;
 ghost use mathlib.Core.List.{[], _∷_};
-ghost use Rattle.feeding.specs.Feeding.{Ended, Fed-on, Put};
+ghost use Rattle.feeding.specs.Feeding.{Ended, Fed-on};
 
 // The reader, and how many bytes of the line at hand stand in its buffer; a line that fills the buffer keeps only what has room.
 pub struct Fed {
@@ -13,18 +14,7 @@ pub struct Fed {
     pub length: usize,
 }
 
-// A byte put behind the k bytes of a line, if there is room; answers how many there are then.
-fn keep(line: &mut [u8], k: usize, c: u8) -> usize
-    ensures { λ r. ⌜ Put (now (line .entry)) k c (now (line .exit)) r ⌝ }
-{
-    if k < line.len() {
-        line[k] = c;
-        return k + 1;
-    }
-    k
-}
-
-// A byte of the text.
+// A byte of the text: a line feed has the line read, and any other stands behind the line's bytes so far, if there is room.
 fn take_byte(
     f: Fed,
     c: u8,
@@ -38,23 +28,16 @@ fn take_byte(
     ensures { λ r. ⌜ Fed-on (c ∷ []) f (now (line .entry)) (now (table .entry)) (now (positions .entry)) (now (normals .entry)) (now (indices .entry)) (now (materials .entry)) r (now (line .exit)) (now (table .exit)) (now (positions .exit)) (now (normals .exit)) (now (indices .exit)) (now (materials .exit)) ⌝ }
 {
     let s = f.reader;
-    let k = f.length;
+    let kept = front_bytes(line, f.length);
     if c == 10 {
-        let t = read_line(
-            s,
-            front_bytes(line, k),
-            table,
-            positions,
-            normals,
-            indices,
-            materials,
-        );
+        let t = read_line(s, kept, table, positions, normals, indices, materials);
         return Fed {
             reader: t,
             length: 0,
         };
     }
-    let n = keep(line, k, c);
+    let k = kept.len();
+    let n = put_byte(line, k, c);
     Fed {
         reader: s,
         length: n,

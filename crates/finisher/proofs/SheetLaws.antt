@@ -1,10 +1,10 @@
 -- The laws of a sheet's body put into arrays and finished: what stands in their fronts is the sheet's. Assumes nothing.
 use mathlib.Core.Bool.{Bool, true, false, not}
 use mathlib.Core.List.{List, [], _∷_, _++_, map}
-use mathlib.Core.Path.{_≡_, refl, sym, _∙_, ap, subst}
-use Prim.Native.Nat.{ℕ, _*_, _≤_}
+use mathlib.Core.Path.{_≡_, sym, _∙_, ap, subst}
+use Prim.Native.Nat.{ℕ, _*_, _≤_, _<_}
 use native.Mathlib.Omega.{arith}
-use borrow.Author.Tests.{eq-eqb, ne-eqb}
+use borrow.Author.Tests.{eq-eqb, ne-eqb, not-true, not-false}
 use lib.Ieee.{Float}
 use lib.ListN.{length, take, drop, length-map, length-take}
 use lib.Seq.{length-take-le, take-all, take-at}
@@ -13,18 +13,14 @@ use Rattle.floats.specs.Floats.{f32, f64}
 use Rattle.geometry.specs.declared.Aabb.{Aabb}
 use Rattle.finish.specs.Finish.{finish}
 use Rattle.reader.specs.declared.Reader.{Reader}
-use Rattle.reader.specs.Slices.{lent, patternsOf}
+use Rattle.reader.specs.Limits.{Limited, limited}
+use Rattle.reader.specs.Slices.{inLimits, lent, patternsOf}
 use Rattle.sheet.specs.Bench.{printed}
 use Rattle.sheet.specs.Meaning.{boxOf, meant}
-use Rattle.finisher.proofs.TextLaws.{told-refusal}
-use Rattle.finisher.proofs.LimitLaws.{not-false}
-use Rattle.finisher.specs.Answered.{Limited, answerIn, inLimits}
+use Rattle.calls.specs.Told.{Told, told-refusal}
+use Rattle.calls.specs.Texts.{finishedText}
+use Rattle.finisher.specs.Answered.{FrontsSaid, answerIn}
 use Rattle.finisher.specs.Printed.{printed-finish}
-use Rattle.finisher.specs.Texts.{FrontsSaid, Told, finishedText}
-
-not-true : (b : Bool) → not b ≡ true → b ≡ false
-not-true true h = sym h
-not-true false h = refl
 
 -- ---- an array filled from its front
 module _ {A : Type 0} (ys E : List A) (m n : ℕ) (e : length ys ≡ n) (h : n ≤ length E) where
@@ -34,8 +30,19 @@ module _ {A : Type 0} (ys E : List A) (m n : ℕ) (e : length ys ≡ n) (h : n �
       ∙ ap (λ (xs : List A). take n (xs ++ drop m E)) (take-all (length E) ys (omega arith))
       ∙ take-at ys (drop m E) n e
 
+-- ---- the fronts of slices
+module _ (T : List ℕ) (P N : List Float) (I : List ℕ) (n m : ℕ) (sag : Float) (box : Aabb) (M : List ℕ) (d : ℕ) (E W : List ℕ) (r : ℕ) where
+  pub few-normals : length N < n → FrontsSaid T P N I n m sag box M d E W r
+  few-normals h = record { says = λ a b. absurd (omega arith) }
+
+  pub few-indices : length I < m → FrontsSaid T P N I n m sag box M d E W r
+  few-indices h = record { says = λ a b. absurd (omega arith) }
+
+  pub fronts-said : (A : List Float) → A ≡ take n P → Told E (finishedText T A (take n N) (take m I) sag box M d) W r → FrontsSaid T P N I n m sag box M d E W r
+  fronts-said A e v = record { says = λ a b. subst (λ (B : List Float). Told E (finishedText T B (take n N) (take m I) sag box M d) W r) e v }
+
 -- ---- the body
-module _ (s : Reader) (T P N I M : List ℕ) (v : Limited s T P N I M) where
+module _ (s : Reader) (T P N I M : List ℕ) (v : Limited s (length T) (length P) (length N) (length I) (length M)) where
   abbrev n : ℕ
   n = 3 * s .vertices
 
@@ -66,6 +73,9 @@ module _ (s : Reader) (T P N I M : List ℕ) (v : Limited s T P N I M) where
       subst (λ (x : List ℕ). Told E x W r) same (said .says long-normals long-indices)
 
 -- ---- the sheet
+pub within-limits : (s : Reader) (t p n i m : ℕ) (b : Bool) → b ≡ inLimits s t p n i m → not b ≡ false → Limited s t p n i m
+within-limits s t p n i m b e h = limited s t p n i m (sym e ∙ not-false b h)
+
 module _ (s : Reader) (T P N I M E W : List ℕ) (r : ℕ) where
   pub sheet-refused : (s .refusal ≡ 0 → ⊥) → Written E (refusalLine (s .refusal)) W r → Told E (answerIn (lent s T P N I M)) W r
   unfolding answerIn

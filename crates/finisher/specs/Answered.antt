@@ -1,31 +1,22 @@
 -- What the program prints of a sheet that was read into slices. Assumes nothing.
-use mathlib.Core.Bool.{Bool, true, false, _&&_}
+use mathlib.Core.Bool.{true, false}
 use mathlib.Core.List.{List}
 use Prim.Native.Nat.{ℕ, _≤_}
-use lib.ListN.{length}
-use lib.Dec.{leb, eqb}
+use lib.ListN.{length, take}
+use lib.Dec.{eqb}
+use lib.Ieee.{Float}
 use Rattle.answer.specs.Answer.{refusalLine}
+use Rattle.calls.specs.Told.{Told}
+use Rattle.calls.specs.Texts.{finishedText}
+use Rattle.geometry.specs.declared.Aabb.{Aabb}
 use Rattle.finish.specs.Finish.{finish}
-use Rattle.reader.specs.declared.Reader.{Reader}
-use Rattle.reader.specs.Slices.{Lent, patternsOf}
+use Rattle.reader.specs.Slices.{Lent, inLimits, patternsOf}
 use Rattle.sheet.specs.Meaning.{meant}
 use Rattle.sheet.specs.Bench.{printed}
 
--- the reader counts no more than 16 rows, 96 vertices and 96 indices, and slices of these lengths have room for these and for 64 materials
-unfoldable pub inLimits : Reader → ℕ → ℕ → ℕ → ℕ → ℕ → Bool
-inLimits r table positions normals indices materials =
-    leb 80 table && (leb 288 positions && (leb 288 normals && (leb 96 indices && (leb 64 materials && (leb (r .rows) 16 && (leb (r .vertices) 96 && leb (r .indices) 96))))))
-
--- the same as facts
-pub record Limited (r : Reader) (T P N I M : List ℕ) : Type 0 where
-  pub table : 80 ≤ length T
-  pub positions : 288 ≤ length P
-  pub normals : 288 ≤ length N
-  pub indices : 96 ≤ length I
-  pub materials : 64 ≤ length M
-  pub rows : r .rows ≤ 16
-  pub vertices : r .vertices ≤ 96
-  pub counted : r .indices ≤ 96
+-- a body in the first n coordinates and m indices of slices is finished and printed, where there are so many
+pub record FrontsSaid (T : List ℕ) (P N : List Float) (I : List ℕ) (n m : ℕ) (sag : Float) (box : Aabb) (M : List ℕ) (d : ℕ) (E W : List ℕ) (r : ℕ) : Type 0 where
+  pub says : n ≤ length N → m ≤ length I → Told E (finishedText T (take n P) (take n N) (take m I) sag box M d) W r
 
 -- what the program prints of a reader and its slices: the finished sheet, or only the refusal; a reader that counts more than the limits is refused with 52
 unfoldable pub answerIn : Lent → List ℕ

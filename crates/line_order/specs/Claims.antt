@@ -7,13 +7,8 @@ use Rattle.lists.specs.Lists.{all}
 use Rattle.lists.specs.Table.{Case, case, agrees}
 use Rattle.digits.specs.Bytes.{bytes, lines}
 use Rattle.line_order.specs.Reading.{sheetOf}
+use Rattle.line_order.specs.Samples.{face, sheet, vertex}
 use Rattle.line_order.specs.Evaluation.{evaluation}
-
--- box, sag and default, then lines
-sheet : List (List ℕ) → List ℕ
-sheet ls =
-    lines (bytes "(box 0000000000000000 0000000000000000 0000000000000000 0000000000000000 0000000000000000 0000000000000000)"
-    ∷ bytes "(sag 3FD0000000000000)" ∷ bytes "(default 2)" ∷ ls)
 
 -- the refusal of a text, 0 for a sheet
 refusal : List ℕ → ℕ
@@ -22,14 +17,6 @@ refusal t = sheetOf t .refusal
 -- the refusal of those lines after box, sag and default
 reading : List (List ℕ) → ℕ
 reading ls = refusal (sheet ls)
-
--- a face
-face : List ℕ
-face = bytes "(face 0 63)"
-
--- a vertex
-vertex : List ℕ
-vertex = bytes "(v (p 3F800000 00000000 80000000) (n 00000000 00000000 7FC00000))"
 
 -- a triangle
 triangle : List ℕ

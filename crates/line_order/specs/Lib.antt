@@ -3,4 +3,5 @@ pub mod Reading
 pub mod Refusals
 pub mod Laws
 pub mod Evaluation
+pub mod Samples
 pub mod Claims

@@ -7,13 +7,13 @@ use native.Mathlib.Nat.{mul-le-mul-left, mul-lt-mul-of-pos-left}
 use native.Mathlib.Omega.{arith}
 use borrow.Author.Tests.{le-leb, lt-leb, le-ltb, lt-ltb, leb-true, leb-false, not-true, not-false}
 use lib.Dec.{leb, ltb, eqb}
-use lib.ListN.{getD, take}
+use lib.ListN.{getD, length, take}
 use lib.Seq.{getD-take}
 use Rattle.body.specs.Body.{firstFailing}
 use Rattle.lines.specs.Counted.{countIn}
 use Rattle.lines.specs.Forms.{form, numbers}
 use Rattle.lines.specs.declared.Kind.{Kind}
-use Rattle.lines.specs.declared.Kind.the-variants.{Box, Sag, NoDefault, Default, Material, Face, Vertex, Triangle, Fail}
+use Rattle.lines.specs.declared.Kind.the-variants.{Material, Vertex, Triangle, Fail}
 use Rattle.line_order.specs.Reading.{Patterns, State, failsWithZero, inOrder, lineRefusal, orderOf, passesLimit}
 use Rattle.line_order.specs.Refusals.{Limit, Refusal}
 
@@ -25,43 +25,14 @@ pub order-within : (place : ℕ) (k : Kind) (f l : ℕ) → f ≡ orderOf k .fir
 order-within place k f l e h q = ap (leb place) q ∙ rw (le-leb (orderOf k .first) place (subst (λ (n : ℕ). n ≤ place) e h))
 
 -- ---- a fail line with number 0
-module _ (k : Kind) (N : List ℕ) where
-  pub fails-box : k ≡ Box → false ≡ failsWithZero k (take (countIn (form k)) N)
-  unfolding failsWithZero
-  fails-box e = subst (λ (j : Kind). false ≡ failsWithZero j (take (countIn (form j)) N)) (sym e) refl
 
-  pub fails-sag : k ≡ Sag → false ≡ failsWithZero k (take (countIn (form k)) N)
-  unfolding failsWithZero
-  fails-sag e = subst (λ (j : Kind). false ≡ failsWithZero j (take (countIn (form j)) N)) (sym e) refl
+-- What holds of a kind holds of the kind that equals it.
+pub fails-as : (j : Kind) (N : List ℕ) (b : Bool) (k : Kind) → k ≡ j → b ≡ failsWithZero j (take (countIn (form j)) N) → b ≡ failsWithZero k (take (countIn (form k)) N)
+fails-as j N b k e q = subst (λ (i : Kind). b ≡ failsWithZero i (take (countIn (form i)) N)) (sym e) q
 
-  pub fails-nodefault : k ≡ NoDefault → false ≡ failsWithZero k (take (countIn (form k)) N)
-  unfolding failsWithZero
-  fails-nodefault e = subst (λ (j : Kind). false ≡ failsWithZero j (take (countIn (form j)) N)) (sym e) refl
-
-  pub fails-default : k ≡ Default → false ≡ failsWithZero k (take (countIn (form k)) N)
-  unfolding failsWithZero
-  fails-default e = subst (λ (j : Kind). false ≡ failsWithZero j (take (countIn (form j)) N)) (sym e) refl
-
-  pub fails-material : k ≡ Material → false ≡ failsWithZero k (take (countIn (form k)) N)
-  unfolding failsWithZero
-  fails-material e = subst (λ (j : Kind). false ≡ failsWithZero j (take (countIn (form j)) N)) (sym e) refl
-
-  pub fails-face : k ≡ Face → false ≡ failsWithZero k (take (countIn (form k)) N)
-  unfolding failsWithZero
-  fails-face e = subst (λ (j : Kind). false ≡ failsWithZero j (take (countIn (form j)) N)) (sym e) refl
-
-  pub fails-vertex : k ≡ Vertex → false ≡ failsWithZero k (take (countIn (form k)) N)
-  unfolding failsWithZero
-  fails-vertex e = subst (λ (j : Kind). false ≡ failsWithZero j (take (countIn (form j)) N)) (sym e) refl
-
-  pub fails-triangle : k ≡ Triangle → false ≡ failsWithZero k (take (countIn (form k)) N)
-  unfolding failsWithZero
-  fails-triangle e = subst (λ (j : Kind). false ≡ failsWithZero j (take (countIn (form j)) N)) (sym e) refl
-
-  pub fails-fail : k ≡ Fail → eqb (getD N 2 0) 0 ≡ failsWithZero k (take (countIn (form k)) N)
-  unfolding failsWithZero form numbers countIn
-  fails-fail e =
-      subst (λ (j : Kind). eqb (getD N 2 0) 0 ≡ failsWithZero j (take (countIn (form j)) N)) (sym e) (ap (λ (n : ℕ). eqb n 0) (sym (getD-take 3 N 2 0 (omega arith))))
+pub fails-fail : (N : List ℕ) → eqb (getD N 2 0) 0 ≡ failsWithZero Fail (take (countIn (form Fail)) N)
+unfolding failsWithZero form numbers countIn
+fails-fail N = ap (λ (n : ℕ). eqb n 0) (sym (getD-take 3 N 2 0 (omega arith)))
 
 -- ---- limits
 
@@ -83,44 +54,25 @@ module _ (rows vertices indices : ℕ) (k : Kind) (N : List ℕ) where
   limit-as : (j : Kind) (b : Bool) → k ≡ j → Limit rows vertices indices j (take (countIn (form j)) N) b → Limit rows vertices indices k (take (countIn (form k)) N) b
   limit-as j b e v = subst (λ (i : Kind). Limit rows vertices indices i (take (countIn (form i)) N) b) (sym e) v
 
-  pub limit-box : k ≡ Box → Limit rows vertices indices k (take (countIn (form k)) N) false
-  unfolding passesLimit
-  limit-box e = limit-as Box false e (record { is = λ x c. refl })
-
-  pub limit-sag : k ≡ Sag → Limit rows vertices indices k (take (countIn (form k)) N) false
-  unfolding passesLimit
-  limit-sag e = limit-as Sag false e (record { is = λ x c. refl })
-
-  pub limit-nodefault : k ≡ NoDefault → Limit rows vertices indices k (take (countIn (form k)) N) false
-  unfolding passesLimit
-  limit-nodefault e = limit-as NoDefault false e (record { is = λ x c. refl })
-
-  pub limit-default : k ≡ Default → Limit rows vertices indices k (take (countIn (form k)) N) false
-  unfolding passesLimit
-  limit-default e = limit-as Default false e (record { is = λ x c. refl })
+  -- a kind that has no limit
+  pub limit-none : (j : Kind) → ((ns : List ℕ) (x : Patterns) → false ≡ passesLimit j ns x) → k ≡ j → Limit rows vertices indices k (take (countIn (form k)) N) false
+  limit-none j n e = limit-as j false e (record { is = λ x c. n (take (countIn (form j)) N) x })
 
   pub limit-material : k ≡ Material → Limit rows vertices indices k (take (countIn (form k)) N) (ltb 63 (getD N 0 0))
   unfolding passesLimit form numbers countIn
   limit-material e = limit-as Material (ltb 63 (getD N 0 0)) e (record { is = λ x c. ap (ltb 63) (sym (getD-take 2 N 0 0 (omega arith))) })
 
-  pub limit-face : (b : Bool) → k ≡ Face → b ≡ ltb 63 (getD N 1 0) || leb 16 rows → Limit rows vertices indices k (take (countIn (form k)) N) b
-  unfolding passesLimit form numbers countIn
-  limit-face b e q =
-      limit-as Face b e
+  -- a kind that opens a row
+  pub limit-row : (j : Kind) → 1 < countIn (form j) → ((ns : List ℕ) (x : Patterns) → passesLimit j ns x ≡ ltb 63 (getD ns 1 0) || leb 80 (length (x .table)))
+      → (b : Bool) → k ≡ j → b ≡ ltb 63 (getD N 1 0) || leb 16 rows → Limit rows vertices indices k (take (countIn (form k)) N) b
+  limit-row j l is b e q =
+      let ns : List ℕ = take (countIn (form j)) N in
+      limit-as j b e
       (record {
         is = λ x c.
-            q ∙ ap (λ (n : ℕ). ltb 63 n || leb 16 rows) (sym (getD-take 2 N 1 0 (omega arith)))
-            ∙ ap (λ (t : Bool). ltb 63 (getD (take 2 N) 1 0) || t) (times 5 16 rows (omega arith) ∙ ap (leb 80) (sym (c .table)));
-      })
-
-  pub limit-fail : (b : Bool) → k ≡ Fail → b ≡ ltb 63 (getD N 1 0) || leb 16 rows → Limit rows vertices indices k (take (countIn (form k)) N) b
-  unfolding passesLimit form numbers countIn
-  limit-fail b e q =
-      limit-as Fail b e
-      (record {
-        is = λ x c.
-            q ∙ ap (λ (n : ℕ). ltb 63 n || leb 16 rows) (sym (getD-take 3 N 1 0 (omega arith)))
-            ∙ ap (λ (t : Bool). ltb 63 (getD (take 3 N) 1 0) || t) (times 5 16 rows (omega arith) ∙ ap (leb 80) (sym (c .table)));
+            q ∙ ap (λ (n : ℕ). ltb 63 n || leb 16 rows) (sym (getD-take (countIn (form j)) N 1 0 l))
+            ∙ ap (λ (t : Bool). ltb 63 (getD ns 1 0) || t) (times 5 16 rows (omega arith) ∙ ap (leb 80) (sym (c .table)))
+            ∙ sym (is ns x);
       })
 
   pub limit-vertex : k ≡ Vertex → Limit rows vertices indices k (take (countIn (form k)) N) (leb 96 vertices)

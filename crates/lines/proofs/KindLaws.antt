@@ -3,8 +3,7 @@ use mathlib.Core.Bool.{Bool, true, false, cond}
 use mathlib.Core.List.{List, [], _∷_}
 use mathlib.Core.Option.{Option, none, some}
 use mathlib.Core.Path.{_≡_, refl, sym, _∙_, ap}
-use Prim.Native.Nat.{ℕ, _<_}
-use native.Mathlib.Omega.{arith}
+use Prim.Native.Nat.{ℕ}
 use lib.ListN.{take}
 use Rattle.lines.specs.declared.Kind.{Kind}
 use Rattle.lines.specs.declared.Kind.the-variants.{Box, Sag, NoDefault, Default, Material, Face, Vertex, Triangle, Fail}
@@ -43,19 +42,6 @@ among-next k ks line e = ap (λ (o : Option (List ℕ)). elim o as (λ x. Option
 among-here : (k : Kind) (ks : List Kind) (line N : List ℕ) → read (form k) line ≡ some (take (countIn (form k)) N) → given (Given.Line k) N ≡ lineAmong (k ∷ ks) line
 unfolding lineAmong given
 among-here k ks line N e = ap (λ (o : Option (List ℕ)). elim o as (λ x. Option Line) [ none ↦ lineAmong ks line | some ns ↦ some (record { kind = k; numbers = ns }) ]) (sym e)
-
--- There is room for the numbers of every form.
-pub room-for : (k : Kind) (n : ℕ) → 6 < n → countIn (pieces (pattern k)) < n
-unfolding countIn piece
-room-for Box n h = omega arith
-room-for Sag n h = omega arith
-room-for NoDefault n h = omega arith
-room-for Default n h = omega arith
-room-for Material n h = omega arith
-room-for Face n h = omega arith
-room-for Vertex n h = omega arith
-room-for Triangle n h = omega arith
-room-for Fail n h = omega arith
 
 -- the kinds that are left, the line having the form of no earlier one
 pub record Past (line : List ℕ) (all ks : List Kind) : Type 0 where

@@ -1,25 +1,20 @@
 -- The laws of one piece: what a byte of a form stands for, and what is read of it at a place. Assumes nothing.
-use mathlib.Core.Bool.{true, false}
+use mathlib.Core.Bool.{Bool, true, false, not, cond}
 use mathlib.Core.List.{List, [], _∷_}
 use mathlib.Core.Option.{Option, none, some}
-use mathlib.Core.Path.{_≡_, sym, _∙_, ap, subst}
+use mathlib.Core.Path.{_≡_, refl, sym, _∙_, ap, subst}
 use Prim.Native.Nat.{ℕ, _+_, _≤_, _<_}
-use native.Mathlib.Numerals.{add-one}
 use native.Mathlib.Omega.{arith}
-use borrow.Author.Tests.{eq-eqb, ne-eqb}
+use borrow.Author.Tests.{eq-eqb, ne-eqb, eqb-true, eqb-false, not-true, not-false}
 use lib.Dec.{eqb}
 use lib.ListN.{length, getD, drop, drop-of-length-le}
-use lib.Seq.{drop-cons}
-use Rattle.digits.specs.Digits.{Found, found, readDecimal, readHex}
+use Rattle.digits.specs.Digits.{Found, found}
+use Rattle.digits.specs.Next.{next}
 use Rattle.digits.specs.Given as Digits
 use Rattle.digits.specs.declared.reading.Taken.{Taken}
 use Rattle.lines.specs.Forms.{Piece, Word, Bits, Number, afterWord, spaced}
-use Rattle.lines.specs.Pattern.{numbersOf, piece, readByte, readPiece}
+use Rattle.lines.specs.Pattern.{numbersOf, piece, readByte, readNumber, readPiece}
 use Rattle.lines.specs.Scan.{Numbers, PieceTaken}
-
--- what stands from a place on
-pub next : (xs : List ℕ) (i : ℕ) → i < length xs → drop i xs ≡ getD xs i 0 ∷ drop (i + 1) xs
-next xs i h = drop-cons xs i 0 h ∙ ap (λ (n : ℕ). getD xs i 0 ∷ drop n xs) (sym (add-one i))
 
 -- ---- what a byte stands for
 pub piece-number : (c : ℕ) → c ≡ 35 → piece c ≡ Number
@@ -70,52 +65,72 @@ module _ (line : List ℕ) (at p : ℕ) where
   byte-other h n =
       let no : eqb p (getD line at 0) ≡ false = ne-eqb p (getD line at 0) (λ e. n (sym e)) in
       let other : readByte p (getD line at 0 ∷ drop (at + 1) line) ≡ none = rw (no, readByte, afterWord) in
-      sym other ∙ ap (readByte p) (sym (next line at h))
+      sym other ∙ ap (readByte p) (sym (next line at 0 h))
 
   pub byte-there : at < length line → getD line at 0 ≡ p → PieceTaken line (readByte p (drop at line)) (record { ok = true; value = 0; next = at + 1 })
   unfolding afterWord
   byte-there h e =
       let yes : eqb p (getD line at 0) ≡ true = eq-eqb p (getD line at 0) (sym e) in
       let there : readByte p (getD line at 0 ∷ drop (at + 1) line) ≡ some (found 0 (drop (at + 1) line)) = rw (yes, readByte, afterWord) in
-      record { is = sym there ∙ ap (readByte p) (sym (next line at h)); within = omega arith }
+      record { is = sym there ∙ ap (readByte p) (sym (next line at 0 h)); within = omega arith }
 
-module _ (f : List ℕ → Option Found) (line : List ℕ) (at : ℕ) where
-  pub spaced-end : length line ≤ at → none ≡ spaced f (drop at line)
-  unfolding spaced
-  spaced-end h = ap (spaced f) (sym (drop-of-length-le line h))
+-- ---- the number that a byte stands for
+pub number-none : (line : List ℕ) (at c : ℕ) (r : Taken) → at ≤ length line → (c ≡ 35 → ⊥) → (c ≡ 36 → ⊥) → (c ≡ 42 → ⊥) → r ≡ record { ok = false; value = 0; next = at }
+    → PieceTaken line (readNumber (piece c) (drop at line)) r
+unfolding readNumber
+number-none line at c r h m n o e = no-piece line (readNumber (piece c) (drop at line)) r at h e (ap (λ (p : Piece). readNumber p (drop at line)) (sym (piece-byte c m n o)))
 
-  pub spaced-other : at < length line → (getD line at 0 ≡ 32 → ⊥) → none ≡ spaced f (drop at line)
-  unfolding spaced
-  spaced-other h n =
-      let other : spaced f (getD line at 0 ∷ drop (at + 1) line) ≡ none = rw (ne-eqb (getD line at 0) 32 n, spaced) in
-      sym other ∙ ap (spaced f) (sym (next line at h))
+pub number-as : (p : Piece) (line : List ℕ) (at c bound : ℕ) (r : Taken) → piece c ≡ p → Digits.Number line bound (readNumber p (drop at line)) r → PieceTaken line (readNumber (piece c) (drop at line)) r
+number-as p line at c bound r e v = record { is = v .is ∙ ap (λ (q : Piece). readNumber q (drop at line)) (sym e); within = v .within }
 
-  spaced-there : at < length line → getD line at 0 ≡ 32 → f (drop (at + 1) line) ≡ spaced f (drop at line)
-  unfolding spaced
-  spaced-there h e =
-      let there : spaced f (getD line at 0 ∷ drop (at + 1) line) ≡ f (drop (at + 1) line) = rw (eq-eqb (getD line at 0) 32 e, spaced) in
-      sym there ∙ ap (spaced f) (sym (next line at h))
+-- ---- a byte that stands for itself, or for a space and a number
 
-  pub spaced-number : (bound : ℕ) (r : Taken) → at < length line → getD line at 0 ≡ 32 → Digits.Number line bound (f (drop (at + 1) line)) r → PieceTaken line (spaced f (drop at line)) r
-  spaced-number bound r h e v = record { is = v .is ∙ spaced-there h e; within = v .within }
+-- a byte that stands for no number stands for itself
+pub itself : (c n : ℕ) → Numbers c n → n ≡ 0 → piece c ≡ Word (c ∷ [])
+unfolding piece numbersOf
+itself c n v z = go (eqb c 35) refl (eqb c 36) refl (eqb c 42) refl
+  where
+    none-of : numbersOf (piece c) ≡ 0
+    none-of = sym (v .is) ∙ z
 
--- ---- the piece that a byte stands for
-module _ (line : List ℕ) (at c : ℕ) (r : Taken) where
-  standing : (p : Piece) → piece c ≡ p → PieceTaken line (readPiece p (drop at line)) r → PieceTaken line (readPiece (piece c) (drop at line)) r
-  standing p e v = subst (λ (q : Piece). PieceTaken line (readPiece q (drop at line)) r) (sym e) v
+    go : (a : Bool) → eqb c 35 ≡ a → (b : Bool) → eqb c 36 ≡ b → (d : Bool) → eqb c 42 ≡ d → piece c ≡ Word (c ∷ [])
+    go true p b q d r = absurd (omega (arith, (rw p at none-of)))
+    go false p true q d r = absurd (omega (arith, (rw (p, q) at none-of)))
+    go false p false q true r = absurd (omega (arith, (rw (p, q, r) at none-of)))
+    go false p false q false r = rw (p, q, r)
 
-  pub taken-number : c ≡ 35 → PieceTaken line (spaced readDecimal (drop at line)) r → PieceTaken line (readPiece (piece c) (drop at line)) r
-  unfolding readPiece
-  taken-number e v = standing Number (piece-number c e) v
+pub byte-as : (line : List ℕ) (at c n : ℕ) (r : Taken) → Numbers c n → n ≡ 0 → PieceTaken line (readByte c (drop at line)) r → PieceTaken line (readPiece (piece c) (drop at line)) r
+unfolding readPiece
+byte-as line at c n r v z w = record { is = w .is ∙ ap (λ (p : Piece). readPiece p (drop at line)) (sym (itself c n v z)); within = w .within }
 
-  pub taken-long : (c ≡ 35 → ⊥) → c ≡ 36 → PieceTaken line (spaced (readHex 16) (drop at line)) r → PieceTaken line (readPiece (piece c) (drop at line)) r
-  unfolding readPiece
-  taken-long m e v = standing (Bits 16) (piece-long c m e) v
+-- a space is read as a byte, and then the number
+spaced-is : (f : List ℕ → Option Found) (xs : List ℕ) → spaced f xs ≡ elim (readByte 32 xs) as (λ o. Option Found) [ none ↦ none | some g ↦ f (g .rest) ]
+unfolding spaced afterWord
+spaced-is f [] = refl
+spaced-is f (x ∷ xs) = go (eqb 32 x) refl
+  where
+    go : (b : Bool) → eqb 32 x ≡ b → spaced f (x ∷ xs) ≡ elim (readByte 32 (x ∷ xs)) as (λ o. Option Found) [ none ↦ none | some g ↦ f (g .rest) ]
+    go true q = rw (q, eq-eqb x 32 (sym (eqb-true 32 x q)), spaced, readByte, afterWord)
+    go false q = rw (q, ne-eqb x 32 (λ h. eqb-false 32 x q (sym h)), spaced, readByte, afterWord)
 
-  pub taken-short : (c ≡ 35 → ⊥) → (c ≡ 36 → ⊥) → c ≡ 42 → PieceTaken line (spaced (readHex 8) (drop at line)) r → PieceTaken line (readPiece (piece c) (drop at line)) r
-  unfolding readPiece
-  taken-short m n e v = standing (Bits 8) (piece-short c m n e) v
+number-piece : (p : Piece) (xs : List ℕ) → ¬ (numbersOf p ≡ 0) → readPiece p xs ≡ spaced (readNumber p) xs
+unfolding readPiece numbersOf readNumber
+number-piece (Word w) xs n = absurd (n refl)
+number-piece (Bits k) xs n = refl
+number-piece Number xs n = refl
 
-  pub taken-byte : (c ≡ 35 → ⊥) → (c ≡ 36 → ⊥) → (c ≡ 42 → ⊥) → PieceTaken line (readByte c (drop at line)) r → PieceTaken line (readPiece (piece c) (drop at line)) r
-  unfolding readPiece
-  taken-byte m n o v = standing (Word (c ∷ [])) (piece-byte c m n o) v
+module _ (line : List ℕ) (at c n : ℕ) (space : Taken) (v : Numbers c n) (m : ¬ (n ≡ 0)) (w : PieceTaken line (readByte 32 (drop at line)) space) where
+  after : (b : Bool) → space .ok ≡ b
+      → readPiece (piece c) (drop at line) ≡ elim (cond b (some (found (space .value) (drop (space .next) line))) none) as (λ o. Option Found) [ none ↦ none | some g ↦ readNumber (piece c) (g .rest) ]
+  after b e =
+      number-piece (piece c) (drop at line) (λ z. m (v .is ∙ z))
+      ∙ spaced-is (readNumber (piece c)) (drop at line)
+      ∙ ap (λ (o : Option Found). elim o as (λ x. Option Found) [ none ↦ none | some g ↦ readNumber (piece c) (g .rest) ]) (sym (w .is) ∙ ap (λ (x : Bool). cond x (some (found (space .value) (drop (space .next) line))) none) e)
+
+  pub no-space : not (space .ok) ≡ true → PieceTaken line (readPiece (piece c) (drop at line)) space
+  no-space e =
+      let no : space .ok ≡ false = not-true (space .ok) e in
+      record { is = ap (λ (x : Bool). cond x (some (found (space .value) (drop (space .next) line))) none) no ∙ sym (after false no); within = w .within }
+
+  pub space-then : (r : Taken) → not (space .ok) ≡ false → PieceTaken line (readNumber (piece c) (drop (space .next) line)) r → PieceTaken line (readPiece (piece c) (drop at line)) r
+  space-then r e u = record { is = u .is ∙ sym (after true (not-false (space .ok) e)); within = u .within }

@@ -13,12 +13,12 @@ use lib.ListN.{length, getD, take, drop, set, length-set, drop-of-length-le}
 use lib.Seq.{take-set-le, take-suc-set}
 use Rattle.digits.specs.Digits.{Found, found, readDecimal, readHex}
 use Rattle.digits.specs.Given as Digits
+use Rattle.digits.specs.Next.{next}
 use Rattle.digits.specs.declared.reading.Taken.{Taken}
 use Rattle.lines.specs.Forms.{Piece, Word, Bits, Number, afterWord, read, spaced}
 use Rattle.lines.specs.Counted.{countIn}
 use Rattle.lines.specs.Pattern.{numbersOf, piece, pieces, readPiece}
 use Rattle.lines.specs.Scan.{Numbers, PieceTaken, Scanned}
-use Rattle.lines.proofs.PieceLaws.{next}
 
 -- numbers in front of those that are read
 unfoldable pub after : List ℕ → Option (List ℕ) → Option (List ℕ)
@@ -104,7 +104,7 @@ module _ (line form F N : List ℕ) (at count i : ℕ) (v : Scanning line form F
   here = piece (getD form i 0)
 
   rest : pieces (drop i form) ≡ here ∷ pieces (drop (i + 1) form)
-  rest = ap (map piece) (next form i h)
+  rest = ap (map piece) (next form i 0 h)
 
   step : after (take count N) (one-then here (Digits.given line t) (pieces (drop (i + 1) form))) ≡ read (pieces form) line
   step =
@@ -162,6 +162,6 @@ scanning-all line form F N at count i v h = record { is = go (eqb at (length lin
     go false q =
         let ne : ¬ (at ≡ length line) = eqb-false at (length line) q in
         let l : at < length line = omega (arith, v .inside) in
-        ap (λ (xs : List ℕ). after (take count N) (read [] xs)) (sym (next line at l))
+        ap (λ (xs : List ℕ). after (take count N) (read [] xs)) (sym (next line at 0 l))
         ∙ ap (λ (ps : List ℕ). after (take count N) (read (pieces ps) (drop at line))) (sym done)
         ∙ v .same

@@ -5,13 +5,13 @@ use Prim.Native.Nat.{ℕ, zero, suc, _+_, _-_, _≤_, _<_}
 use native.Mathlib.Nat.{add-zero}
 use native.Mathlib.Omega.{arith}
 use lib.ListN.{length, getD, drop, drop-of-length-le}
-use Rattle.digits.specs.Digits.{decimal, hex}
 use Rattle.digits.specs.Given.{Wrote}
+use Rattle.digits.specs.Next.{next}
 use Rattle.digits.specs.Wrote.{wrote-none, wrote-then}
 use Rattle.lines.specs.Forms.{Piece, Word, Bits, Number, line, print}
-use Rattle.lines.specs.Pattern.{numbersOf, piece, pieces, printPiece}
+use Rattle.lines.specs.Pattern.{numbersOf, piece, pieces, printNumber, printPiece}
 use Rattle.lines.specs.Scan.{Numbers}
-use Rattle.lines.proofs.PieceLaws.{next, piece-byte, piece-long, piece-number, piece-short}
+use Rattle.lines.proofs.PieceLaws.{itself, piece-byte}
 
 pub past-end : (xs : List ℕ) (i : ℕ) → length xs ≤ i → 0 ≡ getD xs i 0
 past-end [] i h = refl
@@ -19,32 +19,32 @@ past-end (x ∷ xs) zero h = absurd (omega arith)
 past-end (x ∷ xs) (suc i) h = past-end xs i (omega arith)
 
 -- ---- one piece
-module _ (E : List ℕ) (at c n : ℕ) (U : List ℕ) (r : ℕ) where
-  standing : (p : Piece) → piece c ≡ p → Wrote E at (printPiece p n) U r → Wrote E at (printPiece (piece c) n) U r
-  standing p e w = subst (λ (q : Piece). Wrote E at (printPiece q n) U r) (sym e) w
+pub put-none : (E : List ℕ) (at c n : ℕ) → at ≤ length E → (c ≡ 35 → ⊥) → (c ≡ 36 → ⊥) → (c ≡ 42 → ⊥) → Wrote E at (printNumber (piece c) n) E at
+unfolding printNumber
+put-none E at c n h m o s = subst (λ (p : Piece). Wrote E at (printNumber p n) E at) (sym (piece-byte c m o s)) (wrote-none E at h)
 
-  pub put-number : (W : List ℕ) (q : ℕ) → c ≡ 35 → Wrote E at (32 ∷ []) W q → Wrote W q (decimal n) U r → Wrote E at (printPiece (piece c) n) U r
-  unfolding printPiece
-  put-number W q e v w = standing Number (piece-number c e) (wrote-then v w)
+pub put-as : (p : Piece) (E : List ℕ) (at c n : ℕ) (W : List ℕ) (r : ℕ) → piece c ≡ p → Wrote E at (printNumber p n) W r → Wrote E at (printNumber (piece c) n) W r
+put-as p E at c n W r e w = subst (λ (q : Piece). Wrote E at (printNumber q n) W r) (sym e) w
 
-  pub put-long : (W : List ℕ) (q : ℕ) → (c ≡ 35 → ⊥) → c ≡ 36 → Wrote E at (32 ∷ []) W q → Wrote W q (hex 16 n) U r → Wrote E at (printPiece (piece c) n) U r
-  unfolding printPiece
-  put-long W q m e v w = standing (Bits 16) (piece-long c m e) (wrote-then v w)
+pub put-itself : (E : List ℕ) (at c k n : ℕ) (W : List ℕ) (r : ℕ) → Numbers c k → k ≡ 0 → Wrote E at (c ∷ []) W r → Wrote E at (printPiece (piece c) n) W r
+unfolding printPiece
+put-itself E at c k n W r v z w = subst (λ (p : Piece). Wrote E at (printPiece p n) W r) (sym (itself c k v z)) w
 
-  pub put-short : (W : List ℕ) (q : ℕ) → (c ≡ 35 → ⊥) → (c ≡ 36 → ⊥) → c ≡ 42 → Wrote E at (32 ∷ []) W q → Wrote W q (hex 8 n) U r → Wrote E at (printPiece (piece c) n) U r
-  unfolding printPiece
-  put-short W q m o e v w = standing (Bits 8) (piece-short c m o e) (wrote-then v w)
+number-text : (p : Piece) (n : ℕ) → ¬ (numbersOf p ≡ 0) → printPiece p n ≡ 32 ∷ printNumber p n
+unfolding printPiece numbersOf printNumber
+number-text (Word w) n m = absurd (m refl)
+number-text (Bits k) n m = refl
+number-text Number n m = refl
 
-  pub put-one : (c ≡ 35 → ⊥) → (c ≡ 36 → ⊥) → (c ≡ 42 → ⊥) → Wrote E at (c ∷ []) U r → Wrote E at (printPiece (piece c) n) U r
-  unfolding printPiece
-  put-one m o s w = standing (Word (c ∷ [])) (piece-byte c m o s) w
+pub put-spaced : (E : List ℕ) (at c k n : ℕ) (W : List ℕ) (q : ℕ) (U : List ℕ) (r : ℕ) → Numbers c k → ¬ (k ≡ 0) → Wrote E at (32 ∷ []) W q → Wrote W q (printNumber (piece c) n) U r → Wrote E at (printPiece (piece c) n) U r
+put-spaced E at c k n W q U r v m w u = subst (λ (xs : List ℕ). Wrote E at xs U r) (sym (number-text (piece c) n (λ z. m (v .is ∙ z)))) (wrote-then w u)
 
 -- ---- the form
 print-step : (p : Piece) (ps : List Piece) (ns : List ℕ) (count : ℕ) → count + numbersOf p ≤ length ns → print (p ∷ ps) (drop count ns) ≡ printPiece p (getD ns count 0) ++ print ps (drop (count + numbersOf p) ns)
 unfolding print printPiece numbersOf
 print-step (Word w) ps ns count h = ap (λ (k : ℕ). w ++ print ps (drop k ns)) (sym (add-zero count))
-print-step (Bits k) ps ns count h = ap (print (Bits k ∷ ps)) (next ns count (omega arith))
-print-step Number ps ns count h = ap (print (Number ∷ ps)) (next ns count (omega arith))
+print-step (Bits k) ps ns count h = ap (print (Bits k ∷ ps)) (next ns count 0 (omega arith))
+print-step Number ps ns count h = ap (print (Number ∷ ps)) (next ns count 0 (omega arith))
 
 print-short : (p : Piece) (ps : List Piece) (ns : List ℕ) (count : ℕ) → count ≤ length ns → length ns - count < numbersOf p → print (p ∷ ps) (drop count ns) ≡ []
 unfolding print numbersOf
@@ -85,7 +85,7 @@ module _ (E : List ℕ) (at : ℕ) (form numbers W : List ℕ) (place count i : 
     e = counts .is
 
     rest : print (pieces (drop i form)) (drop count numbers) ≡ print (here ∷ pieces (drop (i + 1) form)) (drop count numbers)
-    rest = ap (λ (cs : List ℕ). print (pieces cs) (drop count numbers)) (next form i h)
+    rest = ap (λ (cs : List ℕ). print (pieces cs) (drop count numbers)) (next form i 0 h)
 
     pub formed-short : length numbers - count < n → Wrote E at (print (pieces form) numbers) W place
     formed-short l =

@@ -23,12 +23,12 @@ word-length (w ∷ ws) (x ∷ xs) rest e = go (eqb w x) refl (word-length ws xs 
     go true q back = omega (arith, back (rw (q, afterWord) at e))
     go false q back = let n : none ≡ some rest = rw (q, afterWord) at e in let z : _≡_ {A = ℕ} 0 1 = cc in omega arith
 
--- the longest line of a form
-abbrev pub longest : List Piece → ℕ
-longest [] = 0
-longest (Word w ∷ ps) = length w + longest ps
-longest (Bits k ∷ ps) = suc k + longest ps
-longest (Number ∷ ps) = 11 + longest ps
+-- the longest line of a form without its LF, a decimal number having so many digits at the most
+abbrev pub longest : ℕ → List Piece → ℕ
+longest most [] = 0
+longest most (Word w ∷ ps) = length w + longest most ps
+longest most (Bits k ∷ ps) = suc k + longest most ps
+longest most (Number ∷ ps) = suc most + longest most ps
 
 spaced-length : (f : List ℕ → Option Found) (k : ℕ) → ((xs : List ℕ) (g : Found) → f xs ≡ some g → length xs ≤ k + length (g .rest))
     → (xs : List ℕ) (g : Found) → spaced f xs ≡ some g → length xs ≤ suc k + length (g .rest)
@@ -51,13 +51,13 @@ spaced-then (some f) ps ns e = go (read ps (f .rest)) refl
     go none q = let n : none ≡ some ns = rw q at e in let z : _≡_ {A = ℕ} 0 1 = cc in absurd (omega arith)
     go (some ms) q = (f, ms, refl, q)
 
-pub read-length : (ps : List Piece) (xs ns : List ℕ) → read ps xs ≡ some ns → length xs ≤ longest ps
+pub read-length : (ps : List Piece) (xs ns : List ℕ) → read ps xs ≡ some ns → length xs ≤ longest 10 ps
 unfolding read
 read-length [] [] ns e = omega arith
 read-length [] (x ∷ xs) ns e = let z : _≡_ {A = ℕ} 0 1 = cc in omega arith
 read-length (Word w ∷ ps) xs ns e = go (afterWord w xs) refl (λ rest. read-length ps rest ns)
   where
-    go : (o : Option (List ℕ)) → afterWord w xs ≡ o → ((rest : List ℕ) → read ps rest ≡ some ns → length rest ≤ longest ps) → length xs ≤ length w + longest ps
+    go : (o : Option (List ℕ)) → afterWord w xs ≡ o → ((rest : List ℕ) → read ps rest ≡ some ns → length rest ≤ longest 10 ps) → length xs ≤ length w + longest 10 ps
     go none q back = let n : none ≡ some ns = rw (q, read) at e in let z : _≡_ {A = ℕ} 0 1 = cc in omega arith
     go (some rest) q back = omega (arith, word-length w xs rest q, back rest (rw (q, read) at e))
 read-length (Bits k ∷ ps) xs ns e =
@@ -67,7 +67,7 @@ read-length (Number ∷ ps) xs ns e =
     let r = spaced-then (spaced readDecimal xs) ps ns e in
     omega (arith, spaced-length readDecimal 10 number-length xs (r .0) (r .2), read-length ps (r .0 .rest) (r .1) (r .3))
 
-pub form-length : (k : Kind) → longest (form k) ≤ 107
+pub form-length : (k : Kind) → longest 10 (form k) ≤ 107
 unfolding form numbers
 form-length Box = omega arith
 form-length Sag = omega arith

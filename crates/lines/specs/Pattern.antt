@@ -44,6 +44,12 @@ numbersOf (Word w) = 0
 numbersOf (Bits k) = 1
 numbersOf Number = 1
 
+-- the text of a piece's number; a word has none
+unfoldable pub printNumber : Piece → ℕ → List ℕ
+printNumber (Word w) n = []
+printNumber (Bits k) n = hex k n
+printNumber Number n = decimal n
+
 -- the text of a piece, for the number given
 unfoldable pub printPiece : Piece → ℕ → List ℕ
 printPiece (Word w) n = w
@@ -53,6 +59,12 @@ printPiece Number n = 32 ∷ decimal n
 -- a byte, if the text begins with it
 abbrev pub readByte : ℕ → List ℕ → Option Found
 readByte c xs = elim (afterWord (c ∷ []) xs) [ none ↦ none | some rest ↦ some (found 0 rest) ]
+
+-- the number of a piece, if the text begins with it; a word has none
+unfoldable pub readNumber : Piece → List ℕ → Option Found
+readNumber (Word w) xs = none
+readNumber (Bits k) xs = readHex k xs
+readNumber Number xs = readDecimal xs
 
 -- the number of a piece, 0 for a word, and what follows it
 unfoldable pub readPiece : Piece → List ℕ → Option Found

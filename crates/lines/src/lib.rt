@@ -9,6 +9,7 @@ mod writing;
 
 pub use kinds::Given;
 pub use kinds::line_of;
+pub use scanning::scan;
 pub use writing::put_line;
 
 // The kinds of lines of a sheet, in their order.

@@ -6,10 +6,8 @@ use digits::read_decimal;
 use digits::read_hex;
 ghost use Prim.Native.Nat.{_+_, _<_, _≤_};
 ghost use lib.ListN.{length, drop};
-ghost use Rattle.digits.specs.Digits.{readDecimal, readHex};
-ghost use Rattle.lines.specs.Forms.{spaced};
 ghost use Rattle.lines.specs.Counted.{countIn};
-ghost use Rattle.lines.specs.Pattern.{piece, pieces, readByte, readPiece};
+ghost use Rattle.lines.specs.Pattern.{piece, pieces, readByte, readNumber, readPiece};
 ghost use Rattle.lines.specs.Scan.{Numbers, PieceTaken, Scanned};
 
 // How many numbers a byte of a form stands for.
@@ -46,50 +44,36 @@ fn byte_at(line: &[u8], at: usize, p: u8) -> Taken
     }
 }
 
-// A space and a decimal number at a place.
-fn decimal_at(line: &[u8], at: usize) -> Taken
+// The number that a byte of a form stands for, at a place.
+fn number_at(line: &[u8], at: usize, p: u8) -> Taken
     requires { ⌜ at ≤ length (now line) ⌝ }
-    ensures { λ r. ⌜ PieceTaken (now (line .entry)) (spaced readDecimal (drop at (now (line .entry)))) r ⌝ }
+    ensures { λ r. ⌜ PieceTaken (now (line .entry)) (readNumber (piece p) (drop at (now (line .entry)))) r ⌝ }
 {
-    if line.len() <= at {
-        return missing(at);
+    if p == 35 {
+        return read_decimal(line, at);
     }
-    if line[at] != 32 {
-        return missing(at);
+    if p == 36 {
+        return read_hex(line, at, 16);
     }
-    read_decimal(line, at + 1)
+    if p == 42 {
+        return read_hex(line, at, 8);
+    }
+    missing(at)
 }
 
-// A space and k digits of hex at a place.
-fn hex_at(line: &[u8], at: usize, k: usize) -> Taken
-    requires { ⌜ at ≤ length (now line) ⌝ }
-    requires { ⌜ k ≤ 16 ⌝ }
-    ensures { λ r. ⌜ PieceTaken (now (line .entry)) (spaced (readHex k) (drop at (now (line .entry)))) r ⌝ }
-{
-    if line.len() <= at {
-        return missing(at);
-    }
-    if line[at] != 32 {
-        return missing(at);
-    }
-    read_hex(line, at + 1, k)
-}
-
-// What a byte of a form stands for, at a place.
+// What a byte of a form stands for, at a place: itself, or a space and a number.
 fn piece_at(line: &[u8], at: usize, p: u8) -> Taken
     requires { ⌜ at ≤ length (now line) ⌝ }
     ensures { λ r. ⌜ PieceTaken (now (line .entry)) (readPiece (piece p) (drop at (now (line .entry)))) r ⌝ }
 {
-    if p == 35 {
-        return decimal_at(line, at);
+    if numbers_of(p) == 0 {
+        return byte_at(line, at, p);
     }
-    if p == 36 {
-        return hex_at(line, at, 16);
+    let space = byte_at(line, at, 32);
+    if !space.ok {
+        return space;
     }
-    if p == 42 {
-        return hex_at(line, at, 8);
-    }
-    byte_at(line, at, p)
+    number_at(line, space.next, p)
 }
 
 // Whether a line has a form, and its numbers in front of `numbers`, which is longer than there are.

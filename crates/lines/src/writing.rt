@@ -9,26 +9,35 @@ ghost use Prim.Native.Nat.{_≤_};
 ghost use lib.ListN.{length, getD};
 ghost use Rattle.digits.specs.Given.{Wrote};
 ghost use Rattle.lines.specs.Forms.{line, print};
-ghost use Rattle.lines.specs.Pattern.{piece, pieces, printPiece};
+ghost use Rattle.lines.specs.Pattern.{piece, pieces, printNumber, printPiece};
 
-// What a byte of a form stands for, with the number n, at a place; answers the place after it.
+// The number that a byte of a form stands for, n, at a place; answers the place after it.
+fn put_number(out: &mut [u8], at: usize, p: u8, n: u64) -> usize
+    requires { ⌜ at ≤ length (now out) ⌝ }
+    ensures { λ r. ⌜ Wrote (now (out .entry)) at (printNumber (piece p) n) (now (out .exit)) r ⌝ }
+{
+    if p == 35 {
+        return put_decimal(out, at, n);
+    }
+    if p == 36 {
+        return put_hex(out, at, 16, n);
+    }
+    if p == 42 {
+        return put_hex(out, at, 8, n);
+    }
+    at
+}
+
+// What a byte of a form stands for, at a place: itself, or a space and the number n; answers the place after it.
 fn put_piece(out: &mut [u8], at: usize, p: u8, n: u64) -> usize
     requires { ⌜ at ≤ length (now out) ⌝ }
     ensures { λ r. ⌜ Wrote (now (out .entry)) at (printPiece (piece p) n) (now (out .exit)) r ⌝ }
 {
-    if p == 35 {
-        let next = put_byte(out, at, 32);
-        return put_decimal(out, next, n);
+    if numbers_of(p) == 0 {
+        return put_byte(out, at, p);
     }
-    if p == 36 {
-        let next = put_byte(out, at, 32);
-        return put_hex(out, next, 16, n);
-    }
-    if p == 42 {
-        let next = put_byte(out, at, 32);
-        return put_hex(out, next, 8, n);
-    }
-    put_byte(out, at, p)
+    let next = put_byte(out, at, 32);
+    put_number(out, next, p, n)
 }
 
 // Number i of some, 0 past their end.

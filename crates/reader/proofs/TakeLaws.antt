@@ -16,8 +16,8 @@ use Rattle.lines.specs.Forms.{form, numbers}
 use Rattle.lines.specs.declared.Kind.{Kind}
 use Rattle.lines.specs.declared.Kind.the-variants.{Box, Sag, NoDefault, Default, Material, Face, Vertex, Triangle, Fail}
 use Rattle.reader.specs.declared.Reader.{Reader}
-use Rattle.line_order.specs.Reading.{State, at, passesLimit, raised, takeUp, withLine}
-use Rattle.reader.specs.Slices.{Lent, boxed, defaulted, lent, lineFrom, lowThree, moved, onto, over, patternsOf, placed, readerOf, sagged, stateOf, takenUp}
+use Rattle.line_order.specs.Reading.{Patterns, State, at, passesLimit, raised, takeUp, withLine}
+use Rattle.reader.specs.Slices.{Lent, boxed, defaulted, lent, lineFrom, lowThree, moved, onto, over, patternsOf, placed, readerOf, refused, sagged, stateOf, takenUp}
 use Rattle.reader.specs.Added.{Ready, RowAdded, RowRoom, TriangleAdded, TriangleRoom, VertexAdded, VertexRoom}
 use Rattle.line_order.specs.Refusals.{Passed, passed}
 use Rattle.reader.proofs.RoomLaws.{Held, counts-of, held-of, last-index, last-vertex, some-row}
@@ -38,6 +38,14 @@ six P g (a ∷ b ∷ c ∷ d ∷ e ∷ f ∷ rest) h = g a b c d e f rest
 low : (n : ℕ) → Dec.T (ltb n (2 ^ 32)) → n % 2 ^ 32 ≡ n
 low n t = mod-eq-of-lt (ltb→lt n (2 ^ 32) t)
 
+-- three numbers at a place, and what follows them, by equal numbers
+three-same : {W : List ℕ} (S : List ℕ) (i : ℕ) (rest : List ℕ) {x x' y y' z z' : ℕ} → x ≡ x' → y ≡ y' → z ≡ z' → W ≡ placed S i (x ∷ y ∷ z ∷ rest) → W ≡ placed S i (x' ∷ y' ∷ z' ∷ rest)
+three-same S i rest {x} {x'} {y} {y'} {z} {z'} p q o e =
+    e
+    ∙ ap (λ (n : ℕ). placed S i (n ∷ y ∷ z ∷ rest)) p
+    ∙ ap (λ (n : ℕ). placed S i (x' ∷ n ∷ z ∷ rest)) q
+    ∙ ap (λ (n : ℕ). placed S i (x' ∷ y' ∷ n ∷ rest)) o
+
 -- ---- equal parts make equal wholes
 same-lent : {r r' : Reader} {T T' P P' N N' I I' M M' : List ℕ} → r ≡ r' → T ≡ T' → P ≡ P' → N ≡ N' → I ≡ I' → M ≡ M' → lent r T P N I M ≡ lent r' T' P' N' I' M'
 same-lent {r} {r'} {T} {T'} {P} {P'} {N} {N'} {I} {I'} {M} {M'} a b c d e f =
@@ -48,35 +56,17 @@ same-lent {r} {r'} {T} {T'} {P} {P'} {N} {N'} {I} {I'} {M} {M'} a b c d e f =
     ∙ ap (λ (x : List ℕ). lent r' T' P' N' x M) e
     ∙ ap (λ (x : List ℕ). lent r' T' P' N' I' x) f
 
--- a reader's numbers, its box aside
-abbrev with-numbers : Reader → ℕ → ℕ → ℕ → ℕ → ℕ → ℕ → ℕ → Reader
-with-numbers s refusal place rows vertices indices default sag =
-    record {
-      refusal = refusal;
-      place = place;
-      rows = rows;
-      vertices = vertices;
-      indices = indices;
-      default = default;
-      sag = sag;
-      minx = s .minx;
-      miny = s .miny;
-      minz = s .minz;
-      maxx = s .maxx;
-      maxy = s .maxy;
-      maxz = s .maxz;
-    }
-
+-- equal numbers make equal readers, the box aside
 same-reader : (s : Reader) (refusal refusal' place place' rows rows' vertices vertices' indices indices' default default' sag : ℕ)
     → refusal ≡ refusal' → place ≡ place' → rows ≡ rows' → vertices ≡ vertices' → indices ≡ indices' → default ≡ default'
-    → with-numbers s refusal place rows vertices indices default sag ≡ with-numbers s refusal' place' rows' vertices' indices' default' sag
+    → moved (refused refusal s) place rows vertices indices default sag ≡ moved (refused refusal' s) place' rows' vertices' indices' default' sag
 same-reader s refusal refusal' place place' rows rows' vertices vertices' indices indices' default default' sag a b c d e f =
-    ap (λ (n : ℕ). with-numbers s n place rows vertices indices default sag) a
-    ∙ ap (λ (n : ℕ). with-numbers s refusal' n rows vertices indices default sag) b
-    ∙ ap (λ (n : ℕ). with-numbers s refusal' place' n vertices indices default sag) c
-    ∙ ap (λ (n : ℕ). with-numbers s refusal' place' rows' n indices default sag) d
-    ∙ ap (λ (n : ℕ). with-numbers s refusal' place' rows' vertices' n default sag) e
-    ∙ ap (λ (n : ℕ). with-numbers s refusal' place' rows' vertices' indices' n sag) f
+    ap (λ (n : ℕ). moved (refused n s) place rows vertices indices default sag) a
+    ∙ ap (λ (n : ℕ). moved (refused refusal' s) n rows vertices indices default sag) b
+    ∙ ap (λ (n : ℕ). moved (refused refusal' s) place' n vertices indices default sag) c
+    ∙ ap (λ (n : ℕ). moved (refused refusal' s) place' rows' n indices default sag) d
+    ∙ ap (λ (n : ℕ). moved (refused refusal' s) place' rows' vertices' n default sag) e
+    ∙ ap (λ (n : ℕ). moved (refused refusal' s) place' rows' vertices' indices' n sag) f
 
 module _ (s : Reader) (T P N I M : List ℕ) where
   abbrev here : Lent
@@ -94,16 +84,16 @@ module _ (s : Reader) (T P N I M : List ℕ) where
     same-indices = sym (counts-of s T P N I M h .indices)
 
     rows-fit : 5 * s .rows ≤ length T
-    rows-fit = omega (arith, h .table, h .rows)
+    rows-fit = omega (arith, h .limits .table, h .limits .rows)
 
     vertices-fit : 3 * s .vertices ≤ length P
-    vertices-fit = omega (arith, h .positions, h .vertices)
+    vertices-fit = omega (arith, h .limits .positions, h .limits .vertices)
 
     normals-fit : 3 * s .vertices ≤ length N
-    normals-fit = omega (arith, h .normals, h .vertices)
+    normals-fit = omega (arith, h .limits .normals, h .limits .vertices)
 
     indices-fit : s .indices ≤ length I
-    indices-fit = omega (arith, h .indices, h .counted)
+    indices-fit = omega (arith, h .limits .indices, h .limits .counted)
 
   -- a line before the faces: only the reader changes
   header : (r : Reader) (s' : State) → r ≡ readerOf s' → s' .sheet .table ≡ take (5 * s .rows) T → s' .sheet .positions ≡ take (3 * s .vertices) P → s' .sheet .normals ≡ take (3 * s .vertices) N → s' .sheet .indices ≡ take (s .indices) I → s' .sheet .materials ≡ take 64 M → lent r T P N I M ≡ over here s'
@@ -168,7 +158,7 @@ module _ (s : Reader) (T P N I M : List ℕ) where
         (kept (3 * s .vertices) P)
         (kept (3 * s .vertices) N)
         (kept (s .indices) I)
-        (q ∙ ap (λ (n : ℕ). set M a (n + 1)) (low b small) ∙ changed 64 M a (b + 1) (omega arith) (h .materials))
+        (q ∙ ap (λ (n : ℕ). set M a (n + 1)) (low b small) ∙ changed 64 M a (b + 1) (omega arith) (h .limits .materials))
 
     -- ---- a row
     row-more : (place x y z : ℕ) (W : List ℕ) → Held s T P N I M → s .rows < 16 → s .refusal ≡ 0 → r ≡ moved s place (s .rows + 1) (s .vertices) (s .indices) (s .default) (s .sag) → W ≡ placed T (5 * s .rows) (x ∷ y ∷ z ∷ 0 ∷ 0 ∷ [])
@@ -187,53 +177,39 @@ module _ (s : Reader) (T P N I M : List ℕ) where
   few-rows : (x : Bool) → Held s T P N I M → x || leb 80 (length (take (5 * s .rows) T)) ≡ false → s .rows < 16
   few-rows x h e = omega (arith, leb-false 80 (length (take (5 * s .rows) T)) (either-false x (leb 80 (length (take (5 * s .rows) T))) e), counts-of s T P N I M h .table)
 
-  face-room : (a b c d e f : ℕ) (rest : List ℕ) → Ready here Face (a ∷ b ∷ c ∷ d ∷ e ∷ f ∷ rest) → RowRoom s T
-  unfolding form numbers countIn passesLimit
-  face-room a b c d e f rest v =
+  -- a line that opens a row has room for it
+  row-room : (k : Kind) → ((ms : List ℕ) (x : Patterns) → passesLimit k ms x ≡ ltb 63 (at ms 1) || leb 80 (length (x .table))) → (ns : List ℕ) → Ready here k ns → RowRoom s T
+  row-room k is ns v =
       let h = held-of s T P N I M (v .fitting .roomy .held) in
-      let ok : Passed (lineFrom Face (a ∷ b ∷ c ∷ d ∷ e ∷ f ∷ rest)) (stateOf here) = passed _ _ (v .taken) in
-      record { rows = few-rows (ltb 63 b) h (ok .limit); table = h .table }
-
-  fail-room : (a b c d e f : ℕ) (rest : List ℕ) → Ready here Fail (a ∷ b ∷ c ∷ d ∷ e ∷ f ∷ rest) → RowRoom s T
-  unfolding form numbers countIn passesLimit
-  fail-room a b c d e f rest v =
-      let h = held-of s T P N I M (v .fitting .roomy .held) in
-      let ok : Passed (lineFrom Fail (a ∷ b ∷ c ∷ d ∷ e ∷ f ∷ rest)) (stateOf here) = passed _ _ (v .taken) in
-      record { rows = few-rows (ltb 63 b) h (ok .limit); table = h .table }
-
-  three-rows : {T' : List ℕ} (x x' y y' z z' : ℕ) → x ≡ x' → y ≡ y' → z ≡ z' → T' ≡ placed T (5 * s .rows) (x ∷ y ∷ z ∷ 0 ∷ 0 ∷ []) → T' ≡ placed T (5 * s .rows) (x' ∷ y' ∷ z' ∷ 0 ∷ 0 ∷ [])
-  three-rows x x' y y' z z' p q o e =
-      e
-      ∙ ap (λ (n : ℕ). placed T (5 * s .rows) (n ∷ y ∷ z ∷ 0 ∷ 0 ∷ [])) p
-      ∙ ap (λ (n : ℕ). placed T (5 * s .rows) (x' ∷ n ∷ z ∷ 0 ∷ 0 ∷ [])) q
-      ∙ ap (λ (n : ℕ). placed T (5 * s .rows) (x' ∷ y' ∷ n ∷ 0 ∷ 0 ∷ [])) o
+      let ok : Passed (lineFrom k ns) (stateOf here) = passed _ _ (v .taken) in
+      record { rows = few-rows (ltb 63 (at (lineFrom k ns .numbers) 1)) h (sym (is (lineFrom k ns .numbers) (patternsOf here)) ∙ ok .limit); table = h .limits .table }
 
   face-six : (r : Reader) (a b c d e f : ℕ) (rest W : List ℕ) → Ready here Face (a ∷ b ∷ c ∷ d ∷ e ∷ f ∷ rest) → RowAdded s T a b 0 4 r W → lent r W P N I M ≡ takenUp here Face (a ∷ b ∷ c ∷ d ∷ e ∷ f ∷ rest)
-  unfolding takenUp takeUp withLine form numbers countIn
+  unfolding takenUp takeUp withLine form numbers countIn passesLimit
   face-six r a b c d e f rest W v q =
       let h = held-of s T P N I M (v .fitting .roomy .held) in
       let t0 : Dec.T (ltb a (2 ^ 32)) = and-left (ltb a (2 ^ 32)) (ltb b (2 ^ 32) && true) (v .fitting .small) in
       let t1 : Dec.T (ltb b (2 ^ 32)) = and-left (ltb b (2 ^ 32)) true (and-right (ltb a (2 ^ 32)) (ltb b (2 ^ 32) && true) (v .fitting .small)) in
-      row-more r 4 a b 0 W h (face-room a b c d e f rest v .rows) (v .fitting .roomy .clean) (q .reader)
-      (three-rows (a % 2 ^ 32) a (b % 2 ^ 32) b (0 % 2 ^ 32) 0 (low a t0) (low b t1) refl (q .table))
+      row-more r 4 a b 0 W h (row-room Face (λ ms x. refl) (a ∷ b ∷ c ∷ d ∷ e ∷ f ∷ rest) v .rows) (v .fitting .roomy .clean) (q .reader)
+      (three-same T (5 * s .rows) (0 ∷ 0 ∷ []) (low a t0) (low b t1) refl (q .table))
 
   fail-six : (r : Reader) (a b c d e f : ℕ) (rest W : List ℕ) → Ready here Fail (a ∷ b ∷ c ∷ d ∷ e ∷ f ∷ rest) → RowAdded s T a b c 6 r W → lent r W P N I M ≡ takenUp here Fail (a ∷ b ∷ c ∷ d ∷ e ∷ f ∷ rest)
-  unfolding takenUp takeUp withLine form numbers countIn
+  unfolding takenUp takeUp withLine form numbers countIn passesLimit
   fail-six r a b c d e f rest W v q =
       let h = held-of s T P N I M (v .fitting .roomy .held) in
       let t0 : Dec.T (ltb a (2 ^ 32)) = and-left (ltb a (2 ^ 32)) (ltb b (2 ^ 32) && (ltb c (2 ^ 32) && true)) (v .fitting .small) in
       let w1 : Dec.T (ltb b (2 ^ 32) && (ltb c (2 ^ 32) && true)) = and-right (ltb a (2 ^ 32)) (ltb b (2 ^ 32) && (ltb c (2 ^ 32) && true)) (v .fitting .small) in
       let t1 : Dec.T (ltb b (2 ^ 32)) = and-left (ltb b (2 ^ 32)) (ltb c (2 ^ 32) && true) w1 in
       let t2 : Dec.T (ltb c (2 ^ 32)) = and-left (ltb c (2 ^ 32)) true (and-right (ltb b (2 ^ 32)) (ltb c (2 ^ 32) && true) w1) in
-      row-more r 6 a b c W h (fail-room a b c d e f rest v .rows) (v .fitting .roomy .clean) (q .reader)
-      (three-rows (a % 2 ^ 32) a (b % 2 ^ 32) b (c % 2 ^ 32) c (low a t0) (low b t1) (low c t2) (q .table))
+      row-more r 6 a b c W h (row-room Fail (λ ms x. refl) (a ∷ b ∷ c ∷ d ∷ e ∷ f ∷ rest) v .rows) (v .fitting .roomy .clean) (q .reader)
+      (three-same T (5 * s .rows) (0 ∷ 0 ∷ []) (low a t0) (low b t1) (low c t2) (q .table))
 
   material-below : (a b c d e f : ℕ) (rest : List ℕ) → Ready here Material (a ∷ b ∷ c ∷ d ∷ e ∷ f ∷ rest) → a < length M
   unfolding form numbers countIn passesLimit
   material-below a b c d e f rest v =
       let h = held-of s T P N I M (v .fitting .roomy .held) in
       let ok : Passed (lineFrom Material (a ∷ b ∷ c ∷ d ∷ e ∷ f ∷ rest)) (stateOf here) = passed _ _ (v .taken) in
-      omega (arith, ltb-false 63 a (ok .limit), h .materials)
+      omega (arith, ltb-false 63 a (ok .limit), h .limits .materials)
 
   -- ---- the last row's counts
   module _ (back n : ℕ) (h : Held s T P N I M) (some-back : 0 < back) (few : back ≤ 5 * s .rows) where
@@ -250,14 +226,6 @@ module _ (s : Reader) (T P N I M : List ℕ) where
     raised-rows : s .rows ≡ length (raised back n (take (5 * s .rows) T)) / 5
     raised-rows = omega (arith, counts-of s T P N I M h .table, ap length raised-is ∙ length-set (take (5 * s .rows) T) (5 * s .rows - back) (at T (5 * s .rows - back) + n))
 
-  -- three numbers of 32 bits at a place
-  three-low : {W : List ℕ} (S : List ℕ) (i x y z : ℕ) → Dec.T (ltb x (2 ^ 32)) → Dec.T (ltb y (2 ^ 32)) → Dec.T (ltb z (2 ^ 32)) → W ≡ placed S i (x % 2 ^ 32 ∷ y % 2 ^ 32 ∷ z % 2 ^ 32 ∷ []) → W ≡ placed S i (x ∷ y ∷ z ∷ [])
-  three-low S i x y z p q o e =
-      e
-      ∙ ap (λ (n : ℕ). placed S i (n ∷ y % 2 ^ 32 ∷ z % 2 ^ 32 ∷ [])) (low x p)
-      ∙ ap (λ (n : ℕ). placed S i (x ∷ n ∷ z % 2 ^ 32 ∷ [])) (low y q)
-      ∙ ap (λ (n : ℕ). placed S i (x ∷ y ∷ n ∷ [])) (low z o)
-
   -- ---- a vertex
   vertex-six-room : (a b c d e f : ℕ) (rest : List ℕ) → Ready here Vertex (a ∷ b ∷ c ∷ d ∷ e ∷ f ∷ rest) → VertexRoom s T P N (a ∷ b ∷ c ∷ d ∷ e ∷ f ∷ rest)
   unfolding form countIn passesLimit
@@ -268,11 +236,11 @@ module _ (s : Reader) (T P N I M : List ℕ) where
       let row : 0 < s .rows = some-row s T P N I M h (omega (arith, leb-true 4 (s .place) first)) in
       record {
         some-row = row;
-        rows = h .rows;
+        rows = h .limits .rows;
         vertices = omega (arith, leb-false 288 (length (take (3 * s .vertices) P)) (ok .limit), counts-of s T P N I M h .positions);
-        table = h .table;
-        positions = h .positions;
-        normals = h .normals;
+        table = h .limits .table;
+        positions = h .limits .positions;
+        normals = h .limits .normals;
         count = last-vertex s T P N I M h row;
         long = v .fitting .long;
       }
@@ -298,8 +266,8 @@ module _ (s : Reader) (T P N I M : List ℕ) where
       same-lent
       (q .reader ∙ same-reader s (s .refusal) 0 4 4 (s .rows) _ (s .vertices + 1) _ (s .indices) _ (s .default) (s .default) (s .sag) (v .fitting .roomy .clean) refl (raised-rows 2 1 h (omega arith) back) vertices (same-indices h) refl)
       (raised-in 2 1 h (omega arith) back T' (q .table))
-      (three-low P (3 * s .vertices) a b c (and-left (short a) (short b && (short c && (short d && (short e && (short f && true))))) w0) (and-left (short b) (short c && (short d && (short e && (short f && true)))) w1) (and-left (short c) (short d && (short e && (short f && true))) w2) (q .positions) ∙ grown (3 * s .vertices) P (a ∷ b ∷ c ∷ []) (vertices-fit h))
-      (three-low N (3 * s .vertices) d e f (and-left (short d) (short e && (short f && true)) w3) (and-left (short e) (short f && true) w4) (and-left (short f) true w5) (q .normals) ∙ grown (3 * s .vertices) N (d ∷ e ∷ f ∷ []) (normals-fit h))
+      (three-same P (3 * s .vertices) [] (low a (and-left (short a) (short b && (short c && (short d && (short e && (short f && true))))) w0)) (low b (and-left (short b) (short c && (short d && (short e && (short f && true)))) w1)) (low c (and-left (short c) (short d && (short e && (short f && true))) w2)) (q .positions) ∙ grown (3 * s .vertices) P (a ∷ b ∷ c ∷ []) (vertices-fit h))
+      (three-same N (3 * s .vertices) [] (low d (and-left (short d) (short e && (short f && true)) w3)) (low e (and-left (short e) (short f && true) w4)) (low f (and-left (short f) true w5)) (q .normals) ∙ grown (3 * s .vertices) N (d ∷ e ∷ f ∷ []) (normals-fit h))
       (kept (s .indices) I)
       (kept 64 M)
 
@@ -313,9 +281,9 @@ module _ (s : Reader) (T P N I M : List ℕ) where
       let row : 0 < s .rows = some-row s T P N I M h (omega (arith, leb-true 4 (s .place) first)) in
       record {
         some-row = row;
-        rows = h .rows;
-        indices = omega (arith, leb-false 96 (length (take (s .indices) I)) (ok .limit), counts-of s T P N I M h .indices, h .whole, h .indices);
-        table = h .table;
+        rows = h .limits .rows;
+        indices = omega (arith, leb-false 96 (length (take (s .indices) I)) (ok .limit), counts-of s T P N I M h .indices, h .whole, h .limits .indices);
+        table = h .limits .table;
         count = last-index s T P N I M h row;
         long = v .fitting .long;
       }
@@ -337,7 +305,7 @@ module _ (s : Reader) (T P N I M : List ℕ) where
       (raised-in 1 3 h (omega arith) back T' (q .table))
       (kept (3 * s .vertices) P)
       (kept (3 * s .vertices) N)
-      (three-low I (s .indices) a b c (and-left (ltb a (2 ^ 32)) (ltb b (2 ^ 32) && (ltb c (2 ^ 32) && true)) w0) (and-left (ltb b (2 ^ 32)) (ltb c (2 ^ 32) && true) w1) (and-left (ltb c (2 ^ 32)) true w2) (q .indices) ∙ grown (s .indices) I (a ∷ b ∷ c ∷ []) (indices-fit h))
+      (three-same I (s .indices) [] (low a (and-left (ltb a (2 ^ 32)) (ltb b (2 ^ 32) && (ltb c (2 ^ 32) && true)) w0)) (low b (and-left (ltb b (2 ^ 32)) (ltb c (2 ^ 32) && true) w1)) (low c (and-left (ltb c (2 ^ 32)) true w2)) (q .indices) ∙ grown (s .indices) I (a ∷ b ∷ c ∷ []) (indices-fit h))
       (kept 64 M)
 
   -- ---- every kind, whatever numbers follow the line's own
@@ -368,15 +336,12 @@ module _ (s : Reader) (T P N I M : List ℕ) where
     take-material W e q =
         six (λ xs. Ready here Material xs → W ≡ set M (getD xs 0 0) (getD xs 1 0 % 2 ^ 32 + 1) → lent s T P N I W ≡ takenUp here Material xs) (λ a b c d e f rest. material-six s a b c d e f rest W) ns (v .fitting .long) (ready Material e) q ∙ back-to Material e
 
-    pub row-room : k ≡ Face → RowRoom s T
-    row-room e = six (λ xs. Ready here Face xs → RowRoom s T) face-room ns (v .fitting .long) (ready Face e)
+    pub open-room : (j : Kind) → ((ms : List ℕ) (x : Patterns) → passesLimit j ms x ≡ ltb 63 (at ms 1) || leb 80 (length (x .table))) → k ≡ j → RowRoom s T
+    open-room j is e = row-room j is ns (ready j e)
 
     pub take-face : (r : Reader) (W : List ℕ) → k ≡ Face → RowAdded s T (getD ns 0 0) (getD ns 1 0) 0 4 r W → lent r W P N I M ≡ takenUp here k ns
     take-face r W e q =
         six (λ xs. Ready here Face xs → RowAdded s T (getD xs 0 0) (getD xs 1 0) 0 4 r W → lent r W P N I M ≡ takenUp here Face xs) (λ a b c d e f rest. face-six r a b c d e f rest W) ns (v .fitting .long) (ready Face e) q ∙ back-to Face e
-
-    pub failed-room : k ≡ Fail → RowRoom s T
-    failed-room e = six (λ xs. Ready here Fail xs → RowRoom s T) fail-room ns (v .fitting .long) (ready Fail e)
 
     pub take-fail : (r : Reader) (W : List ℕ) → k ≡ Fail → RowAdded s T (getD ns 0 0) (getD ns 1 0) (getD ns 2 0) 6 r W → lent r W P N I M ≡ takenUp here k ns
     take-fail r W e q =
@@ -401,13 +366,9 @@ pub material-set : (M : List ℕ) (face material x : ℕ) → x ≡ material % 2
 material-set M face material x e = ap (set M face) e
 
 pub low-stored : (S W : List ℕ) (place i a b c : ℕ) (ns : List ℕ) → a ≡ getD ns i 0 % 2 ^ 32 → b ≡ getD ns (i + 1) 0 % 2 ^ 32 → c ≡ getD ns (i + 2) 0 % 2 ^ 32 → W ≡ placed S place (a ∷ b ∷ c ∷ []) → W ≡ placed S place (lowThree ns i)
-low-stored S W place i a b c ns p q r e =
-    e
-    ∙ ap (λ (n : ℕ). placed S place (n ∷ b ∷ c ∷ [])) p
-    ∙ ap (λ (n : ℕ). placed S place (getD ns i 0 % 2 ^ 32 ∷ n ∷ c ∷ [])) q
-    ∙ ap (λ (n : ℕ). placed S place (getD ns i 0 % 2 ^ 32 ∷ getD ns (i + 1) 0 % 2 ^ 32 ∷ n ∷ [])) r
+low-stored S W place i a b c ns p q r e = three-same S place [] p q r e
 
 pub row-added : (s : Reader) (T W : List ℕ) (shell face outcome place a b c : ℕ) → a ≡ shell % 2 ^ 32 → b ≡ face % 2 ^ 32 → c ≡ outcome % 2 ^ 32 → W ≡ placed T (5 * s .rows) (a ∷ b ∷ c ∷ 0 ∷ 0 ∷ [])
     → RowAdded s T shell face outcome place (moved s place (s .rows + 1) (s .vertices) (s .indices) (s .default) (s .sag)) W
 row-added s T W shell face outcome place a b c p q r e =
-    record { reader = refl; table = three-rows s T T T T T a (shell % 2 ^ 32) b (face % 2 ^ 32) c (outcome % 2 ^ 32) p q r e }
+    record { reader = refl; table = three-same T (5 * s .rows) (0 ∷ 0 ∷ []) p q r e }

@@ -16,7 +16,7 @@ use Rattle.lines.specs.declared.Kind.the-variants.{Box, Sag, NoDefault, Default
 use Rattle.reader.specs.declared.Reader.{Reader}
 use Rattle.line_order.specs.Reading.{Patterns, State, at, finished, lineRefusal, orderOf, passesLimit, raised, readLine, refuse, start, takeUp, withForm, withLine}
 use Rattle.line_order.specs.Refusals.{Passed, passed}
-use Rattle.reader.specs.Slices.{Lent, ended, fits, fitsIn, lastFits, lent, onto, over, readInto, readerOf, refused, stateOf}
+use Rattle.reader.specs.Slices.{Lent, ended, fits, fitsIn, inLimits, lastFits, lent, onto, over, readInto, readerOf, refused, stateOf}
 use Rattle.lists.specs.Both.{both-left, either-false}
 
 -- the slices have room for the program's limits
@@ -299,7 +299,7 @@ module _ (l : Lent) (room : Room l) (s : State) (v : Sized s) where
 
   -- They pass the test of room again.
   pub fits-over : fits (over l s) ≡ true
-  unfolding fitsIn
+  unfolding fitsIn inLimits
   fits-over =
       let x : Patterns = s .sheet in
       let rows : length (x .table) / 5 ≤ 16 = omega (arith, v .table, v .few-rows) in
@@ -348,7 +348,7 @@ kept-line l s xs k = go (eqb (s .refusal) 0) refl
         subst (λ (m : Lent). Kept m (readLine s xs)) (sym into) (subst (λ (t : State). Kept l t) (sym line) k)
 
 fits-begin : (T P N I M : List ℕ) → Room (lent (readerOf start) T P N I M) → fits (lent (readerOf start) T P N I M) ≡ true
-unfolding fitsIn start
+unfolding fitsIn inLimits start
 fits-begin T P N I M room =
     rw (le-leb 80 (length T) (room .table), le-leb 288 (length P) (room .positions), le-leb 288 (length N) (room .normals), le-leb 96 (length I) (room .indices), le-leb 64 (length M) (room .materials))
 

@@ -78,13 +78,14 @@ over l s =
 abbrev pub lastFits : ℕ → ℕ → List ℕ → Bool
 lastFits place rows table = cond (eqb rows 0) (ltb place 4) (leb (at table (5 * rows - 2)) 96 && leb (at table (5 * rows - 1)) 96)
 
--- The slices have room for 16 rows, 96 vertices, 96 indices and 64 materials, and the reader counts no more than these and whole triangles.
+-- The reader counts no more than 16 rows, 96 vertices and 96 indices, and slices of these lengths have room for these and for 64 materials.
+unfoldable pub inLimits : Reader → ℕ → ℕ → ℕ → ℕ → ℕ → Bool
+inLimits r table positions normals indices materials =
+    leb 80 table && (leb 288 positions && (leb 288 normals && (leb 96 indices && (leb 64 materials && (leb (r .rows) 16 && (leb (r .vertices) 96 && leb (r .indices) 96))))))
+
+-- that, and the reader counts whole triangles and a last row within the limits
 unfoldable pub fitsIn : Reader → List ℕ → ℕ → ℕ → ℕ → ℕ → Bool
-fitsIn r table positions normals indices materials =
-    leb 80 (length table)
-    && (leb 288 positions
-    && (leb 288 normals
-    && (leb 96 indices && (leb 64 materials && (leb (r .rows) 16 && (leb (r .vertices) 96 && (leb (r .indices) 96 && (eqb (r .indices % 3) 0 && lastFits (r .place) (r .rows) table))))))))
+fitsIn r table positions normals indices materials = inLimits r (length table) positions normals indices materials && (eqb (r .indices % 3) 0 && lastFits (r .place) (r .rows) table)
 
 -- the same of a reader and its slices
 abbrev pub fits : Lent → Bool

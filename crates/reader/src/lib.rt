@@ -11,6 +11,7 @@ mod taking;
 pub use reading::begin;
 pub use reading::end_sheet;
 pub use reading::read_line;
+pub use room::in_limits;
 
 // What has been read: the refusal or 0, the place in the order of lines, how much of the slices is written, and what stands in no slice.
 pub struct Reader {

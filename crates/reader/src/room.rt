@@ -4,7 +4,7 @@ use crate::Reader;
 ghost use mathlib.Core.Path.{_≡_};
 ghost use Prim.Native.Nat.{_≤_};
 ghost use lib.ListN.{length};
-ghost use Rattle.reader.specs.Slices.{fitsIn, lastFits};
+ghost use Rattle.reader.specs.Slices.{fitsIn, inLimits, lastFits};
 
 // Whether the last row's counts are within the limits; without a row no line of a face has been read.
 fn last_fits(place: u32, rows: usize, table: &[u32]) -> bool
@@ -21,18 +21,18 @@ fn last_fits(place: u32, rows: usize, table: &[u32]) -> bool
     table[5 * rows - 1] <= 96
 }
 
-// Whether the slices, of these lengths, have room and hold what the reader counts.
-pub fn fits(
+// Whether the reader counts no more than the limits, and slices of these lengths have room for these.
+pub fn in_limits(
     s: Reader,
-    table: &[u32],
+    table: usize,
     positions: usize,
     normals: usize,
     indices: usize,
     materials: usize,
 ) -> bool
-    ensures { λ r. ⌜ r ≡ fitsIn s (now (table .entry)) positions normals indices materials ⌝ }
+    ensures { λ r. ⌜ r ≡ inLimits s table positions normals indices materials ⌝ }
 {
-    if table.len() < 80 {
+    if table < 80 {
         return false;
     }
     if positions < 288 {
@@ -53,7 +53,21 @@ pub fn fits(
     if 96 < s.vertices {
         return false;
     }
-    if 96 < s.indices {
+    s.indices <= 96
+}
+
+// Whether the slices, of these lengths, have room and hold what the reader counts.
+pub fn fits(
+    s: Reader,
+    table: &[u32],
+    positions: usize,
+    normals: usize,
+    indices: usize,
+    materials: usize,
+) -> bool
+    ensures { λ r. ⌜ r ≡ fitsIn s (now (table .entry)) positions normals indices materials ⌝ }
+{
+    if !in_limits(s, table.len(), positions, normals, indices, materials) {
         return false;
     }
     if s.indices % 3 != 0 {

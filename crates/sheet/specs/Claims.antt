@@ -1,26 +1,12 @@
 -- What the program prints for short texts. Assumes nothing.
 use mathlib.Core.List.{List, [], _∷_, _++_}
-use Prim.Native.Nat.{ℕ}
 use lib.Dec.{T}
 use Rattle.lists.specs.Lists.{all}
 use Rattle.lists.specs.Table.{Case, case, agrees}
 use Rattle.digits.specs.Bytes.{bytes, lines}
+use Rattle.line_order.specs.Samples.{face, sheet, vertex}
 use Rattle.sheet.specs.Bench.{bench}
 use Rattle.sheet.specs.Evaluation.{evaluation}
-
--- box, sag and default, then lines
-sheet : List (List ℕ) → List ℕ
-sheet ls =
-    lines (bytes "(box 0000000000000000 0000000000000000 0000000000000000 0000000000000000 0000000000000000 0000000000000000)"
-    ∷ bytes "(sag 3FD0000000000000)" ∷ bytes "(default 2)" ∷ ls)
-
--- a face
-face : List ℕ
-face = bytes "(face 0 63)"
-
--- a vertex
-vertex : List ℕ
-vertex = bytes "(v (p 3F800000 00000000 80000000) (n 00000000 00000000 7FC00000))"
 
 -- what is printed of a refusal in the body, of a later line that is refused, and of failures
 pub claims : List Case

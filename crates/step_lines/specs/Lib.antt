@@ -1,3 +1,3 @@
--- The definitions of a line, and the shapes of the answers that the code gives.
+-- The definitions of a line, and how long a printed one is.
 pub mod Lines
-pub mod Given
+pub mod Lengths

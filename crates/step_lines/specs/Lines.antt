@@ -1,12 +1,10 @@
 -- A line of the program `steps`, without its line feed: its forms, what each comes to, and how that is printed. Assumes nothing.
-use mathlib.Core.Bool.{Bool, true, false, _&&_, cond}
 use mathlib.Core.List.{List, [], _∷_, _++_}
-use mathlib.Core.Option.{Option, none, some}
-use Prim.Native.Char.{code}
-use Prim.Native.Nat.{ℕ, zero, suc, _+_, _-_, _*_, _/_, _%_, _^_}
-use Prim.Native.String.{String, len, charAt}
-use lib.Dec.{leb, ltb, eqb}
-use lib.ListN.{length, getD, take, drop}
+use mathlib.Core.Option.{none, some}
+use Prim.Native.Nat.{ℕ}
+use Rattle.digits.specs.Bytes.{bytes}
+use Rattle.digits.specs.Digits.{hex}
+use Rattle.lines.specs.Forms.{Piece, Word, Bits, read}
 use Rattle.floats.specs.Floats.{widenBits, largerBits}
 use Rattle.narrowing.specs.Narrow.{narrowBits}
 use Rattle.roots.specs.Roots.{sqrtBits}
@@ -14,69 +12,51 @@ use Rattle.integral.specs.Integral.{roundBits}
 use Rattle.step_lines.specs.declared.Reply.{Reply}
 use Rattle.step_lines.specs.declared.Reply.the-variants.{Long, Short, Refused}
 
--- ---- text
+-- the float steps
+pub data Step : Type 0 where
+  Widen : Step
+  Narrow : Step
+  Sqrt : Step
+  Round : Step
+  Larger : Step
 
--- the bytes of a text of ASCII characters
-abbrev pub bytesFrom : ℕ → ℕ → String → List ℕ
-bytesFrom zero i s = []
-bytesFrom (suc k) i s = code (charAt s i) ∷ bytesFrom k (suc i) s
+-- the form of a step's line: its name, then the bits of each operand
+unfoldable pub form : Step → List Piece
+form Widen = Word (bytes "widen") ∷ Bits 8 ∷ []
+form Narrow = Word (bytes "narrow") ∷ Bits 16 ∷ []
+form Sqrt = Word (bytes "sqrt") ∷ Bits 16 ∷ []
+form Round = Word (bytes "round") ∷ Bits 16 ∷ []
+form Larger = Word (bytes "larger") ∷ Bits 16 ∷ Bits 16 ∷ []
 
-abbrev pub bytes : String → List ℕ
-bytes s = bytesFrom (len s) 0 s
+-- what a step of one operand comes to
+abbrev pub ofOne : (ℕ → Reply) → List ℕ → Reply
+ofOne step [] = Refused
+ofOne step (a ∷ []) = step a
+ofOne step (a ∷ b ∷ more) = Refused
 
--- whether a line begins with a word
-unfoldable pub startsWith : List ℕ → List ℕ → Bool
-startsWith [] ys = true
-startsWith (x ∷ xs) [] = false
-startsWith (x ∷ xs) (y ∷ ys) = eqb y x && startsWith xs ys
+-- what a step of two operands comes to
+abbrev pub ofTwo : (ℕ → ℕ → Reply) → List ℕ → Reply
+ofTwo step [] = Refused
+ofTwo step (a ∷ []) = Refused
+ofTwo step (a ∷ b ∷ []) = step a b
+ofTwo step (a ∷ b ∷ c ∷ more) = Refused
 
--- the value of a hex digit, 0 to 9 or A to F; 16 for any other byte
-unfoldable pub digitOf : ℕ → ℕ
-digitOf c = cond (leb 48 c && leb c 57) (c - 48) (cond (leb 65 c && leb c 70) (c - 55) 16)
+-- what a step comes to, by its operands
+unfoldable pub replyOf : Step → List ℕ → Reply
+replyOf Widen bits = ofOne (λ a. Long (widenBits a)) bits
+replyOf Narrow bits = ofOne (λ a. Short (narrowBits a)) bits
+replyOf Sqrt bits = ofOne (λ a. Long (sqrtBits a)) bits
+replyOf Round bits = ofOne (λ a. Long (roundBits a)) bits
+replyOf Larger bits = ofTwo (λ a b. Long (largerBits a b)) bits
 
--- the number that hex digits stand for, `before` being the value of those already read; none if a byte is no digit
-unfoldable pub hexFrom : ℕ → List ℕ → Option ℕ
-hexFrom before [] = some before
-hexFrom before (x ∷ xs) = elim (ltb (digitOf x) 16) [ true ↦ hexFrom (before * 16 + digitOf x) xs | false ↦ none ]
+-- what a line comes to by the first of some steps whose form it has
+unfoldable pub replyAmong : List Step → List ℕ → Reply
+replyAmong [] line = Refused
+replyAmong (s ∷ ss) line = elim (read (form s) line) [ none ↦ replyAmong ss line | some bits ↦ replyOf s bits ]
 
-abbrev pub hexOf : List ℕ → Option ℕ
-hexOf xs = hexFrom 0 xs
-
--- the byte of a hex digit
-unfoldable pub digitByte : ℕ → ℕ
-digitByte d = cond (ltb d 10) (48 + d) (55 + d)
-
--- the last k hex digits of n, the highest first
-unfoldable pub hex : ℕ → ℕ → List ℕ
-hex zero n = []
-hex (suc k) n = digitByte (n / 16 ^ k % 16) ∷ hex k n
-
--- ---- the forms
-
--- the operand of a line that is a word and k hex digits
-unfoldable pub operand : List ℕ → ℕ → List ℕ → Option ℕ
-operand word k line = cond (eqb (length line) (length word + k) && startsWith word line) (hexOf (drop (length word) line)) none
-
--- a line with two operands: the word, 16 digits, a space and 16 digits
-unfoldable pub largerReply : List ℕ → Reply
-largerReply line =
-    elim (cond (eqb (length line) 40 && (startsWith (bytes "larger ") line && eqb (getD line 23 0) 32)) (hexOf (take 16 (drop 7 line))) none) [
-      | none ↦ Refused
-      | some a ↦ elim (hexOf (drop 24 line)) [ none ↦ Refused | some b ↦ Long (largerBits a b) ]
-    ]
-
--- what an operand comes to, or another reply where there is none
-unfoldable pub either : Option ℕ → (ℕ → Reply) → Reply → Reply
-either (some b) step other = step b
-either none step other = other
-
--- what a line comes to
+-- what a line comes to; at most one form fits
 unfoldable pub replyTo : List ℕ → Reply
-replyTo line =
-    either (operand (bytes "widen ") 8 line) (λ b. Long (widenBits b))
-    (either (operand (bytes "narrow ") 16 line) (λ b. Short (narrowBits b))
-    (either (operand (bytes "sqrt ") 16 line) (λ b. Long (sqrtBits b))
-    (either (operand (bytes "round ") 16 line) (λ b. Long (roundBits b)) (largerReply line))))
+replyTo line = replyAmong (Widen ∷ Narrow ∷ Sqrt ∷ Round ∷ Larger ∷ []) line
 
 -- the line that is printed, with its line feed
 unfoldable pub printed : Reply → List ℕ

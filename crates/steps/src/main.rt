@@ -1,5 +1,6 @@
 // Reads float steps from standard input, one a line, and prints the bits of each result; `(refused 51)` for a line that is none. A line feed ends a line.
 
+use digits::put_byte;
 use libc::STDIN_FILENO;
 use libc::STDOUT_FILENO;
 ghost use Prim.Native.Nat.{_≤_};
@@ -13,19 +14,8 @@ fn show(line: &[u8]) {
     io::write_all(STDOUT_FILENO, &out[..n]);
 }
 
-// Puts a byte behind the k bytes of a line and answers how many there are then; one that has no room is dropped, since no form fills a line of 41 bytes.
-fn keep(line: &mut [u8], k: usize, c: u8) -> usize
-    requires { ⌜ k ≤ length (now line) ⌝ }
-    ensures { λ r. ⌜ r ≤ length (now (line .entry)) ⌝ }
-{
-    if k < line.len() {
-        line[k] = c;
-        return k + 1;
-    }
-    k
-}
-
-// Takes in a byte of the input, behind the k bytes of its line so far: a line feed has the line answered.
+// Takes in a byte of the input, behind the k bytes of its line so far: a line feed has the line answered, and a byte that has no room is dropped, since no form
+// fills a line of 41 bytes.
 fn take(line: &mut [u8], k: usize, c: u8) -> usize
     requires { ⌜ k ≤ length (now line) ⌝ }
     ensures { λ r. ⌜ r ≤ length (now (line .entry)) ⌝ }
@@ -34,7 +24,7 @@ fn take(line: &mut [u8], k: usize, c: u8) -> usize
         show(&line[..k]);
         return 0;
     }
-    keep(line, k, c)
+    put_byte(line, k, c)
 }
 
 // Takes in a stretch of the input, behind n bytes of its first line; answers how many bytes of its last line there are.

@@ -1,5 +1,5 @@
 -- `take_byte` keeps the byte, or has the line read. Assumes nothing.
-use Rattle.feeding.proofs.FeedLaws.{fed-byte, fed-line}
+use Rattle.feeding.proofs.FeedLaws.{fed-byte, fed-line, kept-within}
 use borrow.Author.Needs.{needs}
 use Rattle.feeding.proofs.take_byte.Statement.{statement}
 use Rattle.feeding.proofs.take_byte.Tie as tie
@@ -29,16 +29,16 @@ same-length-6 : tie.Need-same-length-6
 same-length-6 c = search needs
 
 returns : tie.Need-returns
-returns c = fed-line _ _ _ _ _ _ _ _ _ _ _ _ _ _ _ (c .before .before .before .before .before .before .before .before .before .before .before .before .before .before .before .before .before .before .if1 .taken) (c .before .before .before .before .before .before .before .before .before .before .before .before .before .before .before .before .front-bytes .ensures) (c .before .before .before .before .before .before .before .before .before .before .read-line .ensures)
+returns c = fed-line _ _ _ _ _ _ _ _ _ _ _ _ _ _ _ (c .before .before .before .before .before .before .before .before .before .before .before .before .before .before .before .before .if1 .taken) (c .before .before .before .before .before .before .before .before .before .before .before .before .before .before .before .before .before .front-bytes .ensures) (c .before .before .before .before .before .before .before .before .before .before .read-line .ensures)
 
-keep-requires : tie.Need-keep-requires
-keep-requires c κs = search needs
+put-byte-requires : tie.Need-put-byte-requires
+put-byte-requires c κs = search (needs, kept-within)
 
 same-length-7 : tie.Need-same-length-7
 same-length-7 c = search needs
 
 returns-2 : tie.Need-returns-2
-returns-2 c = fed-byte _ _ _ _ _ _ _ _ _ _ (c .before .before .before .before .if1 .left) (c .before .before .keep .ensures)
+returns-2 c = fed-byte _ _ _ _ _ _ _ _ _ _ _ (c .before .before .before .before .if1 .left) (c .before .before .before .before .before .front-bytes .ensures) (c .before .before .put-byte .ensures)
 
 pub take-byte-spec : {M : Type 1} → statement M
 take-byte-spec =
@@ -53,6 +53,6 @@ take-byte-spec =
     same-length-5
     same-length-6
     returns
-    keep-requires
+    put-byte-requires
     same-length-7
     returns-2)

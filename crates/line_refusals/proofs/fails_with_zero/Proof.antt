@@ -1,5 +1,8 @@
 -- `fails_with_zero` meets its contract. Assumes nothing.
-use Rattle.line_refusals.proofs.OrderLaws.{fails-box, fails-default, fails-face, fails-fail, fails-material, fails-nodefault, fails-sag, fails-triangle, fails-vertex}
+use mathlib.Core.Path.{refl}
+use Rattle.lines.specs.declared.Kind.the-variants.{Box, Sag, NoDefault, Default, Material, Face, Vertex, Triangle, Fail}
+use Rattle.line_order.specs.Reading.{failsWithZero}
+use Rattle.line_refusals.proofs.OrderLaws.{fails-as, fails-fail}
 use borrow.Author.Needs.{needs}
 use Rattle.line_refusals.proofs.fails_with_zero.Statement.{statement}
 use Rattle.line_refusals.proofs.fails_with_zero.Tie as tie
@@ -35,31 +38,39 @@ shared-slice-read-result : tie.Need-shared-slice-read-result
 shared-slice-read-result c = search needs
 
 returns : tie.Need-returns
-returns c = search (needs, fails-box)
+unfolding failsWithZero
+returns c = fails-as Box _ _ _ (c .enum-told .given .1) refl
 
 returns-2 : tie.Need-returns-2
-returns-2 c = search (needs, fails-sag)
+unfolding failsWithZero
+returns-2 c = fails-as Sag _ _ _ (c .enum-told2 .given .1) refl
 
 returns-3 : tie.Need-returns-3
-returns-3 c = search (needs, fails-nodefault)
+unfolding failsWithZero
+returns-3 c = fails-as NoDefault _ _ _ (c .enum-told3 .given .1) refl
 
 returns-4 : tie.Need-returns-4
-returns-4 c = search (needs, fails-default)
+unfolding failsWithZero
+returns-4 c = fails-as Default _ _ _ (c .enum-told4 .given .1) refl
 
 returns-5 : tie.Need-returns-5
-returns-5 c = search (needs, fails-material)
+unfolding failsWithZero
+returns-5 c = fails-as Material _ _ _ (c .enum-told5 .given .1) refl
 
 returns-6 : tie.Need-returns-6
-returns-6 c = search (needs, fails-face)
+unfolding failsWithZero
+returns-6 c = fails-as Face _ _ _ (c .enum-told6 .given .1) refl
 
 returns-7 : tie.Need-returns-7
-returns-7 c = search (needs, fails-vertex)
+unfolding failsWithZero
+returns-7 c = fails-as Vertex _ _ _ (c .enum-told7 .given .1) refl
 
 returns-8 : tie.Need-returns-8
-returns-8 c = search (needs, fails-triangle)
+unfolding failsWithZero
+returns-8 c = fails-as Triangle _ _ _ (c .enum-told8 .given .1) refl
 
 returns-9 : tie.Need-returns-9
-returns-9 c = search (needs, fails-fail)
+returns-9 c = fails-as Fail _ _ _ (c .before .enum-told9 .given .1) (fails-fail _)
 
 pub fails-with-zero-spec : {M : Type 1} → statement M
 fails-with-zero-spec =

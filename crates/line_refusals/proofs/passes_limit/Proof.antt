@@ -1,5 +1,11 @@
 -- `passes_limit` meets its contract. Assumes nothing.
-use Rattle.line_refusals.proofs.OrderLaws.{limit-box, limit-default, limit-face, limit-fail, limit-material, limit-nodefault, limit-sag, limit-triangle, limit-vertex}
+use mathlib.Core.Path.{refl}
+use native.Mathlib.Omega.{arith}
+use Rattle.lines.specs.Counted.{countIn}
+use Rattle.lines.specs.Forms.{form, numbers}
+use Rattle.lines.specs.declared.Kind.the-variants.{Box, Sag, NoDefault, Default, Face, Fail}
+use Rattle.line_order.specs.Reading.{passesLimit}
+use Rattle.line_refusals.proofs.OrderLaws.{limit-material, limit-none, limit-row, limit-triangle, limit-vertex}
 use borrow.Author.Needs.{needs}
 use Rattle.line_refusals.proofs.passes_limit.Statement.{statement}
 use Rattle.line_refusals.proofs.passes_limit.Tie as tie
@@ -47,22 +53,27 @@ row-passes-requires-2 : tie.Need-row-passes-requires-2
 row-passes-requires-2 c κs = search needs
 
 returns : tie.Need-returns
-returns c = search (needs, limit-box)
+unfolding passesLimit
+returns c = limit-none _ _ _ _ _ Box (λ ns x. refl) (c .enum-told .given .1)
 
 returns-2 : tie.Need-returns-2
-returns-2 c = search (needs, limit-sag)
+unfolding passesLimit
+returns-2 c = limit-none _ _ _ _ _ Sag (λ ns x. refl) (c .enum-told2 .given .1)
 
 returns-3 : tie.Need-returns-3
-returns-3 c = search (needs, limit-nodefault)
+unfolding passesLimit
+returns-3 c = limit-none _ _ _ _ _ NoDefault (λ ns x. refl) (c .enum-told3 .given .1)
 
 returns-4 : tie.Need-returns-4
-returns-4 c = search (needs, limit-default)
+unfolding passesLimit
+returns-4 c = limit-none _ _ _ _ _ Default (λ ns x. refl) (c .enum-told4 .given .1)
 
 returns-5 : tie.Need-returns-5
 returns-5 c = search (needs, limit-material)
 
 returns-6 : tie.Need-returns-6
-returns-6 c = search (needs, limit-face)
+unfolding passesLimit form numbers countIn
+returns-6 c = limit-row _ _ _ _ _ Face (omega arith) (λ ns x. refl) _ (c .before .before .enum-told6 .given .1) (c .row-passes .ensures)
 
 returns-7 : tie.Need-returns-7
 returns-7 c = search (needs, limit-vertex)
@@ -71,7 +82,8 @@ returns-8 : tie.Need-returns-8
 returns-8 c = search (needs, limit-triangle)
 
 returns-9 : tie.Need-returns-9
-returns-9 c = search (needs, limit-fail)
+unfolding passesLimit form numbers countIn
+returns-9 c = limit-row _ _ _ _ _ Fail (omega arith) (λ ns x. refl) _ (c .before .before .enum-told9 .given .1) (c .row-passes2 .ensures)
 
 pub passes-limit-spec : {M : Type 1} → statement M
 passes-limit-spec =

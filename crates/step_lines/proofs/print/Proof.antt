@@ -1,5 +1,7 @@
--- `step_lines::print` meets its contract. Assumes nothing.
-use Rattle.step_lines.proofs.Laws.{print-long, print-short, print-refused}
+-- `print` meets its contract. Assumes nothing.
+use Rattle.step_lines.proofs.Laws.{print-as}
+use Rattle.step_lines.specs.Lines.{printed}
+use Rattle.step_lines.specs.declared.Reply.the-variants.{Long, Short, Refused}
 use borrow.Author.Needs.{needs}
 use Rattle.step_lines.proofs.print.Statement.{statement}
 use Rattle.step_lines.proofs.print.Tie as tie
@@ -32,19 +34,22 @@ same-length : tie.Need-same-length
 same-length c = search needs
 
 returns : tie.Need-returns
-returns c = search (needs, print-long)
+unfolding printed
+returns c = print-as (Long _) (c .before .before .before .before .before .r .given .1) (c .before .before .put-bits .ensures)
 
 same-length-2 : tie.Need-same-length-2
 same-length-2 c = search needs
 
 returns-2 : tie.Need-returns-2
-returns-2 c = search (needs, print-short)
+unfolding printed
+returns-2 c = print-as (Short _) (c .before .before .before .before .before .r2 .given .1) (c .before .before .put-bits2 .ensures)
 
 same-length-3 : tie.Need-same-length-3
 same-length-3 c = search needs
 
 returns-3 : tie.Need-returns-3
-returns-3 c = search (needs, print-refused)
+unfolding printed
+returns-3 c = print-as Refused (c .before .before .before .before .before .enum-told .given .1) (c .before .before .put-text .ensures)
 
 pub print-spec : {M : Type 1} → statement M
 print-spec =

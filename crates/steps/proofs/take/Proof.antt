@@ -20,8 +20,8 @@ same-length c = search needs
 returns : tie.Need-returns
 returns c = search needs
 
-keep-requires : tie.Need-keep-requires
-keep-requires c κs = search needs
+put-byte-requires : tie.Need-put-byte-requires
+put-byte-requires c κs = search needs
 
 same-length-2 : tie.Need-same-length-2
 same-length-2 c = search needs
@@ -38,6 +38,6 @@ take-spec =
     show-requires
     same-length
     returns
-    keep-requires
+    put-byte-requires
     same-length-2
     returns-2)

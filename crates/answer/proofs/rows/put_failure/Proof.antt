@@ -1,5 +1,10 @@
 -- `put_failure` meets its contract. Assumes nothing.
-use Rattle.answer.proofs.FormLaws.{empty-line, escape-line, upstream-line}
+use mathlib.Core.Path.{refl}
+use Rattle.digits.specs.Bytes.{bytes}
+use Rattle.lines.specs.Forms.{numbers}
+use Rattle.lines.specs.Pattern.{piece, split}
+use Rattle.answer.specs.Answer.{emptyForm, escapeForm, upstreamForm}
+use Rattle.answer.proofs.FormLaws.{as-form}
 use Rattle.answer.proofs.RowLaws.{failed-empty, failed-escape, failed-upstream}
 use borrow.Author.Needs.{needs}
 use Rattle.answer.proofs.rows.put_failure.Statement.{statement}
@@ -18,7 +23,8 @@ same-length : tie.Need-same-length
 same-length c = search needs
 
 returns : tie.Need-returns
-returns c = search (needs, failed-empty, empty-line)
+unfolding piece split numbers
+returns c = search (needs, failed-empty, as-form emptyForm (bytes "(failed# (empty))") refl)
 
 slice-aggregate-put-line-3 : tie.Need-slice-aggregate-put-line-3
 slice-aggregate-put-line-3 c = search needs
@@ -33,7 +39,8 @@ same-length-2 : tie.Need-same-length-2
 same-length-2 c = search needs
 
 returns-2 : tie.Need-returns-2
-returns-2 c = search (needs, failed-escape, escape-line)
+unfolding piece split numbers
+returns-2 c = search (needs, failed-escape, as-form escapeForm (bytes "(failed# (escape$$))") refl)
 
 slice-aggregate-put-line-5 : tie.Need-slice-aggregate-put-line-5
 slice-aggregate-put-line-5 c = search needs
@@ -48,7 +55,8 @@ same-length-3 : tie.Need-same-length-3
 same-length-3 c = search needs
 
 returns-3 : tie.Need-returns-3
-returns-3 c = search (needs, failed-upstream, upstream-line)
+unfolding piece split numbers
+returns-3 c = search (needs, failed-upstream, as-form upstreamForm (bytes "(failed# (upstream#))") refl)
 
 pub put-failure-spec : {M : Type 1} → statement M
 put-failure-spec =

@@ -1,5 +1,9 @@
 -- `put_vertex` meets its contract. Assumes nothing.
-use Rattle.answer.proofs.FormLaws.{vertex-line}
+use mathlib.Core.Path.{refl}
+use Rattle.digits.specs.Bytes.{bytes}
+use Rattle.lines.specs.Forms.{vertexForm}
+use Rattle.lines.specs.Pattern.{piece, split}
+use Rattle.answer.proofs.FormLaws.{as-form}
 use Rattle.answer.proofs.RowLaws.{corner-written}
 use borrow.Author.Needs.{needs}
 use Rattle.answer.proofs.rows.put_vertex.Statement.{statement}
@@ -102,7 +106,8 @@ same-length : tie.Need-same-length
 same-length c = search needs
 
 returns : tie.Need-returns
-returns c = search (corner-written, vertex-line)
+unfolding piece split
+returns c = search (corner-written, as-form vertexForm (bytes "(v (p***) (n***))") refl)
 
 pub put-vertex-spec : {M : Type 1} → statement M
 put-vertex-spec =

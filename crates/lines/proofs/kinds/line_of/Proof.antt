@@ -1,7 +1,8 @@
 -- `line_of` meets its contract. Assumes nothing.
-use Rattle.lines.specs.Pattern.{later}
+use Rattle.lines.specs.Counted.{countIn}
+use Rattle.lines.specs.Pattern.{later, piece}
 use Rattle.lines.specs.declared.Kind.the-variants.{Box, Sag, NoDefault, Default}
-use Rattle.lines.proofs.KindLaws.{kinds, of-any, past-here, past-more, past-none, past-rest, room-for}
+use Rattle.lines.proofs.KindLaws.{kinds, of-any, past-here, past-more, past-none, past-rest}
 use borrow.Author.Needs.{needs}
 use Rattle.lines.proofs.kinds.line_of.Statement.{statement}
 use Rattle.lines.proofs.kinds.line_of.Tie as tie
@@ -10,7 +11,8 @@ slice-aggregate-scan : tie.Need-slice-aggregate-scan
 slice-aggregate-scan c = search needs
 
 scan-requires : tie.Need-scan-requires
-scan-requires c κs = room-for Box _ (search needs)
+unfolding countIn piece
+scan-requires c κs = search needs
 
 same-length : tie.Need-same-length
 same-length c = search needs
@@ -22,7 +24,8 @@ slice-aggregate-scan-2 : tie.Need-slice-aggregate-scan-2
 slice-aggregate-scan-2 c = search needs
 
 scan-requires-2 : tie.Need-scan-requires-2
-scan-requires-2 c κs = room-for Sag _ (search needs)
+unfolding countIn piece
+scan-requires-2 c κs = search needs
 
 same-length-2 : tie.Need-same-length-2
 same-length-2 c = search needs
@@ -34,7 +37,8 @@ slice-aggregate-scan-3 : tie.Need-slice-aggregate-scan-3
 slice-aggregate-scan-3 c = search needs
 
 scan-requires-3 : tie.Need-scan-requires-3
-scan-requires-3 c κs = room-for NoDefault _ (search needs)
+unfolding countIn piece
+scan-requires-3 c κs = search needs
 
 same-length-3 : tie.Need-same-length-3
 same-length-3 c = search needs
@@ -46,7 +50,8 @@ slice-aggregate-scan-4 : tie.Need-slice-aggregate-scan-4
 slice-aggregate-scan-4 c = search needs
 
 scan-requires-4 : tie.Need-scan-requires-4
-scan-requires-4 c κs = room-for Default _ (search needs)
+unfolding countIn piece
+scan-requires-4 c κs = search needs
 
 same-length-4 : tie.Need-same-length-4
 same-length-4 c = search needs

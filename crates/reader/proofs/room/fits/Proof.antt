@@ -1,54 +1,23 @@
 -- `fits` meets its contract. Assumes nothing.
-use Rattle.reader.proofs.RoomLaws.{all-room, many-indices, many-rows, many-vertices, no-triangles, short-indices, short-materials, short-normals, short-positions, short-table}
+use Rattle.reader.proofs.RoomLaws.{all-room, no-room, no-triangles, room-rows, room-table}
 use borrow.Author.Needs.{needs}
 use Rattle.reader.proofs.room.fits.Statement.{statement}
 use Rattle.reader.proofs.room.fits.Tie as tie
 
+in-limits-requires : tie.Need-in-limits-requires
+in-limits-requires c κs = search needs
+
 returns : tie.Need-returns
-returns c = search (needs, short-table)
+returns c = search (needs, no-room)
 
 returns-2 : tie.Need-returns-2
-returns-2 c = search (needs, short-positions)
-
-returns-3 : tie.Need-returns-3
-returns-3 c = search (needs, short-normals)
-
-returns-4 : tie.Need-returns-4
-returns-4 c = search (needs, short-indices)
-
-returns-5 : tie.Need-returns-5
-returns-5 c = search (needs, short-materials)
-
-returns-6 : tie.Need-returns-6
-returns-6 c = search (needs, many-rows)
-
-returns-7 : tie.Need-returns-7
-returns-7 c = search (needs, many-vertices)
-
-returns-8 : tie.Need-returns-8
-returns-8 c = search (needs, many-indices)
-
-returns-9 : tie.Need-returns-9
-returns-9 c = search (needs, no-triangles)
+returns-2 c = search (needs, no-triangles)
 
 last-fits-requires : tie.Need-last-fits-requires
-last-fits-requires c κs = search needs
+last-fits-requires c κs = search (needs, room-rows, room-table)
 
-returns-10 : tie.Need-returns-10
-returns-10 c = search (needs, all-room)
+returns-3 : tie.Need-returns-3
+returns-3 c = search (needs, all-room)
 
 pub fits-spec : {M : Type 1} → statement M
-fits-spec =
-    tie.close
-    (tie.spec
-    returns
-    returns-2
-    returns-3
-    returns-4
-    returns-5
-    returns-6
-    returns-7
-    returns-8
-    returns-9
-    last-fits-requires
-    returns-10)
+fits-spec = tie.close (tie.spec in-limits-requires returns returns-2 last-fits-requires returns-3)

@@ -1,5 +1,8 @@
 -- `take_up` meets its contract. Assumes nothing.
-use Rattle.reader.proofs.TakeLaws.{failed-room, material-room, row-room, take-box, take-default, take-face, take-fail, take-material, take-none, take-sag, take-triangle, take-vertex, triangle-room, vertex-room}
+use mathlib.Core.Path.{refl}
+use Rattle.lines.specs.declared.Kind.the-variants.{Face, Fail}
+use Rattle.line_order.specs.Reading.{passesLimit}
+use Rattle.reader.proofs.TakeLaws.{material-room, open-room, take-box, take-default, take-face, take-fail, take-material, take-none, take-sag, take-triangle, take-vertex, triangle-room, vertex-room}
 use borrow.Author.Needs.{needs}
 use Rattle.reader.proofs.taking.take_up.Statement.{statement}
 use Rattle.reader.proofs.taking.take_up.Tie as tie
@@ -59,7 +62,8 @@ shared-slice-read-add-row-2 : tie.Need-shared-slice-read-add-row-2
 shared-slice-read-add-row-2 c = search needs
 
 add-row-requires : tie.Need-add-row-requires
-add-row-requires c κs = search (needs, row-room)
+unfolding passesLimit
+add-row-requires c κs = open-room _ _ _ _ _ _ _ _ (c .before .before .before .before .before .before .before .before .before .before .before .pre) Face (λ ms x. refl) (c .before .before .before .enum-told6 .given .1)
 
 enum-told-7 : tie.Need-enum-told-7
 enum-told-7 c = search needs
@@ -86,7 +90,8 @@ shared-slice-read-add-row-5 : tie.Need-shared-slice-read-add-row-5
 shared-slice-read-add-row-5 c = search needs
 
 add-row-requires-2 : tie.Need-add-row-requires-2
-add-row-requires-2 c κs = search (needs, failed-room)
+unfolding passesLimit
+add-row-requires-2 c κs = open-room _ _ _ _ _ _ _ _ (c .before .before .before .before .before .before .before .before .before .before .before .before .pre) Fail (λ ms x. refl) (c .before .before .before .before .enum-told9 .given .1)
 
 returns : tie.Need-returns
 returns c = search take-box
