@@ -17,8 +17,9 @@ use Rattle.lines.specs.Forms.{line, numbers, triangleForm}
 use Rattle.lines.specs.Pattern.{piece, pieces, split}
 use Rattle.answer.specs.declared.Sizes.{Sizes}
 use Rattle.answer.specs.declared.Tallies.{Tallies}
-use Rattle.answer.specs.Answer.{Written, againstForm, closedForm, countText, edgesForm, failureLines, meshForm, meshText, okForm, openForm, overForm, partForm, rangeForm, refusalLine, refusedForm, splitForm, threes, turnedForm, vertexLines}
-use Rattle.answer.proofs.FormLaws.{as-form, as-threes}
+use Rattle.answer_rows.specs.Rows.{failureLines, threes, vertexLines}
+use Rattle.answer.specs.Answer.{Written, againstForm, closedForm, countText, edgesForm, meshForm, meshText, okForm, openForm, overForm, partForm, rangeForm, refusalLine, refusedForm, splitForm, turnedForm}
+use Rattle.answer_rows.specs.FormLaws.{as-form, as-threes}
 
 -- ---- the counts
 pub counts-written : {E W1 W2 W3 W4 W5 W6 W7 W8 : List ℕ} {at r1 r2 r3 r4 r5 r6 r7 r8 : ℕ} (t : Tallies) {n : ℕ} → n ≡ cond (t .closed) 1 0

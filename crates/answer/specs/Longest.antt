@@ -13,7 +13,8 @@ use Rattle.lines.specs.Forms.{Piece, Word, Bits, Number, print, line, numbers, 
 use Rattle.lines.specs.Lengths.{longest}
 use Rattle.answer.specs.declared.Sizes.{Sizes}
 use Rattle.answer.specs.declared.Tallies.{Tallies}
-use Rattle.answer.specs.Answer.{againstForm, closedForm, countText, edgesForm, emptyForm, escapeForm, failureLine, failureLines, meshForm, meshText, okForm, openForm, overForm, partForm, rangeForm, refusalLine, refusedForm, splitForm, threes, turnedForm, upstreamForm, vertexLines}
+use Rattle.answer_rows.specs.Rows.{emptyForm, escapeForm, failureLine, failureLines, threes, upstreamForm, vertexLines}
+use Rattle.answer.specs.Answer.{againstForm, closedForm, countText, edgesForm, meshForm, meshText, okForm, openForm, overForm, partForm, rangeForm, refusalLine, refusedForm, splitForm, turnedForm}
 
 -- ---- numbers
 

@@ -1,6 +1,5 @@
 // What the program prints, written into a lent slice; what passes its end is left off.
 
-mod rows;
 mod text;
 mod whole;
 

@@ -2,9 +2,9 @@
 
 use crate::Sizes;
 use crate::Tallies;
-use crate::rows::put_failures;
-use crate::rows::put_threes;
-use crate::rows::put_vertices;
+use answer_rows::put_failures;
+use answer_rows::put_threes;
+use answer_rows::put_vertices;
 use fronts::front;
 use fronts::front_floats;
 use fronts::front_long;

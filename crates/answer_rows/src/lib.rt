@@ -1,4 +1,4 @@
-// A line for every row of a slice.
+// A line for every row of a slice that is printed: vertices, three numbers a line, failures; what passes the end of the slice is left off.
 
 use floats::bits_of_f32;
 use lines::put_line;
@@ -10,7 +10,7 @@ ghost use Rattle.floats.specs.Floats.{bits32};
 ghost use Rattle.digits.specs.Given.{Wrote};
 ghost use Rattle.lines.specs.Forms.{line, vertexForm};
 ghost use Rattle.lines.specs.Pattern.{pieces};
-ghost use Rattle.answer.specs.Answer.{cornerAt, failureLine, failureLines, threeAt, threes, vertexLines};
+ghost use Rattle.answer_rows.specs.Rows.{cornerAt, failureLine, failureLines, threeAt, threes, vertexLines};
 
 // The same number in 64 bits.
 fn wide(n: u32) -> u64

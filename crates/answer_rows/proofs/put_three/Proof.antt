@@ -1,8 +1,8 @@
 -- `put_three` meets its contract. Assumes nothing.
-use Rattle.answer.proofs.RowLaws.{three-written}
+use Rattle.answer_rows.proofs.RowLaws.{three-written}
 use borrow.Author.Needs.{needs}
-use Rattle.answer.proofs.rows.put_three.Statement.{statement}
-use Rattle.answer.proofs.rows.put_three.Tie as tie
+use Rattle.answer_rows.proofs.put_three.Statement.{statement}
+use Rattle.answer_rows.proofs.put_three.Tie as tie
 
 mul-wide : tie.Need-mul-wide
 mul-wide c = search needs

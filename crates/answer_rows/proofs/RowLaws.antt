@@ -12,7 +12,7 @@ use Rattle.digits.specs.Next.{next}
 use Rattle.digits.specs.Wrote.{wrote-none, wrote-then}
 use Rattle.lines.specs.Forms.{Piece, line, vertexForm}
 use Rattle.lines.specs.Pattern.{pieces}
-use Rattle.answer.specs.Answer.{cornerAt, threeAt, emptyForm, escapeForm, failureLine, failureLines, threes, upstreamForm, vertexLines}
+use Rattle.answer_rows.specs.Rows.{cornerAt, threeAt, emptyForm, escapeForm, failureLine, failureLines, threes, upstreamForm, vertexLines}
 
 -- ---- three and four items from a place on
 module _ {A : Type 0} (d : A) where

@@ -3,12 +3,12 @@ use mathlib.Core.Path.{refl}
 use Rattle.digits.specs.Bytes.{bytes}
 use Rattle.lines.specs.Forms.{numbers}
 use Rattle.lines.specs.Pattern.{piece, split}
-use Rattle.answer.specs.Answer.{emptyForm, escapeForm, upstreamForm}
-use Rattle.answer.proofs.FormLaws.{as-form}
-use Rattle.answer.proofs.RowLaws.{failed-empty, failed-escape, failed-upstream}
+use Rattle.answer_rows.specs.Rows.{emptyForm, escapeForm, upstreamForm}
+use Rattle.answer_rows.specs.FormLaws.{as-form}
+use Rattle.answer_rows.proofs.RowLaws.{failed-empty, failed-escape, failed-upstream}
 use borrow.Author.Needs.{needs}
-use Rattle.answer.proofs.rows.put_failure.Statement.{statement}
-use Rattle.answer.proofs.rows.put_failure.Tie as tie
+use Rattle.answer_rows.proofs.put_failure.Statement.{statement}
+use Rattle.answer_rows.proofs.put_failure.Tie as tie
 
 slice-aggregate-put-line : tie.Need-slice-aggregate-put-line
 slice-aggregate-put-line c = search needs

@@ -5,7 +5,7 @@ use Prim.Native.Nat.{ℕ}
 use Rattle.digits.specs.Given.{Wrote}
 use Rattle.lines.specs.Forms.{Piece, line}
 use Rattle.lines.specs.Pattern.{line-of-form, pieces, split}
-use Rattle.answer.specs.Answer.{threes}
+use Rattle.answer_rows.specs.Rows.{threes}
 
 -- a line that was written by a text is written by its form
 pub as-form : (ps : List Piece) (text : List ℕ) → pieces text ≡ split ps → (ns : List ℕ) {E : List ℕ} {at : ℕ} {W : List ℕ} {r : ℕ} → Wrote E at (line (pieces text) ns) W r → Wrote E at (line ps ns) W r

@@ -1,10 +1,10 @@
 -- `put_vertices` meets its contract. Assumes nothing.
 use Prim.Native.Nat.{_-_}
 use lib.ListN.{length}
-use Rattle.answer.proofs.RowLaws.{Corners, corners-all, corners-beside, corners-inside, corners-more, corners-none, corners-room, corners-short}
+use Rattle.answer_rows.proofs.RowLaws.{Corners, corners-all, corners-beside, corners-inside, corners-more, corners-none, corners-room, corners-short}
 use borrow.Author.Needs.{needs}
-use Rattle.answer.proofs.rows.put_vertices.Statement.{statement}
-use Rattle.answer.proofs.rows.put_vertices.Tie as tie
+use Rattle.answer_rows.proofs.put_vertices.Statement.{statement}
+use Rattle.answer_rows.proofs.put_vertices.Tie as tie
 
 abbrev Inv-loop : tie.InvT-loop
 Inv-loop out₀ at positions normals next₀ i₀ out next i = Corners out₀ at positions normals out next i

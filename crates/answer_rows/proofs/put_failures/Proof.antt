@@ -1,10 +1,10 @@
 -- `put_failures` meets its contract. Assumes nothing.
 use Prim.Native.Nat.{_-_}
 use lib.ListN.{length}
-use Rattle.answer.proofs.RowLaws.{Failures, failures-all, failures-inside, failures-more, failures-none, failures-room}
+use Rattle.answer_rows.proofs.RowLaws.{Failures, failures-all, failures-inside, failures-more, failures-none, failures-room}
 use borrow.Author.Needs.{needs}
-use Rattle.answer.proofs.rows.put_failures.Statement.{statement}
-use Rattle.answer.proofs.rows.put_failures.Tie as tie
+use Rattle.answer_rows.proofs.put_failures.Statement.{statement}
+use Rattle.answer_rows.proofs.put_failures.Tie as tie
 
 abbrev Inv-loop : tie.InvT-loop
 Inv-loop out₀ at failures next₀ i₀ out next i = Failures out₀ at failures out next i

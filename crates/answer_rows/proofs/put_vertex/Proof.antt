@@ -3,11 +3,11 @@ use mathlib.Core.Path.{refl}
 use Rattle.digits.specs.Bytes.{bytes}
 use Rattle.lines.specs.Forms.{vertexForm}
 use Rattle.lines.specs.Pattern.{piece, split}
-use Rattle.answer.proofs.FormLaws.{as-form}
-use Rattle.answer.proofs.RowLaws.{corner-written}
+use Rattle.answer_rows.specs.FormLaws.{as-form}
+use Rattle.answer_rows.proofs.RowLaws.{corner-written}
 use borrow.Author.Needs.{needs}
-use Rattle.answer.proofs.rows.put_vertex.Statement.{statement}
-use Rattle.answer.proofs.rows.put_vertex.Tie as tie
+use Rattle.answer_rows.proofs.put_vertex.Statement.{statement}
+use Rattle.answer_rows.proofs.put_vertex.Tie as tie
 
 mul-bits-of-f32 : tie.Need-mul-bits-of-f32
 mul-bits-of-f32 c = search needs

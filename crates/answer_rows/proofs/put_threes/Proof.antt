@@ -1,10 +1,10 @@
 -- `put_threes` meets its contract. Assumes nothing.
 use Prim.Native.Nat.{_-_}
 use lib.ListN.{length}
-use Rattle.answer.proofs.RowLaws.{Threes, threes-all, threes-inside, threes-more, threes-none, threes-room}
+use Rattle.answer_rows.proofs.RowLaws.{Threes, threes-all, threes-inside, threes-more, threes-none, threes-room}
 use borrow.Author.Needs.{needs}
-use Rattle.answer.proofs.rows.put_threes.Statement.{statement}
-use Rattle.answer.proofs.rows.put_threes.Tie as tie
+use Rattle.answer_rows.proofs.put_threes.Statement.{statement}
+use Rattle.answer_rows.proofs.put_threes.Tie as tie
 
 abbrev Inv-loop : tie.InvT-loop
 Inv-loop out₀ at form values next₀ i₀ out next i = Threes out₀ at form values out next i
