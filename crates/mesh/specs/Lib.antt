@@ -2,7 +2,6 @@
 pub mod Mesh
 pub mod JudgedRows
 pub mod Written
-pub mod Runs
 pub mod Parts
 pub mod Ranges
 pub mod RowLaws

@@ -74,12 +74,6 @@ has-item [] k h = absurd (not-suc-le-zero h)
 has-item (x ∷ xs) zero h = inl refl
 has-item (x ∷ xs) (suc k) h = inr (has-item xs k (le-of-suc-le-suc h))
 
--- what is among numbers that aren't above n isn't
-pub has-low : (n y : ℕ) (xs : List ℕ) → ((k : ℕ) → k < length xs → getD xs k 0 ≤ n) → Has y xs → y ≤ n
-has-low n y [] h k = absurd k
-has-low n y (x ∷ xs) h (inl e) = let l = h 0 (omega arith) in omega arith
-has-low n y (x ∷ xs) h (inr k) = has-low n y xs (λ j l. h (suc j) (omega arith)) k
-
 -- the materials are those of the patches
 pub materials-have : (y : ℕ) (ls : List Laid) → Has y (laidMaterials ls) → Has y (materialsOf ls)
 unfolding materialsOf

@@ -1,5 +1,5 @@
 -- The laws that the proofs of this crate cite, by subject.
-pub mod RowRunLaws
+pub mod OrderLaws
 pub mod RunLaws
-pub mod NextLaws
+pub mod WalkLaws
 pub mod PartLaws

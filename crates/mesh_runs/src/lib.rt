@@ -1,5 +1,6 @@
 // The runs of a mesh, one for each material, and the parts that tell of them.
 
+mod order;
 mod parts;
 mod runs;
 

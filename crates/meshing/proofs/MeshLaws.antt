@@ -176,5 +176,5 @@ module _ {table : List ℕ} {ps ns : List Float} {is : List ℕ} {box : Aabb} {W
           closed-is = e ∙ ap closedBy same;
           rest =
               rest-less (4 * t .vertices + 4 * t .indices) (16 * length is + 16 * m + 4 * t .vertices) E X (k .rest) (omega (arith, indices-few))
-              ∙ rest-less (2 * m) (16 * length is + 16 * m + 4 * t .vertices) W E (w .rest) (omega arith);
+              ∙ rest-less (4 * m) (16 * length is + 16 * m + 4 * t .vertices) W E (w .rest) (omega arith);
         }

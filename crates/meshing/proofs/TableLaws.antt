@@ -40,7 +40,7 @@ module _ {table : List ℕ} {ps : List Float} {is : List ℕ} {box : Aabb} {W : 
   rows-are : m ≡ length (rowsOf table)
   rows-are = g .decided .rows-are
 
-  -- there are words for two numbers a row
+  -- there are words for four numbers a row
   words : 16 * length (rowsOf table) ≤ length W
   unfolding workNeeded
   words = omega (arith, q .enough)
@@ -165,7 +165,7 @@ module _ {table : List ℕ} {ps : List Float} {is : List ℕ} {box : Aabb} {W : 
     pub tables-written : {ranges' failures' : List ℕ} {r f : ℕ} → RangesWritten table E 0 m ranges ranges' r → FailuresWritten table ps is box failures failures' f
         → TablesWritten table ps is box W E m I I' parts parts' ranges ranges' failures failures' (record { parts = p; ranges = r; failures = f })
     tables-written x y =
-        let two : m + length (rowsOf table) ≡ 2 * m = omega (arith, rows-are) in
+        let four : m + 3 * length (rowsOf table) ≡ 4 * m = omega (arith, rows-are) in
         record {
           indices-are = w .indices;
           parts-are = w .parts-are;
@@ -174,6 +174,6 @@ module _ {table : List ℕ} {ps : List Float} {is : List ℕ} {box : Aabb} {W : 
           parts-count = w .count;
           ranges-count = x .count ∙ ap (λ (ds : List ℕ). length (acceptedRows ds (rowsOf table))) decisions-kept;
           failures-count = y .count;
-          rest = subst (λ (n : ℕ). drop n E ≡ drop n W) two (w .rest);
+          rest = subst (λ (n : ℕ). drop n E ≡ drop n W) four (w .rest);
           long = w .long;
         }

@@ -51,7 +51,7 @@ pub record TablesWritten (table : List ℕ) (ps : List Float) (is : List ℕ) (b
   pub parts-count : r .parts ≡ length (materialsOf (laidIn table W 0 is))
   pub ranges-count : r .ranges ≡ length (acceptedRows (decisionsIn table W 0) (rowsOf table))
   pub failures-count : r .failures ≡ length (flatMap (failedOf box) (bare table ps is))
-  pub rest : drop (2 * m) E ≡ drop (2 * m) W
+  pub rest : drop (4 * m) E ≡ drop (4 * m) W
   pub long : length E ≡ length W
 
 -- what counting the mesh at the front of the slices asks

@@ -1,0 +1,3 @@
+-- What the functions of this crate ask of each other and leave.
+pub mod Order
+pub mod Runs

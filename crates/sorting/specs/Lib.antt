@@ -1,0 +1,3 @@
+-- What sorting asks and leaves.
+pub mod Split
+pub mod Sorting
