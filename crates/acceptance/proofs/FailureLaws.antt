@@ -10,7 +10,7 @@ use Rattle.lists.specs.Lists.{written}
 use Rattle.floats.specs.Floats.{bits64}
 use Rattle.body.specs.Body.{Row, Patch, rowsOf, patchesOf}
 use Rattle.body.specs.Rows.{rowAt}
-use Rattle.body.specs.Patches.{patchFrom, patch-at}
+use Rattle.body.specs.Patches.{patchFrom, patch-at, shapes}
 use Rattle.append.specs.Appended.{Appended, appended-none, appended-written, appended-long, behind}
 use Rattle.geometry.specs.declared.Aabb.{Aabb}
 use Rattle.geometry.specs.Geometry.{diagonal}
@@ -18,7 +18,7 @@ use Rattle.verdicts.specs.declared.Failure.{Failure}
 use Rattle.verdicts.specs.declared.Failure.the-variants.{Empty, Upstream, Escape}
 use Rattle.verdicts.specs.Failures.{failureOf}
 use Rattle.acceptance.specs.Acceptance.{Failed, failureNumbers}
-use Rattle.acceptance.specs.Judged.{failedBy, failedOf, FailureReady, FailureWritten, FailuresReady, FailuresWritten, bare}
+use Rattle.acceptance.specs.Judged.{failedBy, failedOf, FailureReady, FailureWritten, FailuresReady, FailuresWritten}
 use Rattle.acceptance.specs.JudgedLaws.{failed-few}
 use Rattle.acceptance.specs.RestLaws.{restOf, rest-here}
 use Rattle.acceptance.proofs.JudgeLaws.{AtRow, at-first, at-next, vertices-in, indices-in}
@@ -83,7 +83,7 @@ module _ {box : Aabb} {p : Patch} {j : ℕ} {F : List ℕ} where
 pub record Failing (table : List ℕ) (ps : List Float) (is : List ℕ) (box : Aabb) (F : List ℕ) (j base i k : ℕ) (G : List ℕ) : Type 0 where
   pub here : AtRow table base i k
   pub done : List Failed
-  pub are : done ++ flatMap (failedOf box) (restOf table ps [] is k base i) ≡ flatMap (failedOf box) (bare table ps is)
+  pub are : done ++ flatMap (failedOf box) (restOf table ps [] is k base i) ≡ flatMap (failedOf box) (shapes table ps is)
   pub many : length done ≡ j
   pub few : j ≤ k
   pub put : Appended 0 (flatMap failureNumbers done) F G
@@ -144,7 +144,7 @@ module _ {table : List ℕ} {ps : List Float} {is : List ℕ} {box : Aabb} {F : 
   failing-all {j} {base} {i} {k} {G} c l =
       let none-left : flatMap (failedOf box) (restOf table ps [] is k base i) ≡ [] =
       ap (λ (rows : List Row). flatMap (failedOf box) (patchesOf rows (drop (3 * base) ps) (drop (3 * base) []) (drop i is))) (drop-of-length-le (rowsOf table) l) in
-      let e : c .done ≡ flatMap (failedOf box) (bare table ps is) = sym (append-nil (c .done)) ∙ ap (λ (fs : List Failed). c .done ++ fs) (sym none-left) ∙ c .are in
+      let e : c .done ≡ flatMap (failedOf box) (shapes table ps is) = sym (append-nil (c .done)) ∙ ap (λ (fs : List Failed). c .done ++ fs) (sym none-left) ∙ c .are in
       record {
         numbers = appended-written (c .put) ∙ ap (λ (fs : List Failed). written (flatMap failureNumbers fs) F) e;
         count = sym (c .many) ∙ ap length e;

@@ -11,13 +11,13 @@ use Rattle.lists.specs.Lists.{sumOf}
 use Rattle.lists.specs.Sets.{sets-append}
 use Rattle.body.specs.Body.{Row, Patch, rowsOf, patchesOf, allVertices, allIndices}
 use Rattle.body.specs.Rows.{rowAt, verticesBefore, indicesBefore}
-use Rattle.body.specs.Patches.{patchFrom, vertices-next, indices-next, vertices-room, indices-room}
+use Rattle.body.specs.Patches.{patchFrom, vertices-next, indices-next, vertices-room, indices-room, shapes}
 use Rattle.geometry.specs.declared.Aabb.{Aabb}
 use Rattle.geometry.specs.Geometry.{diagonal}
 use Rattle.verdicts.specs.declared.Failure.{Failure}
 use Rattle.verdicts.specs.Failures.{failureOf, failureBy}
 use Rattle.materials.specs.Materials.{materialOf}
-use Rattle.acceptance.specs.Judged.{decisionBy, decisionOf, RowJudgeable, DecisionReady, Judgeable, bare}
+use Rattle.acceptance.specs.Judged.{decisionBy, decisionOf, RowJudgeable, DecisionReady, Judgeable}
 use Rattle.acceptance.specs.RestLaws.{restOf, rest-here}
 
 -- the verdict on a row's stretches is the one on its patch
@@ -75,7 +75,7 @@ indices-in {table} {base} {i} {k} a l = omega (arith, a .at-i, indices-room (row
 pub record Judging (table : List ℕ) (ps : List Float) (is : List ℕ) (box : Aabb) (materials : List ℕ) (default : ℕ) (W : List ℕ) (base i k : ℕ) (E : List ℕ) : Type 0 where
   pub here : AtRow table base i k
   pub done : List ℕ
-  pub are : done ++ map (decisionOf box materials default) (restOf table ps [] is k base i) ≡ map (decisionOf box materials default) (bare table ps is)
+  pub are : done ++ map (decisionOf box materials default) (restOf table ps [] is k base i) ≡ map (decisionOf box materials default) (shapes table ps is)
   pub many : length done ≡ k
   pub put : E ≡ sets W 0 done
   pub long : length E ≡ length W
@@ -124,7 +124,7 @@ module _ {table : List ℕ} {ps : List Float} {is : List ℕ} {box : Aabb} {mate
 
   -- all are
   pub judging-all : {base i k : ℕ} {E : List ℕ} → Judging table ps is box materials default W base i k E → length (rowsOf table) ≤ k
-      → E ≡ sets W 0 (map (decisionOf box materials default) (bare table ps is))
+      → E ≡ sets W 0 (map (decisionOf box materials default) (shapes table ps is))
   unfolding patchesOf
   judging-all {base} {i} {k} {E} c l =
       let D = decisionOf box materials default in

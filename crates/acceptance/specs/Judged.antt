@@ -6,9 +6,9 @@ use Prim.Native.Nat.{ℕ, zero, suc, _+_, _*_, _≤_, _<_}
 use lib.ListN.{length, getD, take, drop}
 use lib.Ieee.{Float}
 use Rattle.lists.specs.Lists.{written}
-use Rattle.body.specs.Body.{Row, Patch, rowsOf, patchesOf, allVertices, allIndices}
+use Rattle.body.specs.Body.{Row, Patch, rowsOf, allVertices, allIndices}
 use Rattle.body.specs.Rows.{WholeRows, rowAt}
-use Rattle.body.specs.Patches.{noPatch, patchFrom}
+use Rattle.body.specs.Patches.{noPatch, patchFrom, shapes}
 use Rattle.append.specs.Appended.{Appended}
 use Rattle.geometry.specs.declared.Aabb.{Aabb}
 use Rattle.geometry.specs.Geometry.{diagonal}
@@ -89,20 +89,16 @@ pub record FailureWritten (box : Aabb) (p : Patch) (j : ℕ) (F G : List ℕ) (r
   pub numbers : Appended (4 * j) (flatMap failureNumbers (failedOf box p)) F G
   pub count : r ≡ j + length (failedOf box p)
 
--- the patches as far as acceptance looks at them: without their normals
-abbrev pub bare : List ℕ → List Float → List ℕ → List Patch
-bare table ps is = patchesOf (rowsOf table) ps [] is
-
 -- what writing all failures asks: the slices are as long as the rows say, a row whose decision isn't 0 is accepted, and there is room for every row
 pub record FailuresReady (table : List ℕ) (ps : List Float) (is : List ℕ) (box : Aabb) (W : List ℕ) (at : ℕ) (F : List ℕ) : Type 0 where
   pub rows : WholeRows table
   pub all-positions : length ps ≡ 3 * allVertices (rowsOf table)
   pub all-indices : length is ≡ allIndices (rowsOf table)
   pub words : at + length (rowsOf table) ≤ length W
-  pub others : (k : ℕ) → k < length (rowsOf table) → (getD W (at + k) 0 ≡ 0 → ⊥) → failureOf box (getD (bare table ps is) k noPatch) ≡ none
+  pub others : (k : ℕ) → k < length (rowsOf table) → (getD W (at + k) 0 ≡ 0 → ⊥) → failureOf box (getD (shapes table ps is) k noPatch) ≡ none
   pub room : 4 * length (rowsOf table) ≤ length F
 
 -- what it leaves: all failures in row order at the front of the table, and how many there are
 pub record FailuresWritten (table : List ℕ) (ps : List Float) (is : List ℕ) (box : Aabb) (F G : List ℕ) (r : ℕ) : Type 0 where
-  pub numbers : G ≡ written (flatMap failureNumbers (flatMap (failedOf box) (bare table ps is))) F
-  pub count : r ≡ length (flatMap (failedOf box) (bare table ps is))
+  pub numbers : G ≡ written (flatMap failureNumbers (flatMap (failedOf box) (shapes table ps is))) F
+  pub count : r ≡ length (flatMap (failedOf box) (shapes table ps is))

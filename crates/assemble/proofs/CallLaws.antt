@@ -18,14 +18,14 @@ use Rattle.body.specs.Body.{Row, Patch, rowsOf, patchesOf, allVertices, workNee
 use Rattle.checks.specs.Cleared.{cleared-is}
 use Rattle.checks.specs.BodyChecks.{bodyChecks}
 use Rattle.body.specs.Rows.{Total}
-use Rattle.body.specs.Patches.{noPatch, length-patches}
+use Rattle.body.specs.Patches.{noPatch, length-patches, shapes}
 use Rattle.checks.specs.Accepted.{Passed, passed-rows}
 use Rattle.geometry.specs.declared.Aabb.{Aabb}
 use Rattle.acceptance.specs.declared.totals.Totals.{Totals}
 use Rattle.acceptance.specs.Acceptance.{Accepted, Failed, Acceptance, acceptance, acceptedVertices, acceptedIndices, failureNumbers}
 use Rattle.materials.specs.Materials.{badMaterials}
 use Rattle.materials.specs.Small.{SmallMaterials}
-use Rattle.acceptance.specs.Judged.{decisionOf, Judgeable, acceptedBy, decisionsIn, failedOf, bare}
+use Rattle.acceptance.specs.Judged.{decisionOf, Judgeable, acceptedBy, decisionsIn, failedOf}
 use Rattle.acceptance.specs.JudgedLaws.{accepted-by, failed-by, decisions-bare, failed-bare, accepted-count, accepted-vertices, accepted-indices, accepted-few, decision-low, decision-tells, small-materials}
 use Rattle.acceptance.specs.Totals.{TotalsReady, Totalled}
 use Rattle.mesh.specs.Mesh.{Laid, verticesOf, writtenVertices, laidFrom, materialsOf, runsOf, partOf, rangesFrom}
@@ -106,10 +106,10 @@ module _ {table : List ℕ} {ps ns : List Float} {is W : List ℕ} {m : ℕ} (g 
     small = small-materials materials default (sym eb ∙ fb)
 
     abbrev made : List ℕ
-    made = map (decisionOf box materials default) (bare table ps is)
+    made = map (decisionOf box materials default) (shapes table ps is)
 
     made-long : length made ≡ length (rowsOf table)
-    made-long = length-map (bare table ps is) (decisionOf box materials default) ∙ length-patches (rowsOf table) ps [] is
+    made-long = length-map (shapes table ps is) (decisionOf box materials default) ∙ length-patches (rowsOf table) ps [] is
 
     module _ {E : List ℕ} (e : E ≡ sets W 0 made) where
       long : length E ≡ length W
@@ -121,11 +121,11 @@ module _ {table : List ℕ} {ps ns : List Float} {is W : List ℕ} {m : ℕ} (g 
       decisions-are : decisionsIn table E 0 ≡ made
       decisions-are = ap (λ (ws : List ℕ). take (length (rowsOf table)) (drop 0 ws)) e ∙ stretch-sets W 0 made (length (rowsOf table)) made-long words
 
-      decision-is : (k : ℕ) → k < length (rowsOf table) → getD E (0 + k) 0 ≡ decisionOf box materials default (getD (bare table ps is) k noPatch)
+      decision-is : (k : ℕ) → k < length (rowsOf table) → getD E (0 + k) 0 ≡ decisionOf box materials default (getD (shapes table ps is) k noPatch)
       decision-is k h =
           sym (stretch-at 0 (length (rowsOf table)) E k 0 h)
           ∙ ap (λ (xs : List ℕ). getD xs k 0) decisions-are
-          ∙ item-changed (decisionOf box materials default) (bare table ps is) k (omega (arith, length-patches (rowsOf table) ps [] is))
+          ∙ item-changed (decisionOf box materials default) (shapes table ps is) k (omega (arith, length-patches (rowsOf table) ps [] is))
 
       -- the decisions stand
       decided : Decided table ps ns is box E m
@@ -133,8 +133,8 @@ module _ {table : List ℕ} {ps ns : List Float} {is W : List ℕ} {m : ℕ} (g 
           record {
             passed = passed-after;
             rows-are = g .rows-are;
-            small = λ k h. subst (λ (n : ℕ). n ≤ 4294967296) (sym (decision-is k h)) (decision-low box materials default (getD (bare table ps is) k noPatch) small);
-            others = λ k h n. decision-tells box materials default (getD (bare table ps is) k noPatch) (λ z. n (decision-is k h ∙ z));
+            small = λ k h. subst (λ (n : ℕ). n ≤ 4294967296) (sym (decision-is k h)) (decision-low box materials default (getD (shapes table ps is) k noPatch) small);
+            others = λ k h n. decision-tells box materials default (getD (shapes table ps is) k noPatch) (λ z. n (decision-is k h ∙ z));
           }
 
       -- what adding up asks
@@ -147,7 +147,7 @@ module _ {table : List ℕ} {ps ns : List Float} {is W : List ℕ} {m : ℕ} (g 
           ap (λ (ds : List ℕ). acceptedBy ds (patchesOf (rowsOf table) ps ns is)) (decisions-are ∙ decisions-bare box materials default (rowsOf table) ps [] ns is)
           ∙ accepted-by box materials default (patchesOf (rowsOf table) ps ns is)
 
-      failed-are : flatMap (failedOf box) (bare table ps is) ≡ v .failed
+      failed-are : flatMap (failedOf box) (shapes table ps is) ≡ v .failed
       failed-are = failed-bare box (rowsOf table) ps [] ns is ∙ failed-by box materials default (patchesOf (rowsOf table) ps ns is)
 
       laid-are : laidIn table E 0 is ≡ laidFrom 0 (v .accepted)

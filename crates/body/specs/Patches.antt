@@ -36,6 +36,10 @@ unfolding patchesOf
 length-patches [] ps ns is = refl
 length-patches (r ∷ rs) ps ns is = ap suc (length-patches rs (drop (3 * r .vertices) ps) (drop (3 * r .vertices) ns) (drop (r .indices) is))
 
+-- the patches of a body as volumes and acceptance look at them: without their normals
+abbrev pub shapes : List ℕ → List Float → List ℕ → List Patch
+shapes table ps is = patchesOf (rowsOf table) ps [] is
+
 -- patch k is where the rows before it end
 pub patch-at : (rows : List Row) (ps ns : List Float) (is : List ℕ) (k : ℕ) → k < length rows
     → getD (patchesOf rows ps ns is) k noPatch ≡ patchFrom (getD rows k noRow) ps ns is (verticesBefore rows k) (indicesBefore rows k)

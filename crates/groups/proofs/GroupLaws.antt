@@ -6,6 +6,7 @@ use Prim.Native.Nat.{ℕ, _+_, _*_}
 use native.Mathlib.Omega.{arith}
 use lib.ListN.{length, drop}
 use lib.Ieee.{Float}
+use Rattle.body.specs.Patches.{shapes}
 use Rattle.lists.specs.Stretches.{rest-at}
 use Rattle.geometry.specs.Geometry.{zero64}
 use Rattle.walk.specs.Walk.{inverted}
@@ -14,7 +15,7 @@ use Rattle.walk.specs.Frames.{within-none, within-more, within-wide}
 use Rattle.walk.specs.Group.{queueOf, coloursOf, GroupWalked, GroupInverted, walkFrom}
 use Rattle.inversion.specs.Inversion.{volumeFrom, inverts}
 use Rattle.groups.specs.Groups.{addGroup}
-use Rattle.inversion.specs.Measured.{shapes, vertexBasesAt, indexBasesAt, Measurable}
+use Rattle.inversion.specs.Measured.{vertexBasesAt, indexBasesAt, Measurable}
 use Rattle.groups.specs.Settled.{Judgeable, Judged, Settleable, Settled}
 
 -- what measuring asks is kept

@@ -14,7 +14,7 @@ use borrow.Rule.Slice.PartMut.{midOf, putMid, take-put, same-len-mid}
 use Rattle.lists.specs.Stretches.{front-at, front-less, stretch-kept, part-at}
 use Rattle.body.specs.Body.{Patch, rowsOf}
 use Rattle.body.specs.Rows.{Starts, rowAt, verticesBefore, indicesBefore}
-use Rattle.body.specs.Patches.{noPatch, length-patches}
+use Rattle.body.specs.Patches.{noPatch, length-patches, shapes}
 use Rattle.walk.specs.Walk.{Pair, unvisited, plain, walk}
 use Rattle.walk.specs.Uses.{Uses, pairsBy}
 use Rattle.walk.specs.Area.{queueAt, coloursAt, areaEnd, usesOf}
@@ -25,7 +25,7 @@ use Rattle.walk.specs.Links.{pairs-uses, paired-of, paired-kept}
 use Rattle.walk.specs.Kept.{colour-at, colours-kept, paired-uncoloured, uses-uncoloured}
 use Rattle.groups.specs.Groups.{Group, Walks, addGroup, walksFrom}
 use Rattle.inversion.specs.Inversion.{patchAt}
-use Rattle.inversion.specs.Measured.{shapes, vertexBasesAt, indexBasesAt, basesEnd, Measurable}
+use Rattle.inversion.specs.Measured.{vertexBasesAt, indexBasesAt, basesEnd, Measurable}
 use Rattle.groups.specs.Settled.{Settleable, Settled}
 use Rattle.groups.specs.Walked.{walksOver, RootReady, RootSettled, GroupsReady, BasesReady, BasesLaid, Walkable, GroupsWalked}
 use Rattle.inversion.specs.RowPatch.{patch-length}

@@ -4,13 +4,14 @@ use mathlib.Core.Bool.{cond}
 use mathlib.Core.List.{List, []}
 use Prim.Native.Nat.{ℕ, _+_, _*_, _≤_}
 use lib.Ieee.{Float}
+use Rattle.body.specs.Patches.{shapes}
 use Rattle.geometry.specs.Geometry.{zero64}
 use Rattle.walk.specs.Walk.{inverted}
 use Rattle.walk.specs.Area.{queueAt, coloursAt, areaEnd, Within}
 use Rattle.walk.specs.Group.{queueOf, coloursOf, Colours, Rooted, walkFrom}
 use Rattle.inversion.specs.Inversion.{volumeFrom, inverts}
 use Rattle.groups.specs.Groups.{addGroup}
-use Rattle.inversion.specs.Measured.{shapes, Measurable, GroupMeasurable}
+use Rattle.inversion.specs.Measured.{Measurable, GroupMeasurable}
 
 -- what judging the group in the queue asks
 pub record Judgeable (table : List ℕ) (ps : List Float) (is W : List ℕ) (n m t : ℕ) : Type 0 where

@@ -4,6 +4,7 @@ use mathlib.Core.List.{List, []}
 use Prim.Native.Nat.{ℕ, _+_, _*_, _≤_, _<_}
 use lib.ListN.{length, getD, take, drop, replicate}
 use lib.Ieee.{Float}
+use Rattle.body.specs.Patches.{shapes}
 use Rattle.body.specs.Body.{Patch, rowsOf, allVertices, allIndices}
 use Rattle.body.specs.Rows.{WholeRows, rowAt, verticesBefore, indicesBefore}
 use Rattle.walk.specs.Walk.{Pair, unvisited}
@@ -12,7 +13,7 @@ use Rattle.walk.specs.Area.{queueAt, areaEnd, Within, usesOf, Sound}
 use Rattle.walk.specs.Chains.{Paired}
 use Rattle.walk.specs.Group.{coloursOf, Colours, countable}
 use Rattle.groups.specs.Groups.{Group, Walks, walksFrom}
-use Rattle.inversion.specs.Measured.{shapes, vertexBasesAt, indexBasesAt, basesEnd, Measurable}
+use Rattle.inversion.specs.Measured.{vertexBasesAt, indexBasesAt, basesEnd, Measurable}
 
 -- the walks of a body over some pairs
 abbrev pub walksOver : List Patch → List Pair → Walks

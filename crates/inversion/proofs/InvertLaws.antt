@@ -8,13 +8,14 @@ use lib.ListN.{length, getD, drop, length-take}
 use lib.Seq.{getD-take, getD-drop}
 use lib.Dec.{eqb, ltb}
 use lib.Ieee.{Float, lt}
+use Rattle.body.specs.Patches.{shapes}
 use Rattle.lists.specs.Lists.{sumOf}
 use Rattle.body.specs.Body.{Patch}
 use Rattle.geometry.specs.Geometry.{zero64}
 use Rattle.walk.specs.Walk.{unvisited, plain, coloured}
 use Rattle.walk.specs.Group.{queueOf, coloursOf}
 use Rattle.inversion.specs.Inversion.{patchAt, indicesOn, inverts}
-use Rattle.inversion.specs.Measured.{shapes, GroupMeasurable, weightOf}
+use Rattle.inversion.specs.Measured.{GroupMeasurable, weightOf}
 use Rattle.inversion.specs.RowPatch.{patch-length}
 
 -- two sums whose terms agree, item by item

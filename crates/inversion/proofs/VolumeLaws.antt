@@ -9,6 +9,7 @@ use lib.Seq.{getD-take, getD-drop, length-take-le, drop-cons}
 use lib.Dec.{eqb}
 use lib.Ieee.{Float}
 use borrow.Author.Tests.{eq-eqb, ne-eqb}
+use Rattle.body.specs.Patches.{shapes}
 use Rattle.lists.specs.Lists.{sumOf}
 use Rattle.body.specs.Body.{Patch, rowsOf}
 use Rattle.body.specs.Rows.{rowAt, verticesBefore, indicesBefore}
@@ -17,7 +18,7 @@ use Rattle.geometry.specs.Geometry.{add, zero64}
 use Rattle.walk.specs.Walk.{unvisited}
 use Rattle.walk.specs.Group.{queueOf, Queue}
 use Rattle.inversion.specs.Inversion.{patchAt, volumeFrom}
-use Rattle.inversion.specs.Measured.{vertexBasesAt, indexBasesAt, shapes, RowMeasurable, weightOf}
+use Rattle.inversion.specs.Measured.{vertexBasesAt, indexBasesAt, RowMeasurable, weightOf}
 use Rattle.inversion.specs.RowPatch.{row-in, v-is, i-is, v-room, patch-is}
 
 -- ---- one row

@@ -1,12 +1,12 @@
 -- The volume of a group in the work area: where each row's vertices and indices start, and what measuring asks. Assumes nothing.
 use mathlib.Core.Path.{_≡_}
-use mathlib.Core.List.{List, []}
+use mathlib.Core.List.{List}
 use Prim.Native.Nat.{ℕ, _+_, _*_, _≤_, _<_}
 use lib.ListN.{length, getD}
 use lib.Dec.{eqb}
 use lib.Ieee.{Float}
 use mathlib.Core.Bool.{cond}
-use Rattle.body.specs.Body.{Patch, rowsOf, patchesOf, allVertices, allIndices}
+use Rattle.body.specs.Body.{rowsOf, allVertices, allIndices}
 use Rattle.body.specs.Rows.{WholeRows, rowAt, verticesBefore, indicesBefore}
 use Rattle.walk.specs.Walk.{unvisited}
 use Rattle.walk.specs.Area.{areaEnd}
@@ -23,10 +23,6 @@ indexBasesAt n m = 5 * n + 4 * m
 -- where these regions end
 abbrev pub basesEnd : ℕ → ℕ → ℕ
 basesEnd n m = 5 * n + 5 * m
-
--- the patches of a body as far as their volumes need them
-abbrev pub shapes : List ℕ → List Float → List ℕ → List Patch
-shapes table ps is = patchesOf (rowsOf table) ps [] is
 
 -- what measuring asks of a body: m rows that fill the slices, indices that are of vertices, and in the work area W where each row starts
 pub record Measurable (table : List ℕ) (ps : List Float) (is W : List ℕ) (n m : ℕ) : Type 0 where

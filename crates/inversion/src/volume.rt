@@ -1,12 +1,13 @@
 // The volume of a group, and whether its colours are inverted.
 
 ghost use mathlib.Core.Path.{_≡_};
+ghost use Rattle.body.specs.Patches.{shapes};
 ghost use Rattle.lists.specs.Lists.{sumOf};
 ghost use Rattle.patch_volume.specs.Volume.{patchVolume};
 ghost use Rattle.geometry.specs.Geometry.{zero64};
 ghost use Rattle.walk.specs.Group.{queueOf, coloursOf};
 ghost use Rattle.inversion.specs.Inversion.{patchAt, volumeFrom, inverts};
-ghost use Rattle.inversion.specs.Measured.{shapes, RowMeasurable, GroupMeasurable, weightOf, RowWeighable, GroupWeighable};
+ghost use Rattle.inversion.specs.Measured.{RowMeasurable, GroupMeasurable, weightOf, RowWeighable, GroupWeighable};
 
 // The volume of row x's patch, reversed where flip says so.
 fn row_volume(

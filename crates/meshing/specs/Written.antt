@@ -9,12 +9,12 @@ use Rattle.lists.specs.Lists.{sumOf, written}
 use Rattle.points.specs.Points.{bits}
 use Rattle.body.specs.Body.{rowsOf}
 use Rattle.checks.specs.Accepted.{Passed}
-use Rattle.body.specs.Patches.{noPatch}
+use Rattle.body.specs.Patches.{noPatch, shapes}
 use Rattle.geometry.specs.declared.Aabb.{Aabb}
 use Rattle.acceptance.specs.declared.totals.Totals.{Totals}
 use Rattle.verdicts.specs.Failures.{failureOf}
 use Rattle.acceptance.specs.Acceptance.{failureNumbers}
-use Rattle.acceptance.specs.Judged.{acceptedRows, decisionsIn, failedOf, bare}
+use Rattle.acceptance.specs.Judged.{acceptedRows, decisionsIn, failedOf}
 use Rattle.acceptance.specs.Totals.{Totalled}
 use Rattle.mesh.specs.Mesh.{materialsOf, runsOf, partOf, rangesFrom}
 use Rattle.mesh.specs.JudgedRows.{judgedIn, numbersBy}
@@ -31,7 +31,7 @@ pub record Decided (table : List ℕ) (ps ns : List Float) (is : List ℕ) (box 
   pub passed : Passed table ps ns is (length W)
   pub rows-are : m ≡ length (rowsOf table)
   pub small : (k : ℕ) → k < length (rowsOf table) → getD W (0 + k) 0 ≤ 4294967296
-  pub others : (k : ℕ) → k < length (rowsOf table) → (getD W (0 + k) 0 ≡ 0 → ⊥) → failureOf box (getD (bare table ps is) k noPatch) ≡ none
+  pub others : (k : ℕ) → k < length (rowsOf table) → (getD W (0 + k) 0 ≡ 0 → ⊥) → failureOf box (getD (shapes table ps is) k noPatch) ≡ none
 
 -- what writing the runs, parts, ranges and failures asks: decisions, and room
 pub record TablesReady (table : List ℕ) (ps : List Float) (is : List ℕ) (box : Aabb) (W : List ℕ) (m : ℕ) (I parts ranges failures : List ℕ) : Type 0 where
@@ -47,10 +47,10 @@ pub record TablesWritten (table : List ℕ) (ps : List Float) (is : List ℕ) (b
   pub indices-are : I' ≡ written (runsOf (laidIn table W 0 is)) I
   pub parts-are : parts' ≡ written (flatMap (partOf (laidIn table W 0 is)) (materialsOf (laidIn table W 0 is))) parts
   pub ranges-are : ranges' ≡ written (rangesFrom (laidIn table W 0 is) [] (laidIn table W 0 is)) ranges
-  pub failures-are : failures' ≡ written (flatMap failureNumbers (flatMap (failedOf box) (bare table ps is))) failures
+  pub failures-are : failures' ≡ written (flatMap failureNumbers (flatMap (failedOf box) (shapes table ps is))) failures
   pub parts-count : r .parts ≡ length (materialsOf (laidIn table W 0 is))
   pub ranges-count : r .ranges ≡ length (acceptedRows (decisionsIn table W 0) (rowsOf table))
-  pub failures-count : r .failures ≡ length (flatMap (failedOf box) (bare table ps is))
+  pub failures-count : r .failures ≡ length (flatMap (failedOf box) (shapes table ps is))
   pub rest : drop (4 * m) E ≡ drop (4 * m) W
   pub long : length E ≡ length W
 
@@ -87,12 +87,12 @@ pub record MeshWritten (table : List ℕ) (ps ns : List Float) (is : List ℕ) (
   pub indices-are : I' ≡ written (runsOf (laidIn table W 0 is)) I
   pub parts-are : parts' ≡ written (flatMap (partOf (laidIn table W 0 is)) (materialsOf (laidIn table W 0 is))) parts
   pub ranges-are : ranges' ≡ written (rangesFrom (laidIn table W 0 is) [] (laidIn table W 0 is)) ranges
-  pub failures-are : failures' ≡ written (flatMap failureNumbers (flatMap (failedOf box) (bare table ps is))) failures
+  pub failures-are : failures' ≡ written (flatMap failureNumbers (flatMap (failedOf box) (shapes table ps is))) failures
   pub vertices-count : r .vertices ≡ t .vertices
   pub indices-count : r .indices ≡ t .indices
   pub parts-count : r .parts ≡ length (materialsOf (laidIn table W 0 is))
   pub ranges-count : r .ranges ≡ length (acceptedRows (decisionsIn table W 0) (rowsOf table))
-  pub failures-count : r .failures ≡ length (flatMap (failedOf box) (bare table ps is))
+  pub failures-count : r .failures ≡ length (flatMap (failedOf box) (shapes table ps is))
   pub counts-are : countsOfMesh r ≡ countsOf bits (numbersBy (judgedIn table W 0) ps) (runsOf (laidIn table W 0 is))
   pub closed-is : r .closed ≡ closedBy (countsOf bits (numbersBy (judgedIn table W 0) ps) (runsOf (laidIn table W 0 is)))
   pub rest : drop (16 * length is + 16 * m + 4 * t .vertices) E ≡ drop (16 * length is + 16 * m + 4 * t .vertices) W

@@ -10,6 +10,7 @@ use lib.Dec.{eqb}
 use lib.Ieee.{Float, neg}
 use borrow.Author.Tests.{eq-eqb, ne-eqb}
 use borrow.Rule.Slice.PartMut.{midOf, putMid, mid-len}
+use Rattle.body.specs.Patches.{shapes}
 use Rattle.lists.specs.Lists.{countIf}
 use Rattle.lists.specs.Stretches.{part-stretch, part-rest, rest-less}
 use Rattle.points.specs.Rule.{names}
@@ -31,7 +32,6 @@ use Rattle.orient.specs.declared.turning.Turned.the-variants.{Done, Refu
 use Rattle.groups.specs.Groups.{Walks}
 use Rattle.orient.specs.Orient.{walksOf, turnBody, refuseTurn, turnOf}
 use Rattle.reversal.specs.Reversal.{swapped}
-use Rattle.inversion.specs.Measured.{shapes}
 use Rattle.reversal.specs.Reversed.{Reversible, Reversed, changedRows, coordinates, indexCount, normals-turned, indices-turned}
 use Rattle.groups.specs.Walked.{walksOver, Walkable, GroupsWalked}
 use Rattle.orient.specs.Normals.{walks-any-normals}

@@ -6,6 +6,7 @@ use Prim.Native.Nat.{ℕ, _+_, _*_, _≤_}
 use lib.ListN.{length, take, drop}
 use lib.Dec.{eqb}
 use lib.Ieee.{Float}
+use Rattle.body.specs.Patches.{shapes}
 use Rattle.points.specs.Rule.{names}
 use Rattle.points.specs.Points.{key}
 use Rattle.join.specs.Join.{joined}
@@ -15,7 +16,6 @@ use Rattle.orient.specs.declared.turning.Counts.{Counts}
 use Rattle.orient.specs.declared.turning.Turned.{Turned}
 use Rattle.orient.specs.declared.turning.Turned.the-variants.{Done, Refused}
 use Rattle.orient.specs.Orient.{AfterTurn, walksOf, turnBody}
-use Rattle.inversion.specs.Measured.{shapes}
 
 -- ---- the colours
 

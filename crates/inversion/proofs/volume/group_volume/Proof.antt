@@ -1,8 +1,8 @@
 -- `group_volume` meets its contract: after k rows of the queue their volumes are added. Assumes nothing.
 use Prim.Native.Nat.{_-_}
 use native.Mathlib.Omega.{arith}
+use Rattle.body.specs.Patches.{shapes}
 use Rattle.walk.specs.Group.{queueOf, coloursOf}
-use Rattle.inversion.specs.Measured.{shapes}
 use Rattle.inversion.proofs.VolumeLaws.{queue-row, queue-here, queue-long, Summing, summing-none, summing-more, summing-all}
 use borrow.Author.Needs.{needs}
 use Rattle.inversion.proofs.volume.group_volume.Statement.{statement}

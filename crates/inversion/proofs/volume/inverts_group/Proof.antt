@@ -1,8 +1,8 @@
 -- `inverts_group` meets its contract. Assumes nothing.
 use mathlib.Core.Path.{_∙_}
 use native.Mathlib.Omega.{arith}
+use Rattle.body.specs.Patches.{shapes}
 use Rattle.walk.specs.Group.{queueOf, coloursOf}
-use Rattle.inversion.specs.Measured.{shapes}
 use Rattle.inversion.proofs.InvertLaws.{indices-on-is, inverts-below, inverts-above, inverts-zero}
 use borrow.Author.Needs.{needs}
 use Rattle.inversion.proofs.volume.inverts_group.Statement.{statement}
