@@ -118,7 +118,7 @@ fn assemble_accepted(
         work,
         m,
     );
-    zeros::clear(work, 16 * n + 16 * m + 4 * v);
+    fills::clear(work, 16 * n + 16 * m + 4 * v);
     answer
 }
 

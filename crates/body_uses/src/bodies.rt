@@ -1,8 +1,8 @@
 // The words of all uses of a body, row by row in 01's order.
 
+use fills::fill;
 use use_words::name_row;
 use use_words::run_row;
-use zeros::fill;
 ghost use mathlib.Core.Path.{_≡_};
 ghost use mathlib.Core.List.{map};
 ghost use lib.ListN.{length, drop, replicate};

@@ -12,7 +12,7 @@ fn clear_heads(w: &mut [u64], n: usize, m: usize)
     ensures { λ _. ⌜ Chained n m n (now (w .entry)) (now (w .exit)) ⌝ }
 {
     let heads = 5 * n;
-    zeros::fill(w, heads, heads + m, 0);
+    fills::fill(w, heads, heads + m, 0);
 }
 
 // The row of the first use of the edge of use `i`.

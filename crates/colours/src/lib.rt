@@ -31,7 +31,7 @@ pub fn uncolour(w: &mut [u64], n: usize, m: usize)
     ensures { λ _. ⌜ Uncoloured n m (now (w .entry)) (now (w .exit)) ⌝ }
 {
     let colours = 5 * n + 2 * m;
-    zeros::fill(w, colours, colours + m, 0);
+    fills::fill(w, colours, colours + m, 0);
 }
 
 // The other of the two colours.

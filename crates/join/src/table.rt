@@ -7,9 +7,9 @@ ghost use lib.ListN.{length, getD, take};
 ghost use Rattle.join.specs.Naming.{namesOf};
 ghost use Rattle.join.specs.Table.{Bucket, Sized, Compared, Search, Hit, Turn, Step, Begun, Ready};
 ghost use Rattle.join.specs.Join.{Joined};
+use fills::clear;
 use keys::multiply::wrapping_mul;
 use keys::vertex::same_bits;
-use zeros::clear;
 
 // Odd numbers by which a digest is multiplied to find its chain, and 2^32.
 const FIRST: u64 = 11400714819323198485;

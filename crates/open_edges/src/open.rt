@@ -12,7 +12,7 @@ fn join_body(positions: &[f32], w: &mut [u64], v: usize, m: usize)
     ensures { λ _. ⌜ BodyJoined (now (positions .entry)) v m (now (w .entry)) (now (w .exit)) ⌝ }
 {
     join::vertices::join_points(Rule::Key, positions, w, v);
-    zeros::fill(w, 4 * v, 4 * v + m, 0);
+    fills::fill(w, 4 * v, 4 * v + m, 0);
 }
 
 // The uses are named at `at`, and behind their names come their first uses, how many uses each edge has, and their runs.

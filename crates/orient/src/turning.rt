@@ -56,7 +56,7 @@ fn turn_accepted(
     let colours = 4 * v + 6 * m + 6 * n;
     let against = colour_rows(rows, positions, indices, work, v, m);
     let turned = reversal::reverse_rows(rows, normals, indices, work, colours);
-    zeros::clear(work, 16 * n + 16 * m + 4 * v);
+    fills::clear(work, 16 * n + 16 * m + 4 * v);
     Counts {
         turned: turned,
         against: against,

@@ -3,11 +3,11 @@
 use crate::Reader;
 use crate::room::fits;
 use crate::taking::take_up;
+use fills::clear;
 use line_refusals::line_refusal;
 use lines::Given;
 use lines::Kind;
 use lines::line_of;
-use zeros::clear;
 ghost use mathlib.Core.Path.{_≡_};
 ghost use Prim.Native.Nat.{_<_};
 ghost use Rattle.reader.specs.Slices.{Begun, ended, lent, readForm, readInto, readRoomy, readerOf, refused};

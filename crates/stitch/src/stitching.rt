@@ -99,7 +99,7 @@ fn stitch_accepted(
         v,
         m,
     );
-    zeros::clear(work, 16 * n + 16 * m + 4 * v);
+    fills::clear(work, 16 * n + 16 * m + 4 * v);
     answer
 }
 

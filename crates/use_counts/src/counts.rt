@@ -1,6 +1,6 @@
 // How many uses each edge has.
 
-use zeros::fill;
+use fills::fill;
 ghost use mathlib.Core.Path.{_≡_};
 ghost use Prim.Native.Nat.{_+_};
 ghost use lib.ListN.{getD, set};

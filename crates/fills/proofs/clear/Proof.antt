@@ -1,7 +1,7 @@
 -- `clear` meets its contract. Assumes nothing.
-use Rattle.zeros.proofs.Filling.{front-cleared}
-use Rattle.zeros.proofs.clear.Statement.{statement}
-use Rattle.zeros.proofs.clear.Tie as tie
+use Rattle.fills.proofs.Filling.{front-cleared}
+use Rattle.fills.proofs.clear.Statement.{statement}
+use Rattle.fills.proofs.clear.Tie as tie
 use borrow.Author.Needs.{needs}
 
 fill-requires : tie.Need-fill-requires

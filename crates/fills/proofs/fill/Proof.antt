@@ -1,9 +1,9 @@
 -- `fill` meets its contract. Assumes nothing.
 use Prim.Native.Nat.{_-_}
-use Rattle.zeros.proofs.Filling.{Filling, filling-none, filling-more, filling-all}
+use Rattle.fills.proofs.Filling.{Filling, filling-none, filling-more, filling-all}
 use borrow.Author.Needs.{needs}
-use Rattle.zeros.proofs.fill.Statement.{statement}
-use Rattle.zeros.proofs.fill.Tie as tie
+use Rattle.fills.proofs.fill.Statement.{statement}
+use Rattle.fills.proofs.fill.Tie as tie
 
 abbrev Inv-loop : tie.InvT-loop
 Inv-loop w₀ from to x k₀ w k = Filling w₀ from to x k w
