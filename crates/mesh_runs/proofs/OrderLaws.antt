@@ -146,11 +146,11 @@ module _ {table W : List ℕ} {at starts order m : ℕ} (g : Orderable table W a
 
   module _ {E : List ℕ} (r : RowsKept table W E at starts order m) where
     -- what sorting asks
-    pub sort-ready : Sortable order m 4096 E
+    pub sort-ready : Sortable order m 12 E
     sort-ready =
         record {
           room = omega (arith, g .room, r .long);
-          positive = omega arith;
+          low-small = omega arith;
           small = λ k h. omega (arith, r .words k h, g .small k h, g .rows .few, g .rows-are);
           rising = λ i j l h. omega (arith, r .words i (omega arith), r .words j h, g .rows .few, g .rows-are);
         }

@@ -4,7 +4,10 @@ ghost use mathlib.Core.Path.{_≡_};
 ghost use Rattle.mesh.specs.JudgedRows.{baseAfter};
 ghost use Rattle.mesh_runs.specs.Order.{orderWord, BaseSmall, WordSmall, Orderable, RowsKept, RowsOrdered, OrderRoom, FirstAccepted};
 
-// A decision stands in a word above the row, of which there are at most so many.
+// A decision stands in a word above the row, which takes so many bits.
+const ROW_BITS: u32 = 12;
+
+// There are at most so many rows.
 pub const ROWS: u64 = 4096;
 
 // A first vertex stands in a word above a first index, which is lower than this.
@@ -53,7 +56,7 @@ pub fn order_rows(rows: &[u32], w: &mut [u64], at: usize, starts: usize, order: 
     ensures { λ _. ⌜ RowsOrdered (now (rows .entry)) (now (w .entry)) (now (w .exit)) at starts order m ⌝ }
 {
     keep_rows(rows, w, at, starts, order, m);
-    sorting::sort_words(w, order, m, ROWS);
+    sorting::sort_words(w, order, m, ROW_BITS);
 }
 
 // The place of the first word of an accepted row.
