@@ -1,15 +1,15 @@
 // The library's calls for C: each is a proved function under its C name, its answer a struct with the refusal first.
 
 mod assembling;
-mod keys;
+mod naming;
 mod patch;
 mod steps;
 mod stitching;
 mod turning;
 
 pub use assembling::cad_assemble;
-pub use keys::cad_cell;
-pub use keys::cad_key;
+pub use naming::cad_cell;
+pub use naming::cad_key;
 pub use patch::cad_escapes_body;
 pub use patch::cad_farthest;
 pub use patch::cad_patch_volume;
