@@ -1,7 +1,7 @@
 // Pairs of rows chained by row in the work area (walk/specs/Area.antt names where each part of it stands).
 
 ghost use mathlib.Core.Path.{_≡_};
-ghost use Prim.Native.Nat.{_+_, _*_, _<_};
+ghost use Prim.Native.Nat.{_+_, _*_};
 ghost use Rattle.walk.specs.Uses.{far};
 ghost use Rattle.walk.specs.Area.{usesOf};
 ghost use Rattle.walk.specs.Chains.{Chainable, UseAt, PairAt, ChainNext, Chained, linked};

@@ -1,7 +1,7 @@
 -- E, T, M, the bound and V of the groups of small bodies, in the units of VolumeRule. Assumes nothing.
 use mathlib.Core.Bool.{cond}
 use mathlib.Core.List.{List, [], _∷_, _++_, flatMap}
-use Prim.Native.Nat.{ℕ, _+_, _*_, _^_}
+use Prim.Native.Nat.{ℕ, _*_, _^_}
 use lib.IntN.{ℤ, pos, negsuc, natAbs}
 use lib.Dec.{T}
 use Rattle.lists.specs.Lists.{all}
