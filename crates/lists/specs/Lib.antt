@@ -6,3 +6,4 @@ pub mod Stretches
 pub mod Table
 pub mod Evaluation
 pub mod Both
+pub mod Members

@@ -14,7 +14,8 @@ use Rattle.body.specs.Body.{Row, patchesOf, allIndices}
 use Rattle.acceptance.specs.Acceptance.{Accepted, acceptedIndices}
 use Rattle.acceptance.specs.Judged.{acceptedBy}
 use Rattle.mesh.specs.Mesh.{Laid, laidFrom, runOf}
-use Rattle.mesh.specs.MaterialLaws.{Has, laidMaterials}
+use Rattle.lists.specs.Members.{Has}
+use Rattle.mesh.specs.MaterialLaws.{laidMaterials}
 use Rattle.mesh.specs.JudgedRows.{JudgedRow, judgedRows, baseAfter, keptIf, numbersBy, laidBy, sameIf, runBy, indicesWith}
 
 -- the accepted patches laid

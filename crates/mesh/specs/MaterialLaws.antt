@@ -3,21 +3,16 @@ use mathlib.Core.Path.{_≡_, refl, sym, ap, _∙_}
 use mathlib.Core.Logic.{_⊎_, inl, inr}
 use mathlib.Core.Bool.{Bool, true, false, cond}
 use mathlib.Core.List.{List, [], _∷_, map, flatMap}
-use Prim.Native.Nat.{ℕ, zero, suc, _+_, _≤_, _<_}
-use native.Mathlib.Nat.{le-of-suc-le-suc, not-suc-le-zero}
+use Prim.Native.Nat.{ℕ, suc, _+_, _≤_, _<_}
 use native.Mathlib.Omega.{arith}
 use borrow.Author.Tests.{le-leb, lt-leb, eqb-true, eqb-false, ltb-true, ltb-false, leb-true, leb-false}
-use lib.ListN.{length, getD, length-append}
+use lib.ListN.{length, length-append}
 use lib.Dec.{leb, ltb, eqb}
 use Rattle.lists.specs.Lists.{filter, sumOf}
+use Rattle.lists.specs.Members.{Has}
 use Rattle.mesh.specs.Mesh.{Laid, insertNew, materialsOf, runOf, startOf}
 
 -- ---- what a list has
-
--- y is among the numbers
-abbrev pub Has : ℕ → List ℕ → Type 0
-Has y [] = ⊥
-Has y (x ∷ xs) = (y ≡ x) ⊎ Has y xs
 
 -- the materials of laid patches, each as often as it stands there
 abbrev pub laidMaterials : List Laid → List ℕ
@@ -67,12 +62,6 @@ insert-has y n (x ∷ xs) h = first (ltb n x) h (λ k. insert-has y n xs k)
     first : (b : Bool) → Has y (cond b (n ∷ x ∷ xs) (cond (eqb n x) (x ∷ xs) (x ∷ insertNew n xs))) → (Has y (insertNew n xs) → (y ≡ n) ⊎ Has y xs) → (y ≡ n) ⊎ Has y (x ∷ xs)
     first true k f = k
     first false k f = second (eqb n x) k f
-
--- an item of a list is among them
-pub has-item : (xs : List ℕ) (k : ℕ) → k < length xs → Has (getD xs k 0) xs
-has-item [] k h = absurd (not-suc-le-zero h)
-has-item (x ∷ xs) zero h = inl refl
-has-item (x ∷ xs) (suc k) h = inr (has-item xs k (le-of-suc-le-suc h))
 
 -- the materials are those of the patches
 pub materials-have : (y : ℕ) (ls : List Laid) → Has y (laidMaterials ls) → Has y (materialsOf ls)

@@ -10,7 +10,8 @@ use lib.ListN.{length, length-append}
 use lib.Dec.{eqb}
 use Rattle.lists.specs.Lists.{sumOf}
 use Rattle.mesh.specs.Mesh.{Laid, materialsOf, runOf, runsOf}
-use Rattle.mesh.specs.MaterialLaws.{Has, laidMaterials, materials-have, Rising, materials-rise}
+use Rattle.lists.specs.Members.{Has}
+use Rattle.mesh.specs.MaterialLaws.{laidMaterials, materials-have, Rising, materials-rise}
 
 -- what a patch adds to the runs of some materials
 added : ℕ → List ℕ → List ℕ → ℕ

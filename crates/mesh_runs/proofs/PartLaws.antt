@@ -1,6 +1,5 @@
 -- Laws of writing the runs of all materials. Assumes nothing.
 use mathlib.Core.Path.{_≡_, refl, sym, ap, _∙_, subst}
-use mathlib.Core.Logic.{inl, inr}
 use mathlib.Core.List.{List, [], _∷_, _++_, flatMap, append-assoc, append-nil}
 use Prim.Native.Nat.{ℕ, suc, _+_, _-_, _*_, _/_, _≤_, _<_}
 use native.Mathlib.Nat.{le-of-suc-le-suc, lt-of-not-le}
@@ -10,6 +9,7 @@ use lib.ListN.{length, getD, take, drop, length-append, length-drop}
 use lib.Seq.{length-take-le}
 use lib.Dec.{leb}
 use Rattle.lists.specs.Lists.{sumOf, filter, written}
+use Rattle.lists.specs.Members.{Has, has-place, has-item}
 use Rattle.lists.specs.Stretches.{stretch-kept, stretch-at, front-at, rest-at, rest-less}
 use Rattle.body.specs.Body.{rowsOf}
 use Rattle.append.specs.Appended.{Appended, appended-none, appended-written, appended-long, behind}
@@ -18,7 +18,7 @@ use Rattle.mesh.specs.Mesh.{Laid, materialsOf, runOf, runsOf, startOf, partOf}
 use Rattle.mesh.specs.JudgedRows.{JudgedRow, judgedRows, judgedIn, laidBy, runBy, indicesWith}
 use Rattle.mesh.specs.RowLaws.{judged-long}
 use Rattle.mesh.specs.LaidLaws.{run-by, run-long, judged-indices, laid-low, laid-few, laid-has, has-laid}
-use Rattle.mesh.specs.MaterialLaws.{Has, has-item, materials-have, have-materials, materials-rise, rising-all, rising-from, rising-none, start-same, start-next, start-low, start-none, materials-few}
+use Rattle.mesh.specs.MaterialLaws.{materials-have, have-materials, materials-rise, rising-all, rising-from, rising-none, start-same, start-next, start-low, start-none, materials-few}
 use Rattle.mesh.specs.Parts.{laidIn, RunsWritable, RunsWritten}
 use Rattle.mesh_runs.specs.Order.{placeWord, orderWord, Orderable, RowAt, Ordered, RowsOrdered, OrderRoom, FirstAccepted}
 use Rattle.mesh_runs.specs.Runs.{RunWritable, RunWritten}
@@ -72,12 +72,6 @@ parts-three ls (m ∷ ms) = let e = parts-three ls ms in omega arith
 -- what isn't above is at most as high
 not-above : {a b : ℕ} → (a < b → ⊥) → b ≤ a
 not-above h = le-of-suc-le-suc (lt-of-not-le h)
-
--- a number that is among others stands at a place
-has-place : (y : ℕ) (xs : List ℕ) → Has y xs → (k : ℕ) × ((k < length xs) × (getD xs k 0 ≡ y))
-has-place y [] h = absurd h
-has-place y (x ∷ xs) (inl e) = (0, (omega arith, sym e))
-has-place y (x ∷ xs) (inr h) = let p = has-place y xs h in (suc (p .0), (let l = p .1 .0 in omega arith, p .1 .1))
 
 -- ---- the words made ready
 
