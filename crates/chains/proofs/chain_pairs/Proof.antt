@@ -1,4 +1,4 @@
--- `walk::chain_pairs` meets its contract: the uses from `i` on are in the chains. Assumes nothing.
+-- `chains::chain_pairs` meets its contract: the uses from `i` on are in the chains. Assumes nothing.
 use Rattle.chains.proofs.Chaining.{Chaining, chaining-none, chaining-next, chaining-more, chaining-all}
 use borrow.Author.Needs.{needs}
 use Rattle.chains.proofs.chain_pairs.Statement.{statement}

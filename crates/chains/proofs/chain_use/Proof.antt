@@ -1,4 +1,4 @@
--- `walk::chain_use` meets its contract, by its two tests. Assumes nothing.
+-- `chains::chain_use` meets its contract, by its two tests. Assumes nothing.
 use Rattle.chains.proofs.Chaining.{use-skip, use-there, use-same, pair-there, use-linked}
 use borrow.Author.Needs.{needs}
 use Rattle.chains.proofs.chain_use.Statement.{statement}

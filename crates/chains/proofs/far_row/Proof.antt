@@ -1,4 +1,4 @@
--- `walk::far_row` meets its contract: a first use is a use, so its row stands in the area. Assumes nothing.
+-- `chains::far_row` meets its contract: a first use is a use, so its row stands in the area. Assumes nothing.
 use Rattle.chains.proofs.Chaining.{first-index, far-read}
 use native.Mathlib.Omega.{arith}
 use borrow.Author.Needs.{needs}

@@ -1,4 +1,4 @@
--- `walk::link_pair` meets its contract: its four stores are those of the definition. Assumes nothing.
+-- `chains::link_pair` meets its contract: its four stores are those of the definition. Assumes nothing.
 use lib.ListN.{length-set}
 use native.Mathlib.Omega.{arith}
 use borrow.Author.Needs.{needs}

@@ -1,4 +1,4 @@
--- `walk::colour` meets its contract. Assumes nothing.
+-- `colours::colour` meets its contract. Assumes nothing.
 use Rattle.walk.specs.Kept.{colour-at}
 use mathlib.Core.Path.{sym}
 use borrow.Author.Needs.{needs}

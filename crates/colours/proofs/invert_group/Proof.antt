@@ -1,4 +1,4 @@
--- `walk::invert_group` meets its contract: the rest of the queue, inverted from here, is the whole group inverted. Assumes nothing.
+-- `colours::invert_group` meets its contract: the rest of the queue, inverted from here, is the whole group inverted. Assumes nothing.
 use Rattle.colours.proofs.Colouring.{Inverting, inverting-none, row-index, row-known, inverting-more, inverting-all}
 use native.Mathlib.Omega.{arith}
 use Prim.Native.Nat.{_-_}

@@ -1,4 +1,4 @@
--- `walk::meet_row` meets its contract, by its two tests. Assumes nothing.
+-- `visiting::meet_row` meets its contract, by its two tests. Assumes nothing.
 use Rattle.visiting.proofs.Meeting.{meet-new, meet-same, meet-against}
 use lib.ListN.{length-set}
 use native.Mathlib.Omega.{arith}

@@ -1,4 +1,4 @@
--- `walk::next_link` meets its contract, by its test. Assumes nothing.
+-- `visiting::next_link` meets its contract, by its test. Assumes nothing.
 use Rattle.walk.specs.Links.{next-own, next-far}
 use borrow.Author.Needs.{needs}
 use Rattle.visiting.proofs.next_link.Statement.{statement}

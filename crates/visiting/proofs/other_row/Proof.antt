@@ -1,4 +1,4 @@
--- `walk::other_row` meets its contract, by its test. Assumes nothing.
+-- `visiting::other_row` meets its contract, by its test. Assumes nothing.
 use Rattle.visiting.proofs.Visiting.{other-far, other-own}
 use borrow.Author.Needs.{needs}
 use Rattle.visiting.proofs.other_row.Statement.{statement}

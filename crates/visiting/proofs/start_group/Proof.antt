@@ -1,4 +1,4 @@
--- `walk::start_group` meets its contract: an empty queue with one row more. Assumes nothing.
+-- `visiting::start_group` meets its contract: an empty queue with one row more. Assumes nothing.
 use Rattle.visiting.proofs.Meeting.{started}
 use lib.ListN.{length-set}
 use native.Mathlib.Omega.{arith}

@@ -1,4 +1,4 @@
--- `walk::visit_row` meets its contract: what is left of the chain, visited from here, is the whole visit. Assumes nothing.
+-- `visiting::visit_row` meets its contract: what is left of the chain, visited from here, is the whole visit. Assumes nothing.
 use Rattle.walk.specs.Group.{visitOf}
 use Rattle.visiting.proofs.Visiting.{Visiting, visiting-none, use-there, want-there, link-there, meet-there, visiting-less, visiting-more, visiting-all, toGo}
 use borrow.Author.Needs.{needs}

@@ -1,4 +1,4 @@
--- `walk::walk_group` meets its contract: the definition, gone on with from here, is the whole walk. Assumes nothing.
+-- `visiting::walk_group` meets its contract: the definition, gone on with from here, is the whole walk. Assumes nothing.
 use Rattle.walk.specs.Group.{walkOf}
 use Rattle.walk.specs.Area.{usesOf}
 use Rattle.walk.specs.Uses.{pairsBy}

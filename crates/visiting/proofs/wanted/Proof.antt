@@ -1,4 +1,4 @@
--- `walk::wanted` meets its contract, by its test. Assumes nothing.
+-- `visiting::wanted` meets its contract, by its test. Assumes nothing.
 use Rattle.visiting.proofs.Visiting.{run-index, want-not, want-yes}
 use native.Mathlib.Omega.{arith}
 use borrow.Author.Needs.{needs}

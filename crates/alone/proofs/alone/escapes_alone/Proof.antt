@@ -1,4 +1,4 @@
--- `geometry::alone::escapes_alone` meets its contract. Assumes nothing.
+-- `alone::alone::escapes_alone` meets its contract. Assumes nothing.
 use Rattle.alone.proofs.AloneLaws.{escapes-refused, escapes-answered}
 use borrow.Author.Needs.{needs}
 use Rattle.alone.proofs.alone.escapes_alone.Statement.{statement}

@@ -1,4 +1,4 @@
--- `geometry::alone::farthest_alone` meets its contract. Assumes nothing.
+-- `alone::alone::farthest_alone` meets its contract. Assumes nothing.
 use Rattle.alone.proofs.AloneLaws.{farthest-refused, farthest-answered}
 use borrow.Author.Needs.{needs}
 use Rattle.alone.proofs.alone.farthest_alone.Statement.{statement}

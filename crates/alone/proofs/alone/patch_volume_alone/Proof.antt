@@ -1,4 +1,4 @@
--- `geometry::alone::patch_volume_alone` meets its contract. Assumes nothing.
+-- `alone::alone::patch_volume_alone` meets its contract. Assumes nothing.
 use Rattle.alone.proofs.AloneLaws.{within-alone, volume-refused, volume-answered}
 use borrow.Author.Needs.{needs}
 use Rattle.alone.proofs.alone.patch_volume_alone.Statement.{statement}

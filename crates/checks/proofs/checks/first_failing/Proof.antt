@@ -1,4 +1,4 @@
--- `body::checks::first_failing` meets its contract. Assumes nothing.
+-- `checks::checks::first_failing` meets its contract. Assumes nothing.
 use Rattle.checks.proofs.CheckLaws.{table-passed, rows-passed, body-table, body-patch, body-words, body-none}
 use borrow.Author.Needs.{needs}
 use Rattle.checks.proofs.checks.first_failing.Statement.{statement}

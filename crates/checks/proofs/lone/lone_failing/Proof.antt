@@ -1,4 +1,4 @@
--- `body::lone::lone_failing` meets its contract. Assumes nothing.
+-- `checks::lone::lone_failing` meets its contract. Assumes nothing.
 use Rattle.checks.proofs.CheckLaws.{table-passed, lone-table, lone-patch}
 use borrow.Author.Needs.{needs}
 use Rattle.checks.proofs.lone.lone_failing.Statement.{statement}

@@ -1,4 +1,4 @@
--- `body::lone::lone_patch_failing` meets its contract. Assumes nothing.
+-- `checks::lone::lone_patch_failing` meets its contract. Assumes nothing.
 use Rattle.checks.proofs.CheckLaws.{lone-21, lone-22, lone-23, lone-none}
 use borrow.Author.Needs.{needs}
 use Rattle.checks.proofs.lone.lone_patch_failing.Statement.{statement}

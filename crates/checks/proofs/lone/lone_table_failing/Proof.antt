@@ -1,4 +1,4 @@
--- `body::lone::lone_table_failing` meets its contract. Assumes nothing.
+-- `checks::lone::lone_table_failing` meets its contract. Assumes nothing.
 use Rattle.checks.proofs.CheckLaws.{lone-13, lone-positions, lone-normals, lone-lengths}
 use borrow.Author.Needs.{needs}
 use Rattle.checks.proofs.lone.lone_table_failing.Statement.{statement}

@@ -1,4 +1,4 @@
--- `stitch::copy::copy_floats` meets its contract. With k items done the front is those of `from` and the rest as it was. Assumes nothing.
+-- `copying::copy::copy_floats` meets its contract. With k items done the front is those of `from` and the rest as it was. Assumes nothing.
 use Prim.Native.Nat.{_-_}
 use Rattle.copying.proofs.CopyLaws.{Copying, copying-none, copying-more, copying-all}
 use borrow.Author.Needs.{needs}

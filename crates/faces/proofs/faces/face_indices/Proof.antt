@@ -1,4 +1,4 @@
--- `stitch::faces::face_indices` meets its contract. Assumes nothing.
+-- `faces::faces::face_indices` meets its contract. Assumes nothing.
 use native.Mathlib.Omega.{arith}
 use Rattle.faces.proofs.FaceLaws.{inside-new, inside-old, face-new, face-old}
 use borrow.Author.Needs.{needs}

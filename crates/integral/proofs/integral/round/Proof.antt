@@ -1,4 +1,4 @@
--- `floats::round` meets its contract. Assumes nothing.
+-- `integral::integral::round` meets its contract. Assumes nothing.
 use mathlib.Core.Path.{_≡_, sym}
 use mathlib.Core.Bool.{cond}
 use Prim.Native.Nat.{_+_, _-_, _*_, _/_, _^_, _≤_, _<_}

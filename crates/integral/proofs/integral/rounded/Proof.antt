@@ -1,4 +1,4 @@
--- `floats::rounded` meets its contract. Assumes nothing.
+-- `integral::integral::rounded` meets its contract. Assumes nothing.
 use mathlib.Core.Path.{_≡_, ap, _∙_}
 use Prim.Native.Nat.{ℕ, _+_, _*_, _/_, _^_, _≤_, _<_}
 use native.Mathlib.Nat.{pow-succ'}

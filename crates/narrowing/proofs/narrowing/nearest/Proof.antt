@@ -1,4 +1,4 @@
--- `floats::nearest` meets its contract. Assumes nothing.
+-- `narrowing::narrowing::nearest` meets its contract. Assumes nothing.
 use mathlib.Core.Path.{_≡_, sym, ap, _∙_, subst}
 use Prim.Native.Nat.{ℕ, _+_, _-_, _/_, _%_, _^_, _≤_, _<_}
 use native.Mathlib.Omega.{arith}

@@ -1,4 +1,4 @@
--- `body::patch::any_at_least` meets its contract. The first k numbers are below n. Assumes nothing.
+-- `patch_checks::patch::any_at_least` meets its contract. The first k numbers are below n. Assumes nothing.
 use Prim.Native.Nat.{_-_}
 use native.Mathlib.Omega.{arith}
 use lib.ListN.{length}

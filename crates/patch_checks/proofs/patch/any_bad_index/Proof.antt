@@ -1,4 +1,4 @@
--- `body::patch::any_bad_index` meets its contract. The first k rows have good indices, which end at base. Assumes nothing.
+-- `patch_checks::patch::any_bad_index` meets its contract. The first k rows have good indices, which end at base. Assumes nothing.
 use Prim.Native.Nat.{_-_}
 use native.Mathlib.Omega.{arith}
 use Rattle.patch_checks.proofs.PatchLaws.{Indexing, indexing-none, indexing-room, indexing-hit, indexing-more, indexing-all}

@@ -1,4 +1,4 @@
--- `body::patch::any_not_finite` meets its contract. The first k numbers are finite. Assumes nothing.
+-- `patch_checks::patch::any_not_finite` meets its contract. The first k numbers are finite. Assumes nothing.
 use Prim.Native.Nat.{_-_}
 use native.Mathlib.Omega.{arith}
 use mathlib.Core.Path.{sym, ap, _∙_}

@@ -1,4 +1,4 @@
--- `body::patch::any_number_not_finite` meets its contract. Assumes nothing.
+-- `patch_checks::patch::any_number_not_finite` meets its contract. Assumes nothing.
 use Rattle.patch_checks.proofs.PatchLaws.{first-so, second-so}
 use borrow.Author.Needs.{needs}
 use Rattle.patch_checks.proofs.patch.any_number_not_finite.Statement.{statement}

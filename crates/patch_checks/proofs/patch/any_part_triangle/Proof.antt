@@ -1,4 +1,4 @@
--- `body::patch::any_part_triangle` meets its contract. The first k rows have whole triangles. Assumes nothing.
+-- `patch_checks::patch::any_part_triangle` meets its contract. The first k rows have whole triangles. Assumes nothing.
 use Prim.Native.Nat.{ℕ, _-_, _%_}
 use native.Mathlib.Omega.{arith}
 use mathlib.Core.Path.{sym, ap, _∙_}

@@ -1,4 +1,4 @@
--- `body::patch::bad_indices` meets its contract. Assumes nothing.
+-- `patch_checks::patch::bad_indices` meets its contract. Assumes nothing.
 use Rattle.patch_checks.proofs.PatchLaws.{row-test}
 use borrow.Author.Needs.{needs}
 use Rattle.patch_checks.proofs.patch.bad_indices.Statement.{statement}

@@ -1,4 +1,4 @@
--- `body::patch::patch_failing` meets its contract. Assumes nothing.
+-- `patch_checks::patch::patch_failing` meets its contract. Assumes nothing.
 use Rattle.patch_checks.proofs.PatchLaws.{all-indices-fit}
 use Rattle.patch_checks.specs.PatchFirst.{fails-21, fails-22, fails-23, fails-no-patch}
 use Rattle.patch_checks.proofs.patch.patch_failing.Statement.{statement}

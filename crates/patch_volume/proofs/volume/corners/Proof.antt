@@ -1,4 +1,4 @@
--- `geometry::volume::corners` meets its contract. Assumes nothing.
+-- `patch_volume::volume::corners` meets its contract. Assumes nothing.
 use Rattle.patch_volume.proofs.VolumeLaws.{corners-are}
 use borrow.Author.Needs.{needs}
 use Rattle.patch_volume.proofs.volume.corners.Statement.{statement}

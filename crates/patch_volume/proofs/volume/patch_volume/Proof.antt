@@ -1,4 +1,4 @@
--- `geometry::volume::patch_volume` meets its contract. What is left to add to the total is the same at each turn. Assumes nothing.
+-- `patch_volume::volume::patch_volume` meets its contract. What is left to add to the total is the same at each turn. Assumes nothing.
 use Prim.Native.Nat.{_-_}
 use Rattle.patch_volume.proofs.VolumeLaws.{Summing, summing-none, summing-more, summing-all, corners-within}
 use Rattle.patch_volume.proofs.volume.patch_volume.Statement.{statement}

@@ -1,4 +1,4 @@
--- `geometry::volume::triangle` meets its contract. Assumes nothing.
+-- `patch_volume::volume::triangle` meets its contract. Assumes nothing.
 use Rattle.patch_volume.proofs.VolumeLaws.{triangle-reversed, triangle-kept, corners-reversed}
 use borrow.Author.Needs.{needs}
 use Rattle.patch_volume.proofs.volume.triangle.Statement.{statement}

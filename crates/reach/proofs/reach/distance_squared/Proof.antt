@@ -1,4 +1,4 @@
--- `geometry::reach::distance_squared` meets its contract. Assumes nothing.
+-- `reach::reach::distance_squared` meets its contract. Assumes nothing.
 use Rattle.reach.proofs.ReachLaws.{square-is}
 use borrow.Author.Needs.{needs}
 use Rattle.reach.proofs.reach.distance_squared.Statement.{statement}

@@ -1,4 +1,4 @@
--- `geometry::reach::escapes_body` meets its contract. Assumes nothing.
+-- `reach::reach::escapes_body` meets its contract. Assumes nothing.
 use Rattle.reach.proofs.ReachLaws.{escapes-empty, escapes-is, escapes-point}
 use borrow.Author.Needs.{needs}
 use Rattle.reach.proofs.reach.escapes_body.Statement.{statement}

@@ -1,4 +1,4 @@
--- `geometry::reach::farthest` meets its contract. Assumes nothing.
+-- `reach::reach::farthest` meets its contract. Assumes nothing.
 use Rattle.reach.proofs.ReachLaws.{farthest-empty, farthest-is}
 use borrow.Author.Needs.{needs}
 use Rattle.reach.proofs.reach.farthest.Statement.{statement}

@@ -1,4 +1,4 @@
--- `geometry::reach::reach_from` meets its contract. What is left to look at gives the same reach at each turn, from the root of the square so far. Assumes nothing.
+-- `reach::reach::reach_from` meets its contract. What is left to look at gives the same reach at each turn, from the root of the square so far. Assumes nothing.
 use Prim.Native.Nat.{_-_}
 use Rattle.reach.proofs.ReachLaws.{Reaching, reaching-none, reaching-more, reaching-all}
 use Rattle.reach.proofs.reach.reach_from.Statement.{statement}

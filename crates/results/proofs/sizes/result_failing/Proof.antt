@@ -1,4 +1,4 @@
--- `stitch::checks::result_failing` meets its contract. Assumes nothing.
+-- `results::sizes::result_failing` meets its contract. Assumes nothing.
 use Rattle.results.proofs.ResultLaws.{result-vertices, result-indices, result-short, result-none}
 use borrow.Author.Needs.{needs}
 use Rattle.results.proofs.sizes.result_failing.Statement.{statement}

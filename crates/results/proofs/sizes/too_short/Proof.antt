@@ -1,4 +1,4 @@
--- `stitch::checks::too_short` meets its contract. Assumes nothing.
+-- `results::sizes::too_short` meets its contract. Assumes nothing.
 use Rattle.results.proofs.ResultLaws.{short-rows, short-positions, short-normals, short-indices}
 use borrow.Author.Needs.{needs}
 use Rattle.results.proofs.sizes.too_short.Statement.{statement}

@@ -1,4 +1,4 @@
--- `floats::guess` is safe, and its answer has 53 bits. Assumes nothing.
+-- `roots::root::guess` is safe, and its answer has 53 bits. Assumes nothing.
 use native.Mathlib.Omega.{arith}
 use lib.Ieee.{binary64}
 use Rattle.rounding.specs.Fields.{no-nan-bits}

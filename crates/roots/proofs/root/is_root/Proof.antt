@@ -1,4 +1,4 @@
--- `floats::is_root` meets its contract. Assumes nothing.
+-- `roots::root::is_root` meets its contract. Assumes nothing.
 use native.Mathlib.Omega.{arith}
 use Rattle.roots.proofs.Guess.{square-high, square-mixed, square-rest, tested, refused}
 use borrow.Author.Needs.{needs}

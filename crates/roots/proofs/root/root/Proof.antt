@@ -1,4 +1,4 @@
--- `floats::root` meets its contract. Assumes nothing.
+-- `roots::root::root` meets its contract. Assumes nothing.
 use native.Mathlib.Omega.{arith}
 use Rattle.roots.proofs.Guess.{accepted}
 use borrow.Author.Needs.{needs}

@@ -1,4 +1,4 @@
--- `floats::root_bits` meets its contract. Assumes nothing.
+-- `roots::root::root_bits` meets its contract. Assumes nothing.
 use native.Mathlib.Omega.{arith}
 use Prim.Native.Nat.{_+_, _*_, _%_}
 use Rattle.roots.proofs.Guess.{Kept, kept, pattern}

@@ -1,4 +1,4 @@
--- `floats::root_by_digits` meets its contract. Assumes nothing.
+-- `roots::root::root_by_digits` meets its contract. Assumes nothing.
 use mathlib.Core.Logic.{⊎-elim}
 use mathlib.Core.Path.{sym, subst}
 use Prim.Native.Nat.{ℕ, _+_, _-_, _*_, _/_, _%_, _<_}

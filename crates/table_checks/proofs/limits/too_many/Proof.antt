@@ -1,4 +1,4 @@
--- `body::limits::too_many` meets its contract. Assumes nothing.
+-- `table_checks::limits::too_many` meets its contract. Assumes nothing.
 use Rattle.table_checks.proofs.TableLaws.{many-vertices, many-indices}
 use Rattle.table_checks.proofs.limits.too_many.Statement.{statement}
 use Rattle.table_checks.proofs.limits.too_many.Tie as tie

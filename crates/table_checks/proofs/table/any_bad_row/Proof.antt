@@ -1,4 +1,4 @@
--- `body::table::any_bad_row` meets its contract. The first k rows are not bad. Assumes nothing.
+-- `table_checks::table::any_bad_row` meets its contract. The first k rows are not bad. Assumes nothing.
 use Prim.Native.Nat.{_-_}
 use native.Mathlib.Omega.{arith}
 use mathlib.Core.Path.{sym, _∙_}

@@ -1,4 +1,4 @@
--- `body::table::bad_row` meets its contract. Assumes nothing.
+-- `table_checks::table::bad_row` meets its contract. Assumes nothing.
 use native.Mathlib.Omega.{arith}
 use Rattle.table_checks.proofs.TableLaws.{bad-high, bad-patch, bad-failed}
 use borrow.Author.Needs.{needs}

@@ -1,4 +1,4 @@
--- `body::table::not_whole` meets its contract. Assumes nothing.
+-- `table_checks::table::not_whole` meets its contract. Assumes nothing.
 use Rattle.table_checks.proofs.TableLaws.{whole-not, whole-many}
 use borrow.Author.Needs.{needs}
 use Rattle.table_checks.proofs.table.not_whole.Statement.{statement}

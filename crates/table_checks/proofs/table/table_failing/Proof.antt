@@ -1,4 +1,4 @@
--- `body::table::table_failing` meets its contract. Assumes nothing.
+-- `table_checks::table::table_failing` meets its contract. Assumes nothing.
 use Rattle.table_checks.specs.TableFirst.{whole-passed, fails-11, fails-12, fails-13, fails-14, fails-none}
 use borrow.Author.Needs.{needs}
 use Rattle.table_checks.proofs.table.table_failing.Statement.{statement}

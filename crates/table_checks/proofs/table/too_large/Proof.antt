@@ -1,4 +1,4 @@
--- `body::table::too_large` meets its contract. Assumes nothing.
+-- `table_checks::table::too_large` meets its contract. Assumes nothing.
 use Rattle.table_checks.proofs.TableLaws.{large-totals}
 use borrow.Author.Needs.{needs}
 use Rattle.table_checks.proofs.table.too_large.Statement.{statement}

@@ -1,4 +1,4 @@
--- `body::table::wrong_lengths` meets its contract. Assumes nothing.
+-- `table_checks::table::wrong_lengths` meets its contract. Assumes nothing.
 use Rattle.table_checks.specs.TableFirst.{lengths-positions, lengths-normals, lengths-indices}
 use borrow.Author.Needs.{needs}
 use Rattle.table_checks.proofs.table.wrong_lengths.Statement.{statement}
