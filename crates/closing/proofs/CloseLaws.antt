@@ -15,12 +15,13 @@ use Rattle.results.specs.declared.answer.Stitched.the-variants.{Done, Refused}
 use Rattle.stitched.specs.StitchedBody.{stitchedBody}
 use Rattle.copying.specs.Copied.{BodyRoom, BodyCopied, flat-rows, flat-positions, flat-normals, flat-indices, flat-table}
 use Rattle.counting.specs.Counting.{BodyCounted}
-use Rattle.counting.specs.Prepared.{Preparable, Prepared}
+use Rattle.counting.specs.Prepared.{Prepared}
 use Rattle.results.specs.Results.{resultChecks, ResultFits, result-fits}
 use Rattle.results.specs.Stitched.{StitchReady, BodyStitched, result-refused, result-written, words-needed}
 use Rattle.writing.specs.Writing.{BodyWritable, BodyWritten}
 use Rattle.copying.specs.Put.{Puttable}
 use Rattle.closing.proofs.OpenLaws.{vertices-are, indices-many, rows-many, splits-is, rows-there, writable, table-is, positions-is, normals-is, indices-is, rest-written, rest-counted, kept-there}
+use Rattle.edges.specs.Area.{AreaReady}
 
 -- a result that passed its checks fits
 pub sizes-fit : {vertices indices m r p n i refusal : ℕ} → refusal ≡ firstFailing (resultChecks vertices indices m r p n i) → refusal ≡ 0 → ResultFits vertices indices m r p n i
@@ -38,7 +39,7 @@ module _ {table : List ℕ} {ps ns : List Float} {is W : List ℕ} {v m : ℕ} (
   rows-few = omega (arith, g .rows, g .passed .rows)
 
   -- the work area can be made ready
-  pub preparable : Preparable table ps is W v m
+  pub preparable : AreaReady table ps is W v m
   preparable =
       record {
         body =

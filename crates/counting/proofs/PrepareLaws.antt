@@ -12,9 +12,10 @@ use Rattle.body.specs.Body.{rowsOf}
 use Rattle.projection.specs.Beyond.{Beyond}
 use Rattle.loose.specs.Listed.{bodyVertices, Gathered}
 use Rattle.loose.specs.Open.{Marked, bodyUses, flagOf}
-use Rattle.counting.specs.Prepared.{Preparable, Prepared}
+use Rattle.counting.specs.Prepared.{Prepared}
+use Rattle.edges.specs.Area.{AreaReady}
 
-module _ {table : List ℕ} {ps : List Float} {is W : List ℕ} {v m : ℕ} (g : Preparable table ps is W v m) where
+module _ {table : List ℕ} {ps : List Float} {is W : List ℕ} {v m : ℕ} (g : AreaReady table ps is W v m) where
   module _ {n list flags : ℕ} (en : n ≡ length is) (el : list ≡ 4 * v + 4 * m) (ef : flags ≡ list + 3 * n) {X : List ℕ} (k : Marked table ps is v m W X) (ex : length X ≡ length W) where
     -- all is in its place
     pub all-prepared : {count : ℕ} {E : List ℕ} {sag beyond : Float} → Gathered table is v list flags X E count → length E ≡ length X → Beyond sag beyond

@@ -8,17 +8,11 @@ use Rattle.points.specs.Rule.{names}
 use Rattle.points.specs.Points.{key}
 use Rattle.body.specs.Body.{rowsOf}
 use Rattle.loose.specs.Listed.{bodyVertices}
-use Rattle.edges.specs.Area.{Layable}
 use Rattle.loose.specs.Open.{bodyUses, flagOf}
 use Rattle.splits.specs.declared.finder.Finder.{Finder}
 use Rattle.counting.specs.Counting.{BodyReady}
 
--- what it asks: a body whose open edges can be marked, and the words that 31 counts
-pub record Preparable (table : List ℕ) (ps : List Float) (is W : List ℕ) (v m : ℕ) : Type 0 where
-  pub body : Layable table ps is W v m
-  pub enough : 16 * length is + 16 * m + 4 * v ≤ length W
-
--- what it leaves: names, flags and loose vertices in their places, and all behind the words that 31 counts as it was
+-- what making it ready leaves: names, flags and loose vertices in their places, and all behind the words that 31 counts as it was
 pub record Prepared (table : List ℕ) (ps : List Float) (is : List ℕ) (sag : Float) (v m : ℕ) (W E : List ℕ) (f : Finder) : Type 0 where
   pub ready : BodyReady table ps is (f .sag) (f .beyond) (f .v) (f .list) (f .count) (f .at) (f .ts) (f .flags) E
   pub sag-is : f .sag ≡ sag

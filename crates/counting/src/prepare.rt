@@ -1,7 +1,8 @@
 // The work area made ready for finding splits.
 
 use splits::Finder;
-ghost use Rattle.counting.specs.Prepared.{Preparable, Prepared};
+ghost use Rattle.counting.specs.Prepared.{Prepared};
+ghost use Rattle.edges.specs.Area.{AreaReady};
 
 // The open edges of a body of v vertices and m rows are marked and its loose vertices listed; the answer says where they stand.
 pub fn prepare(
@@ -13,7 +14,7 @@ pub fn prepare(
     m: usize,
     sag: f64,
 ) -> Finder
-    requires { ⌜ Preparable (now rows) (now positions) (now indices) (now w) v m ⌝ }
+    requires { ⌜ AreaReady (now rows) (now positions) (now indices) (now w) v m ⌝ }
     ensures { λ r. ⌜ Prepared (now (rows .entry)) (now (positions .entry)) (now (indices .entry)) sag v m (now (w .entry)) (now (w .exit)) r ⌝ }
 {
     let n = indices.len();

@@ -33,6 +33,11 @@ pub record Layable (table : List ℕ) (ps : List Float) (is W : List ℕ) (v m :
   pub inside : (k j : ℕ) → k < length (rowsOf table) → j < rowAt table k .indices → getD is (indicesBefore (rowsOf table) k + j) 0 < rowAt table k .vertices
   pub room : usesEnd v m (length is) ≤ length W
 
+-- what working on a body in its area asks: that its uses can be laid out, and the words that 31 counts
+pub record AreaReady (table : List ℕ) (ps : List Float) (is W : List ℕ) (v m : ℕ) : Type 0 where
+  pub body : Layable table ps is W v m
+  pub enough : 16 * length is + 16 * m + 4 * v ≤ length W
+
 -- what listing the uses' runs leaves behind three words of each use, names first: Y became Z
 pub record RunsListed (table is W : List ℕ) (points shells at : ℕ) (Y Z : List ℕ) : Type 0 where
   pub runs : take (length is) (drop (at + 3 * length is) Z) ≡ map useRun (usesIn table is W points shells)

@@ -25,7 +25,7 @@ use Rattle.walk.specs.Walk.{coloured}
 use Rattle.walk.specs.Uses.{pairsBy}
 use Rattle.walk.specs.Area.{usesOf, Sound}
 use Rattle.walk.specs.Links.{uses-front, sound-kept}
-use Rattle.edges.specs.Area.{usesEnd}
+use Rattle.edges.specs.Area.{usesEnd, AreaReady}
 use Rattle.pairs.specs.Laid.{usesAt, Laid}
 use Rattle.orient.specs.declared.turning.Counts.{Counts}
 use Rattle.orient.specs.declared.turning.Turned.the-variants.{Done, Refused}
@@ -35,11 +35,11 @@ use Rattle.reversal.specs.Reversal.{swapped}
 use Rattle.reversal.specs.Reversed.{Reversible, Reversed, changedRows, coordinates, indexCount, normals-turned, indices-turned}
 use Rattle.groups.specs.Walked.{walksOver, Walkable, GroupsWalked}
 use Rattle.orient.specs.Normals.{walks-any-normals}
-use Rattle.orient.specs.Turned.{Colourable, Coloured, left, leftDone, answered, turnDone}
+use Rattle.orient.specs.Turned.{Coloured, left, leftDone, answered, turnDone}
 
 -- ---- the colours
 
-module _ {table : List ℕ} {ps : List Float} {is W : List ℕ} {v m n at end : ℕ} (g : Colourable table ps is W v m) (en : n ≡ length is) (ea : at ≡ 4 * v + 4 * m + n) (ee : end ≡ at + 5 * n + 5 * m) {X : List ℕ} (d : Laid table ps is v m W X) (long : length X ≡ length W) where
+module _ {table : List ℕ} {ps : List Float} {is W : List ℕ} {v m n at end : ℕ} (g : AreaReady table ps is W v m) (en : n ≡ length is) (ea : at ≡ 4 * v + 4 * m + n) (ee : end ≡ at + 5 * n + 5 * m) {X : List ℕ} (d : Laid table ps is v m W X) (long : length X ≡ length W) where
   -- the part that is lent holds the uses
   abbrev Part : List ℕ
   Part = midOf at (end - at) X
@@ -108,7 +108,7 @@ module _ {table : List ℕ} {ps ns : List Float} {is : List ℕ} (W : List ℕ) 
   needed = omega (arith, words-are W p ev em en)
 
   -- its rows can be coloured
-  pub colourable : Colourable table ps is W v m
+  pub colourable : AreaReady table ps is W v m
   colourable =
       record {
         body =

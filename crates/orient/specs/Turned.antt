@@ -2,7 +2,7 @@
 use mathlib.Core.Path.{_≡_}
 use mathlib.Core.Bool.{true, false}
 use mathlib.Core.List.{List}
-use Prim.Native.Nat.{ℕ, _+_, _*_, _≤_}
+use Prim.Native.Nat.{ℕ, _+_, _*_}
 use lib.ListN.{length, take, drop}
 use lib.Dec.{eqb}
 use lib.Ieee.{Float}
@@ -11,7 +11,6 @@ use Rattle.points.specs.Rule.{names}
 use Rattle.points.specs.Points.{key}
 use Rattle.join.specs.Join.{joined}
 use Rattle.body.specs.Body.{rowsOf, patchesOf}
-use Rattle.edges.specs.Area.{Layable}
 use Rattle.orient.specs.declared.turning.Counts.{Counts}
 use Rattle.orient.specs.declared.turning.Turned.{Turned}
 use Rattle.orient.specs.declared.turning.Turned.the-variants.{Done, Refused}
@@ -19,16 +18,11 @@ use Rattle.orient.specs.Orient.{AfterTurn, walksOf, turnBody}
 
 -- ---- the colours
 
--- what colouring the rows asks: a body whose uses can be laid out, and the words that 31 counts
-pub record Colourable (table : List ℕ) (ps : List Float) (is W : List ℕ) (v m : ℕ) : Type 0 where
-  pub body : Layable table ps is W v m
-  pub enough : 16 * length is + 16 * m + 4 * v ≤ length W
-
 -- where the colours stand in the work area of a body of v vertices, m rows and n indices
 abbrev pub rowColoursAt : ℕ → ℕ → ℕ → ℕ
 rowColoursAt v m n = 4 * v + 6 * m + 6 * n
 
--- what it leaves: the definition's colours and contradictions, and all behind the words that 31 counts as it was
+-- what colouring the rows leaves: the definition's colours and contradictions, and all behind the words that 31 counts as it was
 pub record Coloured (table : List ℕ) (ps : List Float) (is : List ℕ) (v m : ℕ) (W E : List ℕ) (against : ℕ) : Type 0 where
   pub colours : take m (drop (rowColoursAt v m (length is)) E) ≡ walksOf (shapes table ps is) (joined (names key ps)) .colours
   pub total : against ≡ walksOf (shapes table ps is) (joined (names key ps)) .against

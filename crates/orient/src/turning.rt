@@ -5,7 +5,8 @@ ghost use lib.ListN.{length};
 ghost use Rattle.points.specs.Points.{key};
 ghost use Rattle.checks.specs.Accepted.{Passed};
 ghost use Rattle.orient.specs.Orient.{turnOf};
-ghost use Rattle.orient.specs.Turned.{Colourable, Coloured, left, leftDone, answered, turnDone};
+ghost use Rattle.orient.specs.Turned.{Coloured, left, leftDone, answered, turnDone};
+ghost use Rattle.edges.specs.Area.{AreaReady};
 
 // How many rows were turned, and how often a pair that contradicts colours was met.
 pub struct Counts {
@@ -28,7 +29,7 @@ fn colour_rows(
     v: usize,
     m: usize,
 ) -> u64
-    requires { ⌜ Colourable (now rows) (now positions) (now indices) (now w) v m ⌝ }
+    requires { ⌜ AreaReady (now rows) (now positions) (now indices) (now w) v m ⌝ }
     ensures { λ r. ⌜ Coloured (now (rows .entry)) (now (positions .entry)) (now (indices .entry)) v m (now (w .entry)) (now (w .exit)) r ⌝ }
 {
     let n = indices.len();
