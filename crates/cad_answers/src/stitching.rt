@@ -2,7 +2,6 @@
 
 use results::Stitched;
 ghost use mathlib.Core.Path.{_≡_};
-ghost use Rattle.points.specs.Points as Points;
 ghost use Rattle.cad_answers.specs.Stitching.{cadStitched};
 
 // 0 for the refusal, the vertices and indices of the stitched body and the points that split a triangle; or the refusal's number and zeros.

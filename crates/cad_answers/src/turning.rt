@@ -2,7 +2,6 @@
 
 use orient::Turned;
 ghost use mathlib.Core.Path.{_≡_};
-ghost use Rattle.points.specs.Points as Points;
 ghost use Rattle.cad_answers.specs.Turning.{cadTurned};
 
 // 0 for the refusal, the rows turned and how often a pair that contradicts colours was met; or the refusal's number, 0 and 0.

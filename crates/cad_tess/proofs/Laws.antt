@@ -12,24 +12,31 @@ use Rattle.checks.specs.BodyChecks.{loneChecks}
 use Rattle.geometry.specs.declared.Aabb.{Aabb}
 use Rattle.alone.specs.declared.alone.Measured.{Measured}
 use Rattle.alone.specs.declared.alone.Judged.{Judged}
+use Rattle.alone.specs.declared.alone.Measured.the-variants as Measure
+use Rattle.alone.specs.declared.alone.Judged.the-variants as Judge
 use Rattle.geometry.specs.Geometry.{zero64}
-use Rattle.alone.specs.Alone.{alone, volumeAlone, farthestAlone, escapesAlone}
+use Rattle.alone.specs.Alone.{Alone, alone, volumeAlone, farthestAlone, escapesAlone}
 use Rattle.patch_volume.specs.Volume.{patchVolume}
 use Rattle.reach.specs.Reach.{farthest, escapesBody}
-use Rattle.alone.specs.Answers.{measuredOf, judgedOf, measuredAs, judgedAs}
+use Rattle.alone.specs.Answers.{answerOr, measuredOf, judgedOf, measuredAs, judgedAs}
 use Rattle.cad_answers.specs.declared.patch.CadMeasured.{CadMeasured}
 use Rattle.cad_answers.specs.declared.patch.CadJudged.{CadJudged}
 use Rattle.cad_answers.specs.Answers.{cadMeasured, cadJudged}
 
--- a number or a refusal has the numbers it was made of
-measured-numbers : (n : ℕ) (x : Float) → measuredAs (measuredOf (record { refusal = n; answer = cond (eqb n 0) x zero64 })) ≡ record { refusal = n; answer = cond (eqb n 0) x zero64 }
-measured-numbers zero x = refl
-measured-numbers (suc n) x = rw (ne-eqb (suc n) 0 (λ h. omega (arith, h)))
+-- an answer or a refusal, made of numbers, gives these back
+numbers-back : {A B : Type 0} (value : A → B) (refuse : ℕ → B) (numbers : B → Alone A) (none : A) → ((x : A) → numbers (value x) ≡ record { refusal = 0; answer = x })
+    → ((n : ℕ) → numbers (refuse n) ≡ record { refusal = n; answer = none }) → (n : ℕ) (x : A)
+    → numbers (answerOr value refuse (record { refusal = n; answer = cond (eqb n 0) x none })) ≡ record { refusal = n; answer = cond (eqb n 0) x none }
+numbers-back value refuse numbers none given refused zero x = given x
+numbers-back value refuse numbers none given refused (suc n) x = rw (ne-eqb (suc n) 0 (λ h. omega (arith, h))) (refused (suc n))
 
--- a verdict or a refusal has the numbers it was made of
+-- so does a measure,
+measured-numbers : (n : ℕ) (x : Float) → measuredAs (measuredOf (record { refusal = n; answer = cond (eqb n 0) x zero64 })) ≡ record { refusal = n; answer = cond (eqb n 0) x zero64 }
+measured-numbers = numbers-back Measure.Value Measure.Refused measuredAs zero64 (λ x. refl) (λ n. refl)
+
+-- and a verdict
 judged-numbers : (n : ℕ) (b : Bool) → judgedAs (judgedOf (record { refusal = n; answer = cond (eqb n 0) b false })) ≡ record { refusal = n; answer = cond (eqb n 0) b false }
-judged-numbers zero b = refl
-judged-numbers (suc n) b = rw (ne-eqb (suc n) 0 (λ h. omega (arith, h)))
+judged-numbers = numbers-back Judge.Verdict Judge.Refused judgedAs false (λ b. refl) (λ n. refl)
 
 module _ (ps ns : List Float) (is : List ℕ) {r : CadMeasured} {m : Measured} (e : r ≡ cadMeasured (measuredAs m)) where
   -- the struct of a volume
