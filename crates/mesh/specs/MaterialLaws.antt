@@ -111,7 +111,7 @@ materials-rise [] = tt
 materials-rise (l ∷ ls) = rising-insert (l .material) 0 (materialsOf ls) (omega arith) (materials-rise ls)
 
 -- what a rising list has is not below its start
-rising-has : (y low : ℕ) (xs : List ℕ) → Rising low xs → Has y xs → low ≤ y
+pub rising-has : (y low : ℕ) (xs : List ℕ) → Rising low xs → Has y xs → low ≤ y
 rising-has y low [] r h = absurd h
 rising-has y low (x ∷ xs) r (inl e) = let l = r .0 in omega arith
 rising-has y low (x ∷ xs) r (inr h) = let l = r .0 in let m = rising-has y (suc x) xs (r .1) h in omega arith

@@ -3,7 +3,7 @@ use mathlib.Core.Path.{_≡_, refl, ap, _∙_}
 use mathlib.Core.Logic.{inl, inr}
 use mathlib.Core.Bool.{Bool, cond}
 use mathlib.Core.List.{List, [], _∷_, flatMap}
-use Prim.Native.Nat.{ℕ, suc, _+_, _≤_, _<_}
+use Prim.Native.Nat.{ℕ, suc, _+_, _<_}
 use native.Mathlib.Omega.{arith}
 use borrow.Author.Tests.{eq-eqb, ne-eqb}
 use lib.ListN.{length, length-append}
@@ -11,7 +11,7 @@ use lib.Dec.{eqb}
 use Rattle.lists.specs.Lists.{sumOf}
 use Rattle.mesh.specs.Mesh.{Laid, materialsOf, runOf, runsOf}
 use Rattle.lists.specs.Members.{Has}
-use Rattle.mesh.specs.MaterialLaws.{laidMaterials, materials-have, Rising, materials-rise}
+use Rattle.mesh.specs.MaterialLaws.{laidMaterials, materials-have, Rising, rising-has, materials-rise}
 
 -- what a patch adds to the runs of some materials
 added : ℕ → List ℕ → List ℕ → ℕ
@@ -36,15 +36,10 @@ added-all n xs low (m ∷ ms) r (inl z) =
     let f = added-none n xs (suc m) ms (r .1) (omega arith) in
     omega arith
 added-all n xs low (m ∷ ms) r (inr k) =
-    let a = above n (suc m) ms (r .1) k in
+    let a = rising-has n (suc m) ms (r .1) k in
     let e = ap (λ (b : Bool). length (cond b xs [])) (ne-eqb n m (λ z. absurd (omega arith))) in
     let f = added-all n xs (suc m) ms (r .1) k in
     omega arith
-  where
-    above : (y b : ℕ) (xs : List ℕ) → Rising b xs → Has y xs → b ≤ y
-    above y b [] p q = absurd q
-    above y b (x ∷ xs) p (inl e) = let l = p .0 in omega arith
-    above y b (x ∷ xs) p (inr q) = let l = p .0 in let k = above y (suc x) xs (p .1) q in omega arith
 
 -- the runs with a patch in front
 runs-more : (l : Laid) (ls : List Laid) (ms : List ℕ) → length (flatMap (runOf (l ∷ ls)) ms) ≡ added (l .material) (l .indices) ms + length (flatMap (runOf ls) ms)

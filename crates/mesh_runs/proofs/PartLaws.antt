@@ -2,7 +2,7 @@
 use mathlib.Core.Path.{_≡_, refl, sym, ap, _∙_, subst}
 use mathlib.Core.List.{List, [], _∷_, _++_, flatMap, append-assoc, append-nil}
 use Prim.Native.Nat.{ℕ, suc, _+_, _-_, _*_, _/_, _≤_, _<_}
-use native.Mathlib.Nat.{le-of-suc-le-suc, lt-of-not-le}
+use native.Mathlib.Nat.{le-of-suc-le-suc}
 use native.Mathlib.Omega.{arith}
 use native.Mathlib.Decide.{ℕ-discrete}
 use lib.ListN.{length, getD, take, drop, length-append, length-drop}
@@ -23,6 +23,7 @@ use Rattle.mesh.specs.Parts.{laidIn, RunsWritable, RunsWritten}
 use Rattle.mesh_runs.specs.Order.{placeWord, orderWord, Orderable, RowAt, Ordered, RowsOrdered, OrderRoom, FirstAccepted}
 use Rattle.mesh_runs.specs.Runs.{RunWritable, RunWritten}
 use Rattle.mesh_runs.specs.declared.runs.RunEnd.{RunEnd}
+use Rattle.mesh_runs.proofs.RunLaws.{not-above}
 
 -- ---- what the runs go by
 
@@ -68,10 +69,6 @@ parts-three : (ls : List Laid) (ms : List ℕ) → length (flatMap (partOf ls) m
 unfolding flatMap partOf
 parts-three ls [] = refl
 parts-three ls (m ∷ ms) = let e = parts-three ls ms in omega arith
-
--- what isn't above is at most as high
-not-above : {a b : ℕ} → (a < b → ⊥) → b ≤ a
-not-above h = le-of-suc-le-suc (lt-of-not-le h)
 
 -- ---- the words made ready
 

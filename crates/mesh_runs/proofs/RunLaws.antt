@@ -21,6 +21,11 @@ use Rattle.mesh.specs.RowLaws.{judged-here, judged-long, sum-here}
 use Rattle.mesh_runs.specs.Order.{basesBefore}
 use Rattle.mesh_runs.specs.Runs.{RowRunnable, RowRun, RunWritable}
 use Rattle.mesh_runs.proofs.OrderLaws.{bases-next, bases-low}
+use native.Mathlib.Nat.{le-of-suc-le-suc, lt-of-not-le}
+
+-- what isn't above is at most as high
+pub not-above : {a b : ℕ} → (a < b → ⊥) → b ≤ a
+not-above h = le-of-suc-le-suc (lt-of-not-le h)
 
 -- what the rows before row k have that are wanted
 abbrev pub before : List ℕ → List ℕ → ℕ → ℕ → ℕ → ℕ

@@ -4,7 +4,6 @@ use mathlib.Core.List.{List}
 use Prim.Native.Nat.{ℕ, _+_, _-_, _*_, _/_, _%_, _≤_, _<_}
 use native.Mathlib.Omega.{arith}
 use native.Mathlib.Decide.{ℕ-discrete}
-use native.Mathlib.Nat.{le-of-suc-le-suc, lt-of-not-le}
 use borrow.Author.Count.{below-more}
 use lib.ListN.{length, getD}
 use Rattle.lists.specs.Stretches.{front-at, rest-at}
@@ -14,7 +13,7 @@ use Rattle.body.specs.Patches.{indices-room}
 use Rattle.mesh.specs.JudgedRows.{judgedIn}
 use Rattle.mesh_runs.specs.Order.{basesBefore, orderWord, RowAt}
 use Rattle.mesh_runs.specs.Runs.{RowRunnable, RowRun, RunWritable, RunWritten}
-use Rattle.mesh_runs.proofs.RunLaws.{Reached, reached-none, reached-ready, reached-row, reached-skip, reached-run, reached-end}
+use Rattle.mesh_runs.proofs.RunLaws.{Reached, reached-none, reached-ready, reached-row, reached-skip, reached-run, reached-end, not-above}
 
 -- the words before place p are written, which are those of the rows before row k: W became E, and out became new, where the indices end at o
 pub record Walking (table is W : List ℕ) (at starts order m first wanted : ℕ) (out : List ℕ) (start p o : ℕ) (E new : List ℕ) : Type 0 where
@@ -55,13 +54,10 @@ module _ {table is W : List ℕ} {at starts order m first wanted : ℕ} {out : L
     no-row top q f a b l e =
         let s = g .ordered .stands q b in
         let x : getD W (order + s .place) 0 ≡ wanted * 4096 + q = s .is ∙ ap (λ (d : ℕ). orderWord d q) e in
-        let y : p ≤ s .place = not-less (λ h. absurd (low (s .place) h x)) in
+        let y : p ≤ s .place = not-above (λ h. absurd (low (s .place) h x)) in
         let z = f (s .place) y (s .low) in
         absurd (omega arith)
       where
-        not-less : {x y : ℕ} → (x < y → ⊥) → y ≤ x
-        not-less h = le-of-suc-le-suc (lt-of-not-le h)
-
         low : (i : ℕ) → i < p → getD W (order + i) 0 ≡ wanted * 4096 + q → ⊥
         low i h x = let u = c .passed i h in absurd (omega arith)
 
