@@ -7,11 +7,11 @@ use native.Mathlib.Omega.{arith}
 use lib.ListN.{length, getD, drop, drop-of-length-le}
 use Rattle.lists.specs.Lists.{sumOf}
 use Rattle.body.specs.Body.{Row, rowsOf, allVertices, allIndices}
-use Rattle.body.specs.Rows.{rowAt}
+use Rattle.body.specs.Rows.{rowAt, rows-here}
 use Rattle.acceptance.specs.declared.totals.Totals.{Totals}
 use Rattle.acceptance.specs.Judged.{acceptedRows, decisionsIn}
 use Rattle.acceptance.specs.JudgedLaws.{accepted-few, accepted-fewer, accepted-most}
-use Rattle.acceptance.specs.RestLaws.{rows-here, decisions-here, rows-no, rows-yes}
+use Rattle.acceptance.specs.RestLaws.{decisions-here, rows-no, rows-yes, rows-none}
 use Rattle.acceptance.specs.Totals.{totalsWith, RowAddable, TotalsReady, Totalled}
 
 -- a row whose decision is 0 adds nothing
@@ -81,13 +81,9 @@ module _ {table W : List ℕ} {at : ℕ} (g : TotalsReady table W at) {k : ℕ} 
   unfolding acceptedRows allVertices allIndices sumOf
   totalling-all l =
       let e : left table W at k ≡ [] =
-      ap (λ (rows : List Row). acceptedRows (drop k (decisionsIn table W at)) rows) (drop-of-length-le (rowsOf table) l) ∙ none-left (drop k (decisionsIn table W at)) in
+      ap (λ (rows : List Row). acceptedRows (drop k (decisionsIn table W at)) rows) (drop-of-length-le (rowsOf table) l) ∙ rows-none (drop k (decisionsIn table W at)) in
       record {
         rows-are = omega (arith, ap length e, c .rows-are);
         vertices-are = omega (arith, ap allVertices e, c .vertices-are);
         indices-are = omega (arith, ap allIndices e, c .indices-are);
       }
-    where
-      none-left : (ds : List ℕ) → acceptedRows ds [] ≡ []
-      none-left [] = refl
-      none-left (d ∷ ds) = refl

@@ -1,6 +1,6 @@
 -- The patches from row k on: what they begin with, and what decisions make of them. Assumes nothing.
 use mathlib.Core.Path.{_≡_, refl, ap, _∙_}
-use mathlib.Core.List.{List, _∷_}
+use mathlib.Core.List.{List, [], _∷_}
 use Prim.Native.Nat.{ℕ, zero, suc, _+_, _*_, _≤_, _<_}
 use native.Mathlib.Omega.{arith}
 use lib.ListN.{length, getD, drop, length-drop}
@@ -8,18 +8,13 @@ use lib.Seq.{drop-drop, drop-cons, length-take-le}
 use lib.Ieee.{Float}
 use Rattle.lists.specs.Stretches.{stretch-at}
 use Rattle.body.specs.Body.{Row, Patch, rowsOf, patchesOf}
-use Rattle.body.specs.Rows.{noRow, rowAt}
+use Rattle.body.specs.Rows.{rowAt, rows-here}
 use Rattle.body.specs.Patches.{patchFrom}
 use Rattle.acceptance.specs.Judged.{acceptedRows, decisionsIn}
 
 -- the patches from row k on, whose vertices start at `base` and whose indices at i
 abbrev pub restOf : List ℕ → List Float → List Float → List ℕ → ℕ → ℕ → ℕ → List Patch
 restOf table ps ns is k base i = patchesOf (drop k (rowsOf table)) (drop (3 * base) ps) (drop (3 * base) ns) (drop i is)
-
--- the rows from row k on begin with it
-pub rows-here : (table : List ℕ) (k : ℕ) → k < length (rowsOf table) → drop k (rowsOf table) ≡ rowAt table k ∷ drop (k + 1) (rowsOf table)
-unfolding rowAt
-rows-here table k h = let f : suc k ≡ k + 1 = omega arith in drop-cons (rowsOf table) k noRow h ∙ ap (λ (x : ℕ). rowAt table k ∷ drop x (rowsOf table)) f
 
 -- the patches from row k on begin with its own
 pub rest-here : (table : List ℕ) (ps ns : List Float) (is : List ℕ) (k base i : ℕ) → k < length (rowsOf table)
@@ -52,3 +47,9 @@ pub rows-yes : {ds es : List ℕ} {rs ss : List Row} (d : ℕ) {r : Row} → ds 
 unfolding acceptedRows
 rows-yes zero e f n = absurd (n refl)
 rows-yes (suc m) e f n = λ j. acceptedRows (e j) (f j)
+
+-- where no row is left none is accepted
+pub rows-none : (ds : List ℕ) → acceptedRows ds [] ≡ []
+unfolding acceptedRows
+rows-none [] = refl
+rows-none (d ∷ ds) = refl

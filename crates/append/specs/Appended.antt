@@ -40,6 +40,10 @@ module _ {A : Type 0} where
             ∙ ap (λ (n : ℕ). drop n out) (sym e);
       }
 
+  -- from the place p where the first ended
+  pub appended-then : {o p : ℕ} {xs ys out mid new : List A} → Appended o xs out mid → p ≡ o + length xs → Appended p ys mid new → Appended o (xs ++ ys) out new
+  appended-then {ys = ys} {mid = mid} {new = new} a e b = appended-twice a (subst (λ (n : ℕ). Appended n ys mid new) e b)
+
   -- what was appended from place 0 on was written to the front
   pub appended-written : {xs out new : List A} → Appended 0 xs out new → new ≡ written xs out
   unfolding written
@@ -70,9 +74,7 @@ module _ {A : Type 0} where
 
   -- what was appended behind p items that were appended is appended to them
   pub behind : {p : ℕ} {xs ys out mid new : List A} → Appended 0 xs out mid → length xs ≡ p → Appended p ys mid new → Appended 0 (xs ++ ys) out new
-  behind {p} {xs} {ys} {out} {mid} {new} a e b =
-      let f : p ≡ 0 + length xs = omega arith in
-      appended-twice a (subst (λ (n : ℕ). Appended n ys mid new) f b)
+  behind a e b = appended-then a (omega arith) b
 
   -- a part with a front before it and a rest behind it is at most as long as the whole
   pub part-low : (xs ys zs all : List A) → xs ++ (ys ++ zs) ≡ all → length xs + length ys ≤ length all

@@ -1,6 +1,6 @@
 -- The first check that fails, and what tests that did not fail give. Assumes nothing.
 use mathlib.Core.Path.{_≡_, refl}
-use mathlib.Core.Bool.{Bool, true, false, _&&_, _||_, cond}
+use mathlib.Core.Bool.{Bool, true, false, cond}
 use mathlib.Core.List.{List, [], _∷_, _++_}
 use Prim.Native.Nat.{ℕ, suc, _<_}
 use native.Mathlib.Omega.{arith}
@@ -71,30 +71,3 @@ first-on (x ∷ xs) ys p h = go (x .fails) (ltb 0 (x .number)) (x .number) (ltb-
     go b false n l q e r = absurd (apart q)
     go true true n l q e r = absurd (above n (l refl) e)
     go false true n l q e r = r q e
-
--- ---- two tests
--- neither of two: not the first
-pub or-left : (a b : Bool) → (a || b) ≡ false → a ≡ false
-or-left true b h = h
-or-left false b h = refl
-
--- not the second
-pub or-right : (a b : Bool) → (a || b) ≡ false → b ≡ false
-or-right true b h = absurd (no h)
-  where
-    no : true ≡ false → ⊥
-    no r = let x : _≡_ {A = ℕ} 0 1 = cc in omega arith
-or-right false b h = h
-
--- both of two: the first
-pub and-left : (a b : Bool) → (a && b) ≡ true → a ≡ true
-and-left true b h = refl
-and-left false b h = h
-
--- the second
-pub and-right : (a b : Bool) → (a && b) ≡ true → b ≡ true
-and-right true b h = h
-and-right false b h = absurd (no h)
-  where
-    no : false ≡ true → ⊥
-    no r = let x : _≡_ {A = ℕ} 0 1 = cc in omega arith

@@ -9,7 +9,7 @@ use lib.ListN.{length, getD, take, drop, length-drop, take-append-drop}
 use lib.Seq.{drop-drop}
 use lib.Ieee.{Float}
 use Rattle.lists.specs.Lists.{any, sumOf}
-use Rattle.lists.specs.Any.{any-append, sum-more, sum-front}
+use Rattle.lists.specs.Any.{any-append, sum-more, sum-front, sum-room}
 use Rattle.body.specs.Body.{Row, Patch, rowsOf, patchesOf, allVertices, allIndices}
 use Rattle.body.specs.Rows.{noRow, rowAt, verticesBefore, indicesBefore}
 
@@ -86,12 +86,12 @@ indices-front rows k = sum-front (λ r. r .indices) rows k
 -- a row's indices end within all
 pub indices-room : (rows : List Row) (k : ℕ) → k < length rows → indicesBefore rows k + getD rows k noRow .indices ≤ allIndices rows
 unfolding indicesBefore allIndices
-indices-room rows k h = omega (arith, sum-more (λ r. r .indices) rows k noRow h, sum-front (λ r. r .indices) rows (k + 1))
+indices-room rows k h = sum-room (λ r. r .indices) rows k noRow h
 
 -- a row's vertices end within all
 pub vertices-room : (rows : List Row) (k : ℕ) → k < length rows → verticesBefore rows k + getD rows k noRow .vertices ≤ allVertices rows
 unfolding verticesBefore allVertices
-vertices-room rows k h = omega (arith, sum-more (λ r. r .vertices) rows k noRow h, sum-front (λ r. r .vertices) rows (k + 1))
+vertices-room rows k h = sum-room (λ r. r .vertices) rows k noRow h
 
 -- a test of the rows alone
 pub any-row : (f : Row → Bool) (rows : List Row) (ps ns : List Float) (is : List ℕ) → any (λ p. f (p .row)) (patchesOf rows ps ns is) ≡ any f rows
@@ -113,7 +113,7 @@ any-split : (f : Float → Bool) (n : ℕ) (xs : List Float) → (any f (take n 
 any-split f n xs = sym (any-append f (take n xs) (drop n xs)) ∙ ap (any f) (take-append-drop n xs)
 
 -- what is left of a slice for the rows that are left
-left-length : (v w : ℕ) (xs : List Float) → length xs ≡ 3 * (v + w) → length (drop (3 * v) xs) ≡ 3 * w
+pub left-length : (v w : ℕ) (xs : List Float) → length xs ≡ 3 * (v + w) → length (drop (3 * v) xs) ≡ 3 * w
 left-length v w xs h = simp length-drop (omega arith)
 
 -- Check 23 looks at every position and normal of a body whose slices are as long as its rows say.

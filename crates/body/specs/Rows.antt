@@ -5,8 +5,9 @@ use Prim.Native.Nat.{ℕ, zero, suc, _+_, _*_, _/_, _≤_, _<_}
 use native.Mathlib.Nat.{add-zero, le-of-suc-le-suc, not-suc-le-zero}
 use native.Mathlib.Omega.{arith}
 use lib.ListN.{length, getD, take, drop}
+use lib.Seq.{drop-cons}
 use Rattle.lists.specs.Lists.{sumOf}
-use Rattle.body.specs.Body.{Row, rowsOf, allVertices, allIndices}
+use Rattle.body.specs.Body.{Row, rowsOf, tableOf, allVertices, allIndices}
 
 -- a row of zeros: what lies past the end
 abbrev pub noRow : Row
@@ -15,6 +16,17 @@ noRow = record { shell = 0; face = 0; outcome = 0; vertices = 0; indices = 0 }
 -- row k of the flat table
 unfoldable pub rowAt : List ℕ → ℕ → Row
 rowAt table k = getD (rowsOf table) k noRow
+
+-- the rows from row k on begin with it
+pub rows-here : (table : List ℕ) (k : ℕ) → k < length (rowsOf table) → drop k (rowsOf table) ≡ rowAt table k ∷ drop (k + 1) (rowsOf table)
+unfolding rowAt
+rows-here table k h = let e : suc k ≡ k + 1 = omega arith in drop-cons (rowsOf table) k noRow h ∙ ap (λ (n : ℕ). getD (rowsOf table) k noRow ∷ drop n (rowsOf table)) e
+
+-- the flat table of some rows has five numbers for each
+pub table-length : (rows : List Row) → length (tableOf rows) ≡ 5 * length rows
+unfolding tableOf
+table-length [] = refl
+table-length (r ∷ rs) = let e = table-length rs in omega arith
 
 -- number j of a row, as it stands in the flat table: shell, face, outcome, vertices, indices
 abbrev pub column : ℕ → Row → ℕ

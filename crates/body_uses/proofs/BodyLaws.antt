@@ -8,10 +8,10 @@ use lib.Seq.{sets, length-sets, drop-cons, drop-drop, getD-drop, getD-take, leng
 use Rattle.lists.specs.Any.{sum-all}
 use Rattle.lists.specs.Sets.{getD-sets-below, sets-append}
 use Rattle.body.specs.Body.{Row, rowsOf, trianglesOf, allVertices, allIndices}
-use Rattle.body.specs.Rows.{rowAt, verticesBefore, indicesBefore}
+use Rattle.body.specs.Rows.{rowAt, verticesBefore, indicesBefore, rows-here}
 use Rattle.body.specs.Patches.{before-none, indices-front, indices-next, vertices-front, vertices-next}
 use Rattle.edges.specs.Edges.{Use, triangleUses}
-use Rattle.edges.specs.RowUses.{rows-here, row-inside, uses-agree, names-any-row, runs-any, uses-count}
+use Rattle.edges.specs.RowUses.{row-inside, uses-agree, names-any-row, runs-any, uses-count}
 use Rattle.edges.specs.Named.{useName, useRun, rowUses, rowNumbers, RowReady, NameReady, BodyReady, NamesReady, RowsRoom}
 use Rattle.edges.specs.UseLaws.{length-named}
 

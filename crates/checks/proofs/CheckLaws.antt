@@ -18,7 +18,8 @@ use Rattle.patch_checks.specs.PatchChecks.{badIndices, patchChecks}
 use Rattle.checks.specs.BodyChecks.{bodyChecks, loneTable, loneChecks}
 use Rattle.table_checks.specs.TableTests.{notWhole}
 use Rattle.patch_checks.specs.PatchTests.{partTriangle, notFinite, any-indices}
-use Rattle.body.specs.Checks.{numbered, or-left, or-right, first-here, first-next, first-none, first-stop, first-on}
+use Rattle.body.specs.Checks.{numbered, first-here, first-next, first-none, first-stop, first-on}
+use Rattle.lists.specs.Both.{or-left, or-right}
 use Rattle.body.specs.Rows.{Total, WholeRows}
 use Rattle.table_checks.specs.TableFirst as Table
 use Rattle.patch_checks.specs.PatchFirst as Patch′

@@ -20,7 +20,8 @@ use Rattle.checks.specs.BodyChecks.{bodyChecks, loneTable, loneChecks}
 use Rattle.body.specs.Rows.{rowAt, noRow, indicesBefore, verticesBefore, WholeRows}
 use Rattle.body.specs.Patches.{noPatch, patchFrom, patch-at, length-patches, indices-room, any-row, any-number}
 use Rattle.patch_checks.specs.PatchTests.{partTriangle, notFinite}
-use Rattle.body.specs.Checks.{clear-first, or-left, or-right}
+use Rattle.body.specs.Checks.{clear-first}
+use Rattle.lists.specs.Both.{or-left, or-right}
 use Rattle.table_checks.specs.Tabled.{Tabled, tabled-by, tabled}
 use Rattle.patch_checks.specs.Patched.{Patched, patched}
 

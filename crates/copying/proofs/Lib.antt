@@ -1,4 +1,3 @@
 -- The laws that the proofs of this crate cite, by subject.
-pub mod CopyLaws
 pub mod UnsplitLaws
 pub mod PutLaws

@@ -8,9 +8,8 @@ use lib.Seq.{drop-drop}
 use lib.Ieee.{Float}
 use Rattle.lists.specs.Stretches.{stretch-front, stretch-kept, front-less}
 use Rattle.body.specs.Body.{Row, trianglesOf, rowsOf}
-use Rattle.body.specs.Rows.{rowAt, verticesBefore, indicesBefore}
+use Rattle.body.specs.Rows.{rowAt, verticesBefore, indicesBefore, rows-here}
 use Rattle.body.specs.Patches.{indices-room, vertices-room}
-use Rattle.edges.specs.RowUses.{rows-here}
 use Rattle.counting.specs.Views.{View, rowViews, bodyViews}
 use Rattle.counting.specs.Counting.{viewsIn, BodyReady}
 

@@ -1,5 +1,5 @@
 -- Laws of the triangles of one row: their views, and what stands in front of the entries is kept. Assumes nothing.
-use mathlib.Core.Path.{_≡_, refl, sym, ap, _∙_, subst}
+use mathlib.Core.Path.{_≡_, refl, sym, ap, _∙_}
 use mathlib.Core.List.{List, [], _∷_}
 use Prim.Native.Nat.{ℕ, suc, _+_, _-_, _*_, _%_, _<_, _≤_}
 use native.Mathlib.Omega.{arith}
@@ -7,9 +7,9 @@ use lib.ListN.{length, getD, take, drop, length-drop}
 use lib.Seq.{length-take-le}
 use lib.Ieee.{Float}
 use Rattle.lists.specs.Lists.{sumOf}
-use Rattle.lists.specs.Stretches.{stretch-three, stretch-kept, front-at, front-less}
+use Rattle.lists.specs.Stretches.{stretch-three, stretch-kept, front-at, front-less, stretch-three-at}
 use Rattle.body.specs.Body.{trianglesOf}
-use Rattle.loose.specs.Listed.{nameIn, CornerAt}
+use Rattle.loose.specs.Listed.{CornerAt, listed-kept}
 use Rattle.splits.specs.Entries.{entriesOf, entriesIn}
 use Rattle.splits.specs.Found.{triangleFound, triangleKept}
 use Rattle.counting.specs.Views.{View, sidesAt, viewOf, rowViews, foundIn, keptIn}
@@ -33,13 +33,7 @@ pub stands-kept : {ps : List Float} {sag beyond : Float} {n v list count at ts f
     → Stands ps sag beyond n v list count at ts flags E
 stands-kept {ps} {sag} {beyond} {n} {v} {list} {count} {at} {ts} {flags} {W} {E} s e l =
     record {
-      listed =
-          record {
-            behind = s .listed .behind;
-            room = omega (arith, s .listed .room);
-            below = λ j b. subst (λ (x : ℕ). x < v) (sym (word j b)) (s .listed .below j b);
-            rising = λ j k a b. omega (arith, name j (omega arith), name k b, s .listed .rising j k a b);
-          };
+      listed = listed-kept {at = at} (s .listed) (omega (arith, s .flags-behind, s .behind)) e l;
       few = s .few;
       all = s .all;
       flags-behind = s .flags-behind;
@@ -49,12 +43,6 @@ stands-kept {ps} {sag} {beyond} {n} {v} {list} {count} {at} {ts} {flags} {W} {E}
       small = s .small;
       far = s .far;
     }
-  where
-    word : (j : ℕ) → j < count → getD E (list + j) 0 ≡ getD W (list + j) 0
-    word j b = front-at at (list + j) W E 0 e (omega (arith, s .flags-behind, s .behind))
-
-    name : (j : ℕ) → j < count → nameIn E list j ≡ nameIn W list j
-    name j b = ap (λ (x : ℕ). getD E x 0) (word j b) ∙ front-at at (getD W (list + j) 0) W E 0 e (omega (arith, s .listed .below j b, s .listed .behind, s .flags-behind, s .behind))
 
 -- the triangles before index k are counted: W became E
 pub record Counting (ps : List Float) (is : List ℕ) (sag : Float) (v list count at ts flags base from to found kept : ℕ) (W : List ℕ) (total new k : ℕ) (E : List ℕ) : Type 0 where
@@ -96,13 +84,7 @@ module _ {ps : List Float} {is : List ℕ} {sag beyond : Float} {n v list count 
 
     -- the flags from k on
     flags-three : take (to - k) (drop (flags + k) W) ≡ getD W (flags + k) 0 ∷ getD W (flags + k + 1) 0 ∷ getD W (flags + k + 2) 0 ∷ take (to - (k + 3)) (drop (flags + (k + 3)) W)
-    flags-three =
-        let e : flags + to - (flags + k) ≡ to - k = omega arith in
-        let f : flags + to - (flags + k + 3) ≡ to - (k + 3) = omega arith in
-        let h : flags + k + 3 ≡ flags + (k + 3) = omega arith in
-        ap (λ (m : ℕ). take m (drop (flags + k) W)) (sym e)
-        ∙ stretch-three W (flags + k) (flags + to) 0 (omega (arith, three)) (omega (arith, g .inside, g .stands .behind, g .stands .apart, g .stands .room))
-        ∙ (λ i. getD W (flags + k) 0 ∷ getD W (flags + k + 1) 0 ∷ getD W (flags + k + 2) 0 ∷ take (f i) (drop (h i) W))
+    flags-three = stretch-three-at W flags k to 0 three (omega (arith, g .inside, g .stands .behind, g .stands .apart, g .stands .room))
 
     -- the view of the triangle at k
     abbrev pub view : View

@@ -7,6 +7,7 @@ use Prim.Native.Nat.{ℕ, zero, suc, _+_, _*_, _/_, _%_, _^_, _≤_, _<_}
 use native.Mathlib.Nat.{add-zero, mul-one, mod-one, add-mul, mul-assoc, add-assoc, mod-lt, mod-eq-of-lt, div-add-mod', add-mul-mod-self-right, mul-le-mul-right, one-le-pow, pow-succ', suc-mul, zero-mul, zero-add, div-lt-iff-lt-mul, le-div-iff-mul-le}
 use native.Mathlib.Omega.{arith}
 use lib.Dec.{T, leb, ltb, eqb, eqb→eq, leb→le}
+use lib.Ieee.Fits.{and-l, and-r}
 use borrow.Author.Tests.{lt-ltb, le-ltb, ne-eqb, ltb-true, ltb-false}
 use Rattle.digits.specs.Digits.{digitByte, digitOf, digits, hex, decimalTo, decimal, found, hexFrom, readHex, decimalFrom, below32, readDecimal}
 
@@ -17,18 +18,10 @@ abbrev everyBelow : (ℕ → Bool) → ℕ → Bool
 everyBelow f zero = true
 everyBelow f (suc n) = f 0 && everyBelow (λ d. f (suc d)) n
 
-pub and-left : (a b : Bool) → T (a && b) → T a
-and-left true b t = tt
-and-left false b t = t
-
-pub and-right : (a b : Bool) → T (a && b) → T b
-and-right true b t = t
-and-right false b t = absurd t
-
 below-passes : (f : ℕ → Bool) (n : ℕ) → T (everyBelow f n) → (d : ℕ) → d < n → T (f d)
 below-passes f zero t d h = absurd (omega arith)
-below-passes f (suc n) t zero h = and-left (f 0) (everyBelow (λ d. f (suc d)) n) t
-below-passes f (suc n) t (suc d) h = below-passes (λ d. f (suc d)) n (and-right (f 0) (everyBelow (λ d. f (suc d)) n) t) d (omega arith)
+below-passes f (suc n) t zero h = and-l (f 0) (everyBelow (λ d. f (suc d)) n) t
+below-passes f (suc n) t (suc d) h = below-passes (λ d. f (suc d)) n (and-r (f 0) (everyBelow (λ d. f (suc d)) n) t) d (omega arith)
 
 pub digit-back : (d : ℕ) → d < 16 → digitOf (digitByte d) ≡ d
 unfolding digitOf digitByte

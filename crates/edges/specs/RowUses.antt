@@ -5,7 +5,7 @@ use Prim.Native.Nat.{ℕ, suc, _+_, _-_, _%_, _≤_, _<_}
 use native.Mathlib.Nat.{zero-add, not-suc-le-zero}
 use native.Mathlib.Omega.{arith}
 use lib.ListN.{length, getD, take, drop, replicate, length-append, length-take, length-drop}
-use lib.Seq.{drop-cons, getD-drop, getD-take, length-take-le}
+use lib.Seq.{getD-drop, getD-take, length-take-le}
 use Rattle.lists.specs.Lists.{sumOf}
 use Rattle.lists.specs.Any.{each-append, each-copy}
 use Rattle.body.specs.Body.{Row, Triangle, rowsOf, trianglesOf, allVertices, allIndices}
@@ -14,11 +14,6 @@ use Rattle.edges.specs.Edges.{Use, triangleUses}
 use Rattle.edges.specs.Named.{useName, useRun, useRow, rowUses, rowNumbers}
 
 -- ---- row k of a table
-
--- the rows from row k on begin with it
-pub rows-here : (table : List ℕ) (k : ℕ) → k < length (rowsOf table) → drop k (rowsOf table) ≡ rowAt table k ∷ drop (k + 1) (rowsOf table)
-unfolding rowAt
-rows-here table k h = let e : suc k ≡ k + 1 = omega arith in drop-cons (rowsOf table) k noRow h ∙ ap (λ (n : ℕ). getD (rowsOf table) k noRow ∷ drop n (rowsOf table)) e
 
 -- its indices, by their places among all from i up to `end`, are of its vertices
 pub row-inside : (table is : List ℕ) (k : ℕ) → ((j : ℕ) → j < rowAt table k .indices → getD is (indicesBefore (rowsOf table) k + j) 0 < rowAt table k .vertices)

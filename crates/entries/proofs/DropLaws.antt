@@ -4,10 +4,10 @@ use mathlib.Core.Bool.{Bool, true, false}
 use mathlib.Core.List.{List, [], _∷_, _++_, append-assoc, append-nil}
 use Prim.Native.Nat.{ℕ, suc, _+_, _-_, _<_, _≤_}
 use native.Mathlib.Omega.{arith}
-use lib.ListN.{length, getD, take, drop, set, length-set, length-drop}
-use lib.Seq.{drop-cons, take-suc, getD-drop, getD-set-same, getD-set-other, length-take-le, take-set-le, drop-set-lt}
+use lib.ListN.{length, getD, take, drop, set, length-set}
+use lib.Seq.{drop-cons, getD-set-same, getD-set-other, take-set-le, drop-set-lt}
 use Rattle.lists.specs.Stretches.{stretch-kept}
-use Rattle.splits.specs.Entries.{EntriesHeld, EntriesKept, Entry, closeTo, copied, dropAfter, entries-append, entriesIn, entriesOf, entryAt, entryOf, keptEntries}
+use Rattle.splits.specs.Entries.{EntriesHeld, EntriesKept, Entry, closeTo, copied, dropAfter, entriesIn, entriesOf, entryAt, entryOf, keptEntries, entries-more}
 
 -- the entries from place j up to `count`
 abbrev entriesFrom : List ℕ → ℕ → ℕ → ℕ → ℕ → List Entry
@@ -21,14 +21,6 @@ words-cons W at j count l h =
     ap (λ (n : ℕ). take n (drop (at + j) W)) e
     ∙ ap (take (suc (count - (j + 1)))) (drop-cons W (at + j) 0 (omega arith))
     ∙ ap (λ (n : ℕ). getD W (at + j) 0 ∷ take (count - (j + 1)) (drop n W)) f
-
--- and ends with its last
-words-snoc : (W : List ℕ) (at k : ℕ) → at + k < length W → take (k + 1) (drop at W) ≡ take k (drop at W) ++ getD W (at + k) 0 ∷ []
-words-snoc W at k l =
-    let e : k + 1 ≡ suc k = omega arith in
-    ap (λ (n : ℕ). take n (drop at W)) e
-    ∙ take-suc (drop at W) k 0 (omega (arith, length-drop at W))
-    ∙ ap (λ (x : ℕ). take k (drop at W) ++ x ∷ []) (getD-drop at W k 0)
 
 module _ {at ts count : ℕ} {W : List ℕ} (h : EntriesHeld at ts count W) where
   -- the entries from place j begin with that at j
@@ -44,14 +36,6 @@ module _ {at ts count : ℕ} {W : List ℕ} (h : EntriesHeld at ts count W) wher
   entries-none j l =
       let e : count - j ≡ 0 = omega arith in
       ap (λ (n : ℕ). entriesOf (take n (drop (at + j) W)) (take n (drop (ts + j) W))) e
-
-  -- the entries up to place k end with that at k
-  entries-snoc : (k : ℕ) → k < count → entriesIn W at ts (k + 1) ≡ entriesIn W at ts k ++ entryAt W at ts k ∷ []
-  entries-snoc k l =
-      ap (λ (v : List ℕ). entriesOf v (take (k + 1) (drop ts W))) (words-snoc W at k (omega (arith, h .apart, h .room)))
-      ∙ ap (entriesOf (take k (drop at W) ++ getD W (at + k) 0 ∷ [])) (words-snoc W ts k (omega (arith, h .room)))
-      ∙ entries-append (take k (drop at W)) (take k (drop ts W)) (getD W (at + k) 0) (getD W (ts + k) 0)
-      (length-take-le k (drop at W) (omega (arith, length-drop at W, h .apart, h .room)) ∙ sym (length-take-le k (drop ts W) (omega (arith, length-drop ts W, h .room))))
 
 -- ---- the definition
 
@@ -101,7 +85,7 @@ module _ {at ts count : ℕ} {W : List ℕ} (h : EntriesHeld at ts count W) wher
         low = omega arith;
         high = omega arith;
         entries =
-            ap (λ (v : List Entry). v ++ dropAfter (entryAt W at ts 0) (entriesFrom W at ts 1 count)) (entries-snoc h 0 l)
+            ap (λ (v : List Entry). v ++ dropAfter (entryAt W at ts 0) (entriesFrom W at ts 1 count)) (entries-more W at ts 0 (omega (arith, h .apart, h .room)) (omega (arith, h .room)))
             ∙ sym (ap keptEntries (all ∙ entries-cons h 0 l));
         words = λ i a b. refl;
         parameters = λ i a b. refl;
@@ -178,9 +162,6 @@ module _ {at ts count : ℕ} {W : List ℕ} (h : EntriesHeld at ts count W) wher
         f-long : length F ≡ length W
         f-long = length-set A (ts + kept) (getD E (ts + j) 0) ∙ a-long
 
-        f-held : EntriesHeld at ts count F
-        f-held = record { apart = h .apart; room = omega (arith, h .room, f-long) }
-
         -- the entries kept before are as they were
         before : entriesIn F at ts kept ≡ entriesIn E at ts kept
         before =
@@ -203,7 +184,7 @@ module _ {at ts count : ℕ} {W : List ℕ} (h : EntriesHeld at ts count W) wher
 
         kept-more : entriesIn F at ts (kept + 1) ≡ entriesIn E at ts kept ++ entryAt W at ts j ∷ []
         kept-more =
-            entries-snoc f-held kept (omega (arith, s .low))
+            entries-more F at ts kept (omega (arith, h .apart, h .room, s .low, f-long)) (omega (arith, h .room, s .low, f-long))
             ∙ ap (λ (v : List Entry). v ++ entryAt F at ts kept ∷ []) before
             ∙ ap (λ (v : Entry). entriesIn E at ts kept ++ v ∷ []) new
 

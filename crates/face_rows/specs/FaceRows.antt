@@ -2,7 +2,6 @@
 use mathlib.Core.Path.{_≡_, refl, ap, _∙_}
 use mathlib.Core.List.{List, [], _∷_, map}
 use Prim.Native.Nat.{ℕ, _*_}
-use native.Mathlib.Omega.{arith}
 use lib.ListN.{length, getD, length-map, List·getD-map}
 use Rattle.body.specs.Body as Body
 use Rattle.body.specs.Body.{rowsOf, tableOf}
@@ -31,19 +30,13 @@ unfolding rowsOf tableOf
 table-rows [] = refl
 table-rows (r ∷ rs) = ap (λ (rest : List Body.Row). r ∷ rest) (table-rows rs)
 
--- and five numbers for each
-table-length : (rows : List Body.Row) → length (tableOf rows) ≡ 5 * length rows
-unfolding tableOf
-table-length [] = refl
-table-length (r ∷ rs) = let e = table-length rs in omega arith
-
 -- The flat table's rows are the slice's,
 pub flat-rows : (rows : List Row) → rowsOf (flat rows) ≡ map bodyRow rows
 flat-rows rows = table-rows (map bodyRow rows)
 
 -- it is whole rows, as many as the slice has,
 pub flat-length : (rows : List Row) → length (flat rows) ≡ 5 * length rows
-flat-length rows = table-length (map bodyRow rows) ∙ ap (λ (n : ℕ). 5 * n) (length-map rows bodyRow)
+flat-length rows = Flat.table-length (map bodyRow rows) ∙ ap (λ (n : ℕ). 5 * n) (length-map rows bodyRow)
 
 -- and its row k is row k of the slice, past the end too.
 pub flat-row : (rows : List Row) (k : ℕ) → Flat.rowAt (flat rows) k ≡ bodyRow (rowAt rows k)

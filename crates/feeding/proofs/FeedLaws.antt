@@ -7,10 +7,10 @@ use native.Mathlib.Numerals.{add-one}
 use native.Mathlib.Omega.{arith}
 use borrow.Author.Tests.{eqb-true, leb-true, leb-false, ne-eqb}
 use lib.Dec.{T, leb, eqb}
+use lib.Ieee.Fits.{and-i, and-l, and-r}
 use lib.ListN.{length, getD, take, length-take}
 use lib.Seq.{length-take-le, take-all, take-nil, take-suc}
 use Rattle.digits.specs.Given.{Wrote}
-use Rattle.digits.specs.ReadBack.{and-left, and-right}
 use Rattle.digits.specs.Wrote.{take-again}
 use Rattle.line_order.specs.Laws.{long-line, noLF, read-end, read-line}
 use Rattle.line_order.specs.Reading.{State, cut, finished, readFrom, readLine, sheetOf}
@@ -24,7 +24,7 @@ use Rattle.answer.specs.Answer.{refusalLine}
 use Rattle.finisher.specs.Answered.{answerIn}
 use Rattle.feeding.specs.declared.Fed.{Fed}
 use Rattle.feeding.specs.Feeding.{Ended, Fed-on, SoFar}
-use Rattle.lists.specs.Both.{both-left}
+use Rattle.lists.specs.Both.{and-left}
 
 -- ---- a byte is put behind the others
 
@@ -45,14 +45,10 @@ holds-put line tail k c line' n h w =
     record { buffer = front; count = sym (length-take-le n line' (omega (arith, w .within, w .long))) ∙ ap length front }
 
 -- ---- no line feed
-both : (a b : Bool) → T a → T b → T (a && b)
-both true b s t = t
-both false b s t = absurd s
-
 plain-more : (xs : List ℕ) (c : ℕ) → T (noLF xs) → eqb c 10 ≡ false → T (noLF (xs ++ c ∷ []))
-plain-more [] c t q = both (not (eqb c 10)) true (subst (λ (b : Bool). T (not b)) (sym q) tt) tt
+plain-more [] c t q = and-i (not (eqb c 10)) true (subst (λ (b : Bool). T (not b)) (sym q) tt) tt
 plain-more (x ∷ xs) c t q =
-    both (not (eqb x 10)) (noLF (xs ++ c ∷ [])) (and-left (not (eqb x 10)) (noLF xs) t) (plain-more xs c (and-right (not (eqb x 10)) (noLF xs) t) q)
+    and-i (not (eqb x 10)) (noLF (xs ++ c ∷ [])) (and-l (not (eqb x 10)) (noLF xs) t) (plain-more xs c (and-r (not (eqb x 10)) (noLF xs) t) q)
 
 -- ---- a line that was cut off at the buffer's end is refused as the whole line is
 same-line : (s : State) (tail : List ℕ) (L : ℕ) → 108 ≤ L → readLine s (take L tail) ≡ readLine s tail
@@ -122,7 +118,7 @@ same-end s front xs q = rw q
 -- slices with room for the next line are within the limits
 limits-fit : (r : Reader) (table : List ℕ) (p n i m : ℕ) → fitsIn r table p n i m ≡ true → inLimits r (length table) p n i m ≡ true
 unfolding fitsIn
-limits-fit r table p n i m e = both-left (inLimits r (length table) p n i m) _ e
+limits-fit r table p n i m e = and-left (inLimits r (length table) p n i m) _ e
 
 limits-ended : (r : Reader) (rest : List ℕ) (t p n i m : ℕ) → inLimits (ended r rest) t p n i m ≡ inLimits r t p n i m
 unfolding ended inLimits

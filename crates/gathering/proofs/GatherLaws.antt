@@ -6,7 +6,7 @@ use Prim.Native.Nat.{ℕ, suc, _+_, _-_, _%_, _<_, _≤_}
 use native.Mathlib.Omega.{arith}
 use lib.ListN.{length, getD, take, drop, drop-of-length-le}
 use lib.Seq.{drop-drop, drop-cons}
-use Rattle.lists.specs.Stretches.{stretch-front, stretch-three, front-less, rest-less, rest-at}
+use Rattle.lists.specs.Stretches.{stretch-front, stretch-three, front-less, rest-less, rest-at, stretch-three-at}
 use Rattle.body.specs.Body.{Row, trianglesOf, rowsOf, allIndices}
 use Rattle.body.specs.Rows.{noRow, rowAt, verticesBefore, indicesBefore}
 use Rattle.body.specs.Patches.{before-none, indices-front, indices-next, indices-room, vertices-next, vertices-room}
@@ -100,13 +100,7 @@ module _ {is : List ℕ} {v at count base vertices from to flags : ℕ} {W : Lis
 
     -- the flags from k on
     flags-three : take (to - k) (drop (flags + k) W) ≡ getD W (flags + k) 0 ∷ getD W (flags + k + 1) 0 ∷ getD W (flags + k + 2) 0 ∷ take (to - (k + 3)) (drop (flags + (k + 3)) W)
-    flags-three =
-        let e : flags + to - (flags + k) ≡ to - k = omega arith in
-        let f : flags + to - (flags + k + 3) ≡ to - (k + 3) = omega arith in
-        let h : flags + k + 3 ≡ flags + (k + 3) = omega arith in
-        ap (λ (n : ℕ). take n (drop (flags + k) W)) (sym e)
-        ∙ stretch-three W (flags + k) (flags + to) 0 (omega (arith, three)) (omega (arith, g .room))
-        ∙ (λ i. getD W (flags + k) 0 ∷ getD W (flags + k + 1) 0 ∷ getD W (flags + k + 2) 0 ∷ take (f i) (drop (h i) W))
+    flags-three = stretch-three-at W flags k to 0 three (omega (arith, g .room))
 
     -- the definition takes the same step
     step : (R : List ℕ) → rowVertices (take v W) base (take (to - (k + 3)) (drop (flags + (k + 3)) W)) (trianglesOf (take (to - (k + 3)) (drop (k + 3) is))) (withTriangle (take v W) base is W flags k R)

@@ -10,7 +10,7 @@ use lib.ListN.{length, getD, take, drop, set, length-set, length-drop}
 use lib.Seq.{getD-take, getD-set-same, getD-set-other, length-take-le, take-set-le, take-set-lt, drop-set-lt, drop-set-add}
 use lib.Dec.{ltb, eqb}
 use borrow.Author.Tests.{eq-eqb, ne-eqb, lt-ltb, le-ltb, eqb-true, ltb-true}
-use Rattle.body.specs.Checks.{and-left, and-right}
+use Rattle.lists.specs.Both.{and-left, and-right}
 use Rattle.lists.specs.Stretches.{front-at, front-less, stretch-at}
 use Rattle.loose.specs.Put.{put, put-front, put-rest, put-low, put-here, put-high, put-words}
 use Rattle.loose.specs.Listed.{insertVertex, nameIn, Position, Moved, Insertable, Inserted}

@@ -6,8 +6,9 @@ use mathlib.Core.Path.{_≡_, refl, _∙_, ap}
 use Prim.Native.Nat.{ℕ, _<_}
 use native.Mathlib.Omega.{arith}
 use lib.Dec.{T, eqb}
+use lib.Ieee.Bits.{is-false}
+use lib.Ieee.Fits.{and-l, and-r}
 use borrow.Author.Tests.{eq-eqb}
-use Rattle.digits.specs.ReadBack.{and-left, and-right}
 use lib.ListN.{length}
 use Rattle.lines.specs.Lengths.{line-length}
 use Rattle.lines.specs.Forms.{Line, lineOf}
@@ -20,24 +21,20 @@ abbrev pub noLF : List ℕ → Bool
 noLF [] = true
 noLF (x ∷ xs) = not (eqb x 10) && noLF xs
 
-not-true : (b : Bool) → T (not b) → b ≡ false
-not-true true t = absurd t
-not-true false t = refl
-
 -- a line and its LF are cut off
 pub cut-line : (l rest : List ℕ) → T (noLF l) → cut (l ++ 10 ∷ rest) ≡ l ∷ cut rest
 unfolding cut intoFirst
 cut-line [] rest t = refl
 cut-line (x ∷ xs) rest t =
-    let e : eqb x 10 ≡ false = not-true (eqb x 10) (and-left (not (eqb x 10)) (noLF xs) t) in
-    rw (e, cut-line xs rest (and-right (not (eqb x 10)) (noLF xs) t), cut)
+    let e : eqb x 10 ≡ false = is-false (eqb x 10) (and-l (not (eqb x 10)) (noLF xs) t) in
+    rw (e, cut-line xs rest (and-r (not (eqb x 10)) (noLF xs) t), cut)
 
 pub cut-rest : (rest : List ℕ) → T (noLF rest) → cut rest ≡ rest ∷ []
 unfolding cut intoFirst
 cut-rest [] t = refl
 cut-rest (x ∷ xs) t =
-    let e : eqb x 10 ≡ false = not-true (eqb x 10) (and-left (not (eqb x 10)) (noLF xs) t) in
-    rw (e, cut-rest xs (and-right (not (eqb x 10)) (noLF xs) t), cut)
+    let e : eqb x 10 ≡ false = is-false (eqb x 10) (and-l (not (eqb x 10)) (noLF xs) t) in
+    rw (e, cut-rest xs (and-r (not (eqb x 10)) (noLF xs) t), cut)
 
 -- the text is cut into one piece at least
 cut-some : (text : List ℕ) (s : State) (l : List ℕ) → readFrom s (l ∷ cut text) ≡ readFrom (readLine s l) (cut text)

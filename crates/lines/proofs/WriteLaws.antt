@@ -1,10 +1,10 @@
 -- The laws of writing a line by a form: what is written and what is left to write make the form's text. Assumes nothing.
 use mathlib.Core.List.{List, [], _∷_, _++_, append-nil, append-assoc}
 use mathlib.Core.Path.{_≡_, refl, sym, _∙_, ap, subst}
-use Prim.Native.Nat.{ℕ, zero, suc, _+_, _-_, _≤_, _<_}
+use Prim.Native.Nat.{ℕ, _+_, _-_, _≤_, _<_}
 use native.Mathlib.Nat.{add-zero}
 use native.Mathlib.Omega.{arith}
-use lib.ListN.{length, getD, drop, drop-of-length-le}
+use lib.ListN.{length, getD, drop, drop-of-length-le, List·getD-eq-default}
 use Rattle.digits.specs.Given.{Wrote}
 use Rattle.digits.specs.Next.{next}
 use Rattle.digits.specs.Wrote.{wrote-none, wrote-then}
@@ -14,9 +14,7 @@ use Rattle.lines.specs.Scan.{Numbers}
 use Rattle.lines.proofs.PieceLaws.{itself, piece-byte}
 
 pub past-end : (xs : List ℕ) (i : ℕ) → length xs ≤ i → 0 ≡ getD xs i 0
-past-end [] i h = refl
-past-end (x ∷ xs) zero h = absurd (omega arith)
-past-end (x ∷ xs) (suc i) h = past-end xs i (omega arith)
+past-end xs i h = sym (List·getD-eq-default xs 0 h)
 
 -- ---- one piece
 pub put-none : (E : List ℕ) (at c n : ℕ) → at ≤ length E → (c ≡ 35 → ⊥) → (c ≡ 36 → ⊥) → (c ≡ 42 → ⊥) → Wrote E at (printNumber (piece c) n) E at

@@ -1,11 +1,12 @@
 -- What is read is exactly what is printed: a line that has a form is the form's text of its numbers. Assumes nothing.
-use mathlib.Core.Bool.{Bool, true, false, _&&_}
+use mathlib.Core.Bool.{Bool, true, false}
 use mathlib.Core.List.{List, [], _∷_, _++_}
 use mathlib.Core.Option.{Option, none, some}
 use mathlib.Core.Path.{_≡_, refl, sym, _∙_, ap, subst}
 use Prim.Native.Nat.{ℕ, _^_, _<_}
 use native.Mathlib.Omega.{arith}
 use lib.Dec.{T, ltb, lt→ltb, eqb}
+use lib.Ieee.Fits.{and-i}
 use borrow.Author.Tests.{eqb-true}
 use Rattle.digits.specs.Exact.{readDecimal-small, hex-small, hex-exact, number-exact}
 use Rattle.digits.specs.Digits.{digits, decimal, Found, readHex, readDecimal}
@@ -81,10 +82,6 @@ spaced-value f bound small (x ∷ xs) g e = go (eqb x 32) refl
     go true q = small xs g (rw (q, spaced) at e)
     go false q = let n : none ≡ some g = rw (q, spaced) at e in let z : _≡_ {A = ℕ} 0 1 = cc in absurd (omega arith)
 
-and-both : (a b : Bool) → T a → T b → T (a && b)
-and-both true b s t = t
-and-both false b s t = s
-
 -- The numbers of a line that has a form are as many as the form has and not too large.
 pub read-fits : (ps : List Piece) (xs ns : List ℕ) → read ps xs ≡ some ns → T (fits ps ns)
 unfolding read
@@ -98,11 +95,11 @@ read-fits (Word w ∷ ps) xs ns e = go (afterWord w xs) refl (λ rest. read-fits
 read-fits (Bits k ∷ ps) xs ns e =
     let r = spaced-then (spaced (readHex k) xs) ps ns e in
     subst (λ (ms : List ℕ). T (fits (Bits k ∷ ps) ms)) (r .4)
-    (and-both (ltb (r .0 .value) (16 ^ k)) (fits ps (r .1)) (lt→ltb (r .0 .value) (16 ^ k) (spaced-value (readHex k) (16 ^ k) (hex-small k) xs (r .0) (r .2))) (read-fits ps (r .0 .rest) (r .1) (r .3)))
+    (and-i (ltb (r .0 .value) (16 ^ k)) (fits ps (r .1)) (lt→ltb (r .0 .value) (16 ^ k) (spaced-value (readHex k) (16 ^ k) (hex-small k) xs (r .0) (r .2))) (read-fits ps (r .0 .rest) (r .1) (r .3)))
 read-fits (Number ∷ ps) xs ns e =
     let r = spaced-then (spaced readDecimal xs) ps ns e in
     subst (λ (ms : List ℕ). T (fits (Number ∷ ps) ms)) (r .4)
-    (and-both (ltb (r .0 .value) (2 ^ 32)) (fits ps (r .1)) (lt→ltb (r .0 .value) (2 ^ 32) (spaced-value readDecimal (2 ^ 32) readDecimal-small xs (r .0) (r .2))) (read-fits ps (r .0 .rest) (r .1) (r .3)))
+    (and-i (ltb (r .0 .value) (2 ^ 32)) (fits ps (r .1)) (lt→ltb (r .0 .value) (2 ^ 32) (spaced-value readDecimal (2 ^ 32) readDecimal-small xs (r .0) (r .2))) (read-fits ps (r .0 .rest) (r .1) (r .3)))
 
 among-fits : (ks : List Kind) (xs : List ℕ) (l : Line) → lineAmong ks xs ≡ some l → T (fits (form (l .kind)) (l .numbers))
 unfolding lineAmong

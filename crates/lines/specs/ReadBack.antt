@@ -5,8 +5,9 @@ use mathlib.Core.Option.{some}
 use mathlib.Core.Path.{_≡_, refl}
 use Prim.Native.Nat.{ℕ, _^_, _<_}
 use lib.Dec.{T, leb, ltb, eqb, ltb→lt}
+use lib.Ieee.Fits.{and-l, and-r}
 use borrow.Author.Tests.{eq-eqb}
-use Rattle.digits.specs.ReadBack.{and-left, and-right, readHex-hex, readDecimal-decimal, noDigit}
+use Rattle.digits.specs.ReadBack.{readHex-hex, readDecimal-decimal, noDigit}
 use Rattle.digits.specs.Digits.{digitOf}
 use Rattle.lines.specs.Forms.{Piece, Word, Bits, Number, print, afterWord, spaced, read, form, numbers}
 use Rattle.lines.specs.declared.Kind.{Kind}
@@ -62,13 +63,13 @@ read-print [] (n ∷ ns) r f = absurd f
 read-print (Word w ∷ ps) ns r f = rw (afterWord-word w (print ps ns), read) (read-print ps ns r f)
 read-print (Bits k ∷ ps) [] r f = absurd f
 read-print (Bits k ∷ ps) (n ∷ ns) r f =
-    let h : n < 16 ^ k = ltb→lt n (16 ^ k) (and-left (ltb n (16 ^ k)) (fits ps ns) f) in
-    rw (readHex-hex k n (print ps ns) h, read-print ps ns r (and-right (ltb n (16 ^ k)) (fits ps ns) f), read)
+    let h : n < 16 ^ k = ltb→lt n (16 ^ k) (and-l (ltb n (16 ^ k)) (fits ps ns) f) in
+    rw (readHex-hex k n (print ps ns) h, read-print ps ns r (and-r (ltb n (16 ^ k)) (fits ps ns) f), read)
 read-print (Number ∷ ps) [] r f = absurd f
 read-print (Number ∷ ps) (n ∷ ns) r f =
-    let h : n < 2 ^ 32 = ltb→lt n (2 ^ 32) (and-left (ltb n (2 ^ 32)) (fits ps ns) f) in
-    let g : T (fits ps ns) = and-right (ltb n (2 ^ 32)) (fits ps ns) f in
-    rw (readDecimal-decimal n (print ps ns) h (opens-print ps ns (and-left (opens ps) (readable ps) r) g), read-print ps ns (and-right (opens ps) (readable ps) r) g, read)
+    let h : n < 2 ^ 32 = ltb→lt n (2 ^ 32) (and-l (ltb n (2 ^ 32)) (fits ps ns) f) in
+    let g : T (fits ps ns) = and-r (ltb n (2 ^ 32)) (fits ps ns) f in
+    rw (readDecimal-decimal n (print ps ns) h (opens-print ps ns (and-l (opens ps) (readable ps) r) g), read-print ps ns (and-r (opens ps) (readable ps) r) g, read)
 
 -- Every form of the sheet reads back.
 pub forms-read-back : (k : Kind) → T (readable (form k))

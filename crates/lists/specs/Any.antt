@@ -107,6 +107,10 @@ module _ {A : Type 0} where
   sum-front f (x ∷ xs) zero = omega arith
   sum-front f (x ∷ xs) (suc k) = let i = sum-front f xs k in omega arith
 
+  -- the sum over a front and the item behind it is at most the whole
+  pub sum-room : (f : A → ℕ) (xs : List A) (k : ℕ) (d : A) → k < length xs → sumOf f (take k xs) + f (getD xs k d) ≤ sumOf f xs
+  sum-room f xs k d h = omega (arith, sum-more f xs k d h, sum-front f xs (k + 1))
+
   -- the sum over all items
   pub sum-all : (f : A → ℕ) (xs : List A) (k : ℕ) → length xs ≤ k → sumOf f (take k xs) ≡ sumOf f xs
   sum-all f xs k h = ap (sumOf f) (take-all k xs h)

@@ -4,14 +4,22 @@ use mathlib.Core.Path.{_≡_, refl}
 use Prim.Native.Nat.{ℕ}
 use native.Mathlib.Omega.{arith}
 
-pub both-left : (a b : Bool) → a && b ≡ true → a ≡ true
-both-left true b e = refl
-both-left false b e = e
+-- both of two: the first
+pub and-left : (a b : Bool) → a && b ≡ true → a ≡ true
+and-left true b e = refl
+and-left false b e = e
 
-pub both-right : (a b : Bool) → a && b ≡ true → b ≡ true
-both-right true b e = e
-both-right false b e = let z : _≡_ {A = ℕ} 0 1 = cc in absurd (omega arith)
+-- and the second
+pub and-right : (a b : Bool) → a && b ≡ true → b ≡ true
+and-right true b e = e
+and-right false b e = let z : _≡_ {A = ℕ} 0 1 = cc in absurd (omega arith)
 
-pub either-false : (a b : Bool) → a || b ≡ false → b ≡ false
-either-false true b e = let z : _≡_ {A = ℕ} 0 1 = cc in absurd (omega arith)
-either-false false b e = e
+-- neither of two: not the first
+pub or-left : (a b : Bool) → a || b ≡ false → a ≡ false
+or-left true b e = e
+or-left false b e = refl
+
+-- and not the second
+pub or-right : (a b : Bool) → a || b ≡ false → b ≡ false
+or-right true b e = let z : _≡_ {A = ℕ} 0 1 = cc in absurd (omega arith)
+or-right false b e = e

@@ -45,3 +45,19 @@ module _ {A : Type 0} where
   pub drop-sets : (l : List A) (i : ℕ) (vs : List A) (k : ℕ) → i + length vs ≤ k → drop k (sets l i vs) ≡ drop k l
   drop-sets l i [] k h = refl
   drop-sets l i (a ∷ vs) k h = drop-sets (set l i a) (suc i) vs k (omega arith) ∙ drop-set-lt k l i a (omega arith)
+
+  -- a store behind a run lengthens it
+  stored-more : (l : List A) (i : ℕ) (vs : List A) (v : A) → set (sets l i vs) (i + length vs) v ≡ sets l i (vs ++ v ∷ [])
+  stored-more l i vs v = sym (sets-append l i vs (v ∷ []))
+
+  -- three stores in turn are a run
+  pub three-stored : (l : List A) (i : ℕ) (a b c : A) → set (set (set l i a) (i + 1) b) (i + 2) c ≡ sets l i (a ∷ b ∷ c ∷ [])
+  three-stored l i a b c = ap (λ (m : List A). set m (i + 2) c) (stored-more l i (a ∷ []) b) ∙ stored-more l i (a ∷ b ∷ []) c
+
+  -- so are four
+  pub four-stored : (l : List A) (i : ℕ) (a b c d : A) → set (set (set (set l i a) (i + 1) b) (i + 2) c) (i + 3) d ≡ sets l i (a ∷ b ∷ c ∷ d ∷ [])
+  four-stored l i a b c d = ap (λ (m : List A). set m (i + 3) d) (three-stored l i a b c) ∙ stored-more l i (a ∷ b ∷ c ∷ []) d
+
+  -- and five
+  pub five-stored : (l : List A) (i : ℕ) (a b c d e : A) → set (set (set (set (set l i a) (i + 1) b) (i + 2) c) (i + 3) d) (i + 4) e ≡ sets l i (a ∷ b ∷ c ∷ d ∷ e ∷ [])
+  five-stored l i a b c d e = ap (λ (m : List A). set m (i + 4) e) (four-stored l i a b c d) ∙ stored-more l i (a ∷ b ∷ c ∷ d ∷ []) e

@@ -2,9 +2,10 @@
 use mathlib.Core.Path.{_≡_, refl, sym, ap, _∙_}
 use mathlib.Core.List.{List, [], _∷_, _++_, append-assoc}
 use Prim.Native.Nat.{ℕ, zero, suc, _+_, _-_, _<_, _≤_}
+use native.Mathlib.Numerals.{add-one}
 use native.Mathlib.Omega.{arith}
 use lib.ListN.{length, getD, take, drop, length-drop, List·getD-append}
-use lib.Seq.{sets, sets-eq, drop-cons, getD-take, getD-drop, take-take, drop-drop, take-at, drop-at, take-append-le, drop-append-le, length-take-le}
+use lib.Seq.{sets, sets-eq, take-suc, drop-cons, getD-take, getD-drop, take-take, drop-drop, take-at, drop-at, take-append-le, drop-append-le, length-take-le}
 use borrow.Rule.Slice.PartMut.{midOf, postOf, putMid, take-put, drop-put, mid-len}
 
 module _ {A : Type 0} where
@@ -67,6 +68,24 @@ module _ {A : Type 0} where
       stretch-cons W k to x (omega arith) h
       ∙ ap (λ (v : List A). getD W k x ∷ v) (stretch-cons W (k + 1) to x (omega arith) h ∙ ap (λ (n : ℕ). getD W (k + 1) x ∷ take (to - n) (drop n W)) e)
       ∙ ap (λ (v : List A). getD W k x ∷ getD W (k + 1) x ∷ v) (stretch-cons W (k + 2) to x (omega arith) h ∙ ap (λ (n : ℕ). getD W (k + 2) x ∷ take (to - n) (drop n W)) f)
+
+  -- the same for the words from `at` on, by their places behind it
+  pub stretch-three-at : (W : List A) (at k to : ℕ) (x : A) → k + 3 ≤ to → at + to ≤ length W
+      → take (to - k) (drop (at + k) W) ≡ getD W (at + k) x ∷ getD W (at + k + 1) x ∷ getD W (at + k + 2) x ∷ take (to - (k + 3)) (drop (at + (k + 3)) W)
+  stretch-three-at W at k to x l h =
+      let e : at + to - (at + k) ≡ to - k = omega arith in
+      let f : at + to - (at + k + 3) ≡ to - (k + 3) = omega arith in
+      let g : at + k + 3 ≡ at + (k + 3) = omega arith in
+      ap (λ (n : ℕ). take n (drop (at + k) W)) (sym e)
+      ∙ stretch-three W (at + k) (at + to) x (omega arith) h
+      ∙ (λ i. getD W (at + k) x ∷ getD W (at + k + 1) x ∷ getD W (at + k + 2) x ∷ take (f i) (drop (g i) W))
+
+  -- behind the first n words of a stretch stands the next
+  pub stretch-more : (W : List A) (k n : ℕ) (x : A) → k + n < length W → take (n + 1) (drop k W) ≡ take n (drop k W) ++ getD W (k + n) x ∷ []
+  stretch-more W k n x l =
+      ap (λ (m : ℕ). take m (drop k W)) (add-one n)
+      ∙ take-suc (drop k W) n x (omega (arith, length-drop k W))
+      ∙ ap (λ (y : A). take n (drop k W) ++ y ∷ []) (getD-drop k W n x)
 
   -- where a run of stores stands is what was stored
   pub stretch-sets : (W : List A) (at : ℕ) (vs : List A) (n : ℕ) → length vs ≡ n → at + n ≤ length W → take n (drop at (sets W at vs)) ≡ vs

@@ -4,5 +4,6 @@ pub mod Listed
 pub mod Put
 pub mod Open
 pub mod Insertions
+pub mod Based
 pub mod LooseLaws
 pub mod Evaluation

@@ -1,11 +1,13 @@
 -- Loose points in the work area: a list of vertices, rising by name, in which each stands for its point. Assumes nothing.
-use mathlib.Core.Path.{_≡_}
+use mathlib.Core.Path.{_≡_, sym, ap, _∙_, subst}
 use mathlib.Core.Bool.{Bool, not, _||_, cond}
 use mathlib.Core.List.{List, [], _∷_}
 use Prim.Native.Nat.{ℕ, _+_, _-_, _%_, _<_, _≤_}
+use native.Mathlib.Omega.{arith}
 use lib.ListN.{length, getD, take, drop}
 use lib.Dec.{ltb, eqb}
 use lib.Ieee.{Float}
+use Rattle.lists.specs.Stretches.{front-at}
 use Rattle.body.specs.Body.{Row, Triangle, trianglesOf, rowsOf, allVertices, allIndices}
 use Rattle.body.specs.Rows.{WholeRows, rowAt, indicesBefore}
 use Rattle.geometry.specs.Geometry.{pointAt}
@@ -60,6 +62,22 @@ pub record Listed (v at count : ℕ) (W : List ℕ) : Type 0 where
   pub room : at + count ≤ length W
   pub below : (j : ℕ) → j < count → getD W (at + j) 0 < v
   pub rising : (j k : ℕ) → j < k → k < count → nameIn W at j < nameIn W at k
+
+-- a list in front of what was written is kept
+pub listed-kept : {v list count at : ℕ} {W E : List ℕ} → Listed v list count W → list + count ≤ at → take at E ≡ take at W → length E ≡ length W → Listed v list count E
+listed-kept {v} {list} {count} {at} {W} {E} s l e long =
+    record {
+      behind = s .behind;
+      room = omega (arith, s .room);
+      below = λ j b. subst (λ (x : ℕ). x < v) (sym (word j b)) (s .below j b);
+      rising = λ j k a b. omega (arith, name j (omega arith), name k b, s .rising j k a b);
+    }
+  where
+    word : (j : ℕ) → j < count → getD E (list + j) 0 ≡ getD W (list + j) 0
+    word j b = front-at at (list + j) W E 0 e (omega arith)
+
+    name : (j : ℕ) → j < count → nameIn E list j ≡ nameIn W list j
+    name j b = ap (λ (x : ℕ). getD E x 0) (word j b) ∙ front-at at (getD W (list + j) 0) W E 0 e (omega (arith, s .below j b, s .behind))
 
 -- what reading the name at place j asks
 pub record NameAt (v at count j : ℕ) (W : List ℕ) : Type 0 where

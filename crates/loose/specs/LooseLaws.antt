@@ -2,28 +2,22 @@
 use mathlib.Core.Path.{_≡_, refl, ap, _∙_}
 use mathlib.Core.Bool.{Bool, true, false, _||_, cond}
 use mathlib.Core.List.{List, [], _∷_, _++_, map, map-map, flatMap}
-use Prim.Native.Nat.{ℕ, zero, suc, _+_, _*_, _≤_, _<_}
+use Prim.Native.Nat.{ℕ, suc, _+_, _*_, _≤_, _<_}
 use native.Mathlib.Omega.{arith}
 use lib.ListN.{length, getD, take, drop, length-drop}
-use lib.Seq.{getD-drop, drop-drop, length-take-le}
+use lib.Seq.{drop-drop, length-take-le}
 use lib.Dec.{ltb, eqb}
-use lib.Ieee.{Float, nan}
-use Rattle.floats.specs.Floats.{widen}
+use lib.Ieee.{Float}
 use Rattle.lists.specs.Lists.{sumOf}
-use Rattle.lists.specs.Stretches.{stretch-at}
 use Rattle.join.specs.Join.{joined}
 use Rattle.body.specs.Body.{Row, trianglesOf, rowsOf, patchesOf, allIndices}
-use Rattle.geometry.specs.Geometry.{pointAt}
 use Rattle.edges.specs.Edges.{Use, usesFrom, isOpen}
 use Rattle.edges.specs.RowUses.{Inside, inside-first, inside-rest}
 use Rattle.loose.specs.Loose.{Loose, Facet, cornerOf, facetsOf, bodyFacets, insertLoose, insertCorner, insertOpen, looseFrom, facetsIn, looseIn}
 use Rattle.loose.specs.Listed.{looseOf, insertVertex, insertTriangle, anySet, rowVertices, bodyVertices}
 use Rattle.loose.specs.Open.{flagOf}
 use Rattle.loose.specs.Insertions.{open-once}
-
--- 1 for an open edge, 0 for any other
-abbrev flag : Bool → ℕ
-flag b = cond b 1 0
+use Rattle.loose.specs.Based.{flag, flags-drop, PointsFrom, NamesFrom, points-from, names-from}
 
 -- one of three flags is set if one of the edges is open
 any-open : (o p q : Bool) → (o || p || q) ≡ anySet (flag o) (flag p) (flag q)
@@ -31,12 +25,6 @@ any-open true p q = refl
 any-open false true q = refl
 any-open false false true = refl
 any-open false false false = refl
-
--- the flags behind the first n
-pub flags-drop : (n : ℕ) (bs : List Bool) → map flag (drop n bs) ≡ drop n (map flag bs)
-flags-drop zero bs = refl
-flags-drop (suc n) [] = refl
-flags-drop (suc n) (b ∷ bs) = flags-drop n bs
 
 -- the points of some triangles, and of those behind them
 loose-append : (fs gs : List Facet) (ls : List Loose) → looseFrom (fs ++ gs) ls ≡ looseFrom gs (looseFrom fs ls)
@@ -64,17 +52,12 @@ module _ (ps : List Float) (nms : List ℕ) where
 
   -- ---- one row
 
-  -- a row's n vertices start at `base`, and are the first of qs and ms
-  record Based (base n : ℕ) (qs : List Float) (ms : List ℕ) : Type 0 where
-    point : (i : ℕ) → i < n → pointAt qs i ≡ pointAt ps (base + i)
-    name : (i : ℕ) → getD ms i 0 ≡ getD nms (base + i) 0
-
-  module _ {base n : ℕ} {qs : List Float} {ms : List ℕ} (s : Based base n qs ms) where
+  module _ {base n : ℕ} {qs : List Float} {ms : List ℕ} (from : PointsFrom ps base n qs) (named : NamesFrom nms base ms) where
     -- inserting a corner inserts its vertex
     corner-vertex : (o : Bool) (i : ℕ) → i < n → (R : List ℕ) → insertCorner (cornerOf qs ms o i) (points R) ≡ points (insertVertex nms (base + i) R)
     unfolding insertCorner cornerOf
     corner-vertex o i h R =
-        (λ j. insertLoose (record { name = s .name i j; point = s .point i h j }) (points R)) ∙ vertex-point (base + i) R
+        (λ j. insertLoose (record { name = named .name i j; point = from .point i h j }) (points R)) ∙ vertex-point (base + i) R
 
     -- inserting the corners of a triangle inserts their vertices
     triangle-vertices : (o p q : Bool) (x y z : ℕ) → x < n → y < n → z < n → (R : List ℕ)
@@ -117,23 +100,6 @@ module _ (ps : List Float) (nms : List ℕ) where
 
   -- ---- all rows
 
-  -- a coordinate of the row stands at k of its own and at m of all
-  coordinate : (base n k m : ℕ) → k < 3 * n → 3 * base + k ≡ m → getD (take (3 * n) (drop (3 * base) ps)) k nan ≡ getD ps m nan
-  coordinate base n k m h e = stretch-at (3 * base) (3 * n) ps k nan h ∙ ap (λ (i : ℕ). getD ps i nan) e
-
-  -- a row's vertices are where those before it end
-  based : (base n : ℕ) → Based base n (take (3 * n) (drop (3 * base) ps)) (drop base nms)
-  based base n =
-      record {
-        point = λ i h j.
-            record {
-              x = widen (coordinate base n (3 * i) (3 * (base + i)) (omega arith) (omega arith) j);
-              y = widen (coordinate base n (3 * i + 1) (3 * (base + i) + 1) (omega arith) (omega arith) j);
-              z = widen (coordinate base n (3 * i + 2) (3 * (base + i) + 2) (omega arith) (omega arith) j);
-            };
-        name = λ i. getD-drop base nms i 0;
-      }
-
   -- the loose points of all rows are their vertices'
   body-points : (rows : List Row) (base : ℕ) (ns : List Float) (is : List ℕ) (opens : List Bool) (R : List ℕ) → allIndices rows ≤ length is → Inside rows is
       → looseFrom (flatMap (λ fs. fs) (bodyFacets (drop base nms) opens (patchesOf rows (drop (3 * base) ps) ns is))) (points R)
@@ -150,7 +116,7 @@ module _ (ps : List Float) (nms : List ℕ) where
       let long : length xs ≡ n = length-take-le n is (omega arith) in
       let three : 3 * base + 3 * v ≡ 3 * (base + v) = omega arith in
       let left = drop-drop (3 * v) (3 * base) ps ∙ ap (λ (k : ℕ). drop k ps) three in
-      let row = row-points (based base v) opens xs (inside-first r rs is h) R ∙ ap (λ (k : ℕ). points (rowVertices nms base (take k (map flag opens)) (trianglesOf xs) R)) long in
+      let row = row-points (points-from ps base v (drop (3 * base) ps) refl) (names-from nms base (drop base nms) refl) opens xs (inside-first r rs is h) R ∙ ap (λ (k : ℕ). points (rowVertices nms base (take k (map flag opens)) (trianglesOf xs) R)) long in
       loose-append (facetsOf qs (drop base nms) opens (trianglesOf xs)) (rest (drop v (drop base nms)) (length xs) (drop (3 * v) (drop (3 * base) ps))) (points R)
       ∙ (λ j. looseFrom (rest (drop-drop v base nms j) (long j) (left j)) (row j))
       ∙ body-points rs (base + v) (drop (3 * v) ns) (drop n is) (drop n opens) here (omega (arith, length-drop n is)) (inside-rest r rs is h)

@@ -7,7 +7,7 @@ use Prim.Native.Nat.{ℕ, zero, suc, _+_, _-_, _≤_, _<_}
 use native.Mathlib.Nat.{not-suc-le-zero}
 use native.Mathlib.Omega.{arith}
 use borrow.Author.Tests.{lt-ltb, le-ltb}
-use lib.ListN.{length, getD}
+use lib.ListN.{length, getD, List·getD-eq-default}
 use lib.Dec.{ltb}
 use Rattle.lists.specs.Lists.{any, itemAt}
 use Rattle.lists.specs.Any.{Searched, searched-more, searched-hit}
@@ -48,9 +48,7 @@ bad-entries xs d l e = e ∙ ap (λ (c : Bool). pick c) (sym (le-ltb 4294967296 
 
 -- past the end there is no entry
 pub entry-missing : (xs : List ℕ) (k : ℕ) → length xs ≤ k → 0 ≡ getD xs k 0
-entry-missing [] k h = refl
-entry-missing (x ∷ xs) zero h = absurd (not-suc-le-zero h)
-entry-missing (x ∷ xs) (suc k) h = entry-missing xs k (omega arith)
+entry-missing xs k h = sym (List·getD-eq-default xs 0 h)
 
 -- where no entry is above n, what stands at a face isn't
 entries-low : (n : ℕ) (xs : List ℕ) (k : ℕ) → ((j : ℕ) → j < length xs → getD xs j 0 ≤ n) → getD xs k 0 ≤ n

@@ -8,9 +8,9 @@ use lib.Seq.{length-take-le, getD-drop}
 use Rattle.lists.specs.Lists.{sumOf}
 use Rattle.lists.specs.Any.{sum-more}
 use Rattle.body.specs.Body.{Row, rowsOf}
-use Rattle.body.specs.Rows.{noRow, rowAt}
+use Rattle.body.specs.Rows.{noRow, rowAt, rows-here}
 use Rattle.acceptance.specs.Judged.{decisionsIn}
-use Rattle.acceptance.specs.RestLaws.{rows-here, decisions-here}
+use Rattle.acceptance.specs.RestLaws.{decisions-here}
 use Rattle.mesh.specs.JudgedRows.{JudgedRow, judgedRows, judgedIn}
 
 -- a row of nothing: what lies past the end

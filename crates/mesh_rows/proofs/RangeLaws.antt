@@ -8,10 +8,10 @@ use lib.Seq.{length-take-le, drop-cons}
 use Rattle.lists.specs.Lists.{written}
 use Rattle.lists.specs.Stretches.{stretch-at}
 use Rattle.body.specs.Body.{Row, rowsOf}
-use Rattle.body.specs.Rows.{rowAt}
+use Rattle.body.specs.Rows.{rowAt, rows-here}
 use Rattle.append.specs.Appended.{Appended, appended-none, appended-written, appended-long, behind}
 use Rattle.acceptance.specs.Judged.{acceptedRows, decisionsIn}
-use Rattle.acceptance.specs.RestLaws.{rows-here, decisions-here, rows-no, rows-yes}
+use Rattle.acceptance.specs.RestLaws.{decisions-here, rows-no, rows-yes, rows-none}
 use Rattle.mesh.specs.JudgedRows.{judgedIn, baseAfter, keptIf, rangesWith}
 use Rattle.mesh.specs.RowLaws.{judged-here, judged-long}
 use Rattle.mesh.specs.Ranges.{RowRangeable, RowRanged, RangesWritable, RangesWritten}
@@ -142,7 +142,7 @@ module _ {table W : List ℕ} {at starts : ℕ} {out : List ℕ} where
       let none-left : rangesWith (drop k (firstsIn table W starts)) (drop k js) ≡ [] =
       ap (rangesWith (drop k (firstsIn table W starts))) (drop-of-length-le js {i = k} (omega (arith, judged-long table W at (g .words)))) ∙ nothing (drop k (firstsIn table W starts)) in
       let no-rows : acceptedRows (drop k (decisionsIn table W at)) (drop k (rowsOf table)) ≡ [] =
-      ap (acceptedRows (drop k (decisionsIn table W at))) (drop-of-length-le (rowsOf table) {i = k} l) ∙ none (drop k (decisionsIn table W at)) in
+      ap (acceptedRows (drop k (decisionsIn table W at))) (drop-of-length-le (rowsOf table) {i = k} l) ∙ rows-none (drop k (decisionsIn table W at)) in
       record {
         numbers = appended-written (c .put) ∙ ap (λ (ys : List ℕ). written ys out) (sym (append-nil (c .done)) ∙ ap (λ (ys : List ℕ). c .done ++ ys) (sym none-left) ∙ c .are);
         count = omega (arith, c .count, ap length no-rows);
@@ -151,7 +151,3 @@ module _ {table W : List ℕ} {at starts : ℕ} {out : List ℕ} where
       nothing : (fs : List ℕ) → rangesWith fs [] ≡ []
       nothing [] = refl
       nothing (f ∷ fs) = refl
-
-      none : (ds : List ℕ) → acceptedRows ds [] ≡ []
-      none [] = refl
-      none (d ∷ ds) = refl

@@ -13,7 +13,7 @@ use Rattle.line_order.specs.Reading.{at}
 use Rattle.line_order.specs.Refusals.{Counts}
 use Rattle.reader.specs.Slices.{fits, fitsIn, inLimits, lastFits, lent, patternsOf}
 use Rattle.reader.specs.Limits.{Limited, limited}
-use Rattle.lists.specs.Both.{both-left, both-right}
+use Rattle.lists.specs.Both.{and-left, and-right}
 
 -- ---- the last row
 module _ (place rows : ℕ) (table : List ℕ) where
@@ -97,8 +97,8 @@ pub record Held (s : Reader) (T P N I M : List ℕ) : Type 0 where
 pub held-of : (s : Reader) (T P N I M : List ℕ) → fits (lent s T P N I M) ≡ true → Held s T P N I M
 unfolding fitsIn
 held-of s T P N I M e =
-    let rest : eqb (s .indices % 3) 0 && lastFits (s .place) (s .rows) T ≡ true = both-right (inLimits s (length T) (length P) (length N) (length I) (length M)) _ e in
-    record { limits = limited s (length T) (length P) (length N) (length I) (length M) (both-left _ _ e); whole = eqb-true (s .indices % 3) 0 (both-left _ _ rest); last = both-right (eqb (s .indices % 3) 0) _ rest }
+    let rest : eqb (s .indices % 3) 0 && lastFits (s .place) (s .rows) T ≡ true = and-right (inLimits s (length T) (length P) (length N) (length I) (length M)) _ e in
+    record { limits = limited s (length T) (length P) (length N) (length I) (length M) (and-left _ _ e); whole = eqb-true (s .indices % 3) 0 (and-left _ _ rest); last = and-right (eqb (s .indices % 3) 0) _ rest }
 
 module _ (s : Reader) (T P N I M : List ℕ) (h : Held s T P N I M) where
   pub some-row : 3 < s .place → 0 < s .rows
@@ -117,10 +117,10 @@ module _ (s : Reader) (T P N I M : List ℕ) (h : Held s T P N I M) where
   both l = sym (ap (λ (b : Bool). cond b (ltb (s .place) 4) (leb (at T (5 * s .rows - 2)) 96 && leb (at T (5 * s .rows - 1)) 96)) (ne-eqb (s .rows) 0 (λ e. omega arith))) ∙ h .last
 
   pub last-vertex : 0 < s .rows → at T (5 * s .rows - 2) ≤ 96
-  last-vertex l = leb-true (at T (5 * s .rows - 2)) 96 (both-left (leb (at T (5 * s .rows - 2)) 96) (leb (at T (5 * s .rows - 1)) 96) (both l))
+  last-vertex l = leb-true (at T (5 * s .rows - 2)) 96 (and-left (leb (at T (5 * s .rows - 2)) 96) (leb (at T (5 * s .rows - 1)) 96) (both l))
 
   pub last-index : 0 < s .rows → at T (5 * s .rows - 1) ≤ 96
-  last-index l = leb-true (at T (5 * s .rows - 1)) 96 (both-right (leb (at T (5 * s .rows - 2)) 96) (leb (at T (5 * s .rows - 1)) 96) (both l))
+  last-index l = leb-true (at T (5 * s .rows - 1)) 96 (and-right (leb (at T (5 * s .rows - 2)) 96) (leb (at T (5 * s .rows - 1)) 96) (both l))
 
   pub counts-of : Counts (s .rows) (s .vertices) (s .indices) (patternsOf (lent s T P N I M))
   counts-of = record {

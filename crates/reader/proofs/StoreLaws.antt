@@ -2,31 +2,22 @@
 use mathlib.Core.List.{List, [], _∷_, _++_, append-assoc}
 use mathlib.Core.Path.{_≡_, refl, sym, _∙_, ap}
 use Prim.Native.Nat.{ℕ, zero, suc, _+_, _≤_, _<_}
-use native.Mathlib.Numerals.{add-one}
-use native.Mathlib.Omega.{arith}
 use lib.ListN.{length, take, drop, set, length-append, length-set, take-append-drop}
-use lib.Seq.{sets-eq, length-take-le, take-set-lt, drop-set-lt}
+use lib.Seq.{sets, sets-eq, length-take-le, take-set-lt, drop-set-lt}
+use Rattle.lists.specs.Sets.{three-stored, five-stored}
 use Rattle.reader.specs.Slices.{onto, placed}
 
-pub three-stored : (S : List ℕ) (at a b c : ℕ) → at + 3 ≤ length S → set (set (set S at a) (at + 1) b) (at + 2) c ≡ placed S at (a ∷ b ∷ c ∷ [])
-three-stored S at a b c h =
-    let two : at + 2 ≡ suc (suc at) = omega arith in
-    ap (λ (n : ℕ). set (set (set S at a) n b) (at + 2) c) (add-one at)
-    ∙ ap (λ (n : ℕ). set (set (set S at a) (suc at) b) n c) two
-    ∙ sets-eq (a ∷ b ∷ c ∷ []) S at h
-    ∙ append-assoc (take at S) (a ∷ b ∷ c ∷ []) (drop (at + 3) S)
+-- a run of stores is what was stored between the front and the rest
+run-placed : (S : List ℕ) (at : ℕ) (vs : List ℕ) → at + length vs ≤ length S → sets S at vs ≡ placed S at vs
+run-placed S at vs h = sets-eq vs S at h ∙ append-assoc (take at S) vs (drop (at + length vs) S)
 
-pub row-stored : (S : List ℕ) (at a b c d e : ℕ) → at + 5 ≤ length S → set (set (set (set (set S at a) (at + 1) b) (at + 2) c) (at + 3) d) (at + 4) e ≡ placed S at (a ∷ b ∷ c ∷ d ∷ e ∷ [])
-row-stored S at a b c d e h =
-    let two : at + 2 ≡ suc (suc at) = omega arith in
-    let three : at + 3 ≡ suc (suc (suc at)) = omega arith in
-    let four : at + 4 ≡ suc (suc (suc (suc at))) = omega arith in
-    ap (λ (n : ℕ). set (set (set (set (set S at a) n b) (at + 2) c) (at + 3) d) (at + 4) e) (add-one at)
-    ∙ ap (λ (n : ℕ). set (set (set (set (set S at a) (suc at) b) n c) (at + 3) d) (at + 4) e) two
-    ∙ ap (λ (n : ℕ). set (set (set (set (set S at a) (suc at) b) (suc (suc at)) c) n d) (at + 4) e) three
-    ∙ ap (λ (n : ℕ). set (set (set (set (set S at a) (suc at) b) (suc (suc at)) c) (suc (suc (suc at))) d) n e) four
-    ∙ sets-eq (a ∷ b ∷ c ∷ d ∷ e ∷ []) S at h
-    ∙ append-assoc (take at S) (a ∷ b ∷ c ∷ d ∷ e ∷ []) (drop (at + 5) S)
+-- three stores side by side
+pub three-placed : (S : List ℕ) (at a b c : ℕ) → at + 3 ≤ length S → set (set (set S at a) (at + 1) b) (at + 2) c ≡ placed S at (a ∷ b ∷ c ∷ [])
+three-placed S at a b c h = three-stored S at a b c ∙ run-placed S at (a ∷ b ∷ c ∷ []) h
+
+-- the five numbers of a row
+pub row-placed : (S : List ℕ) (at a b c d e : ℕ) → at + 5 ≤ length S → set (set (set (set (set S at a) (at + 1) b) (at + 2) c) (at + 3) d) (at + 4) e ≡ placed S at (a ∷ b ∷ c ∷ d ∷ e ∷ [])
+row-placed S at a b c d e h = five-stored S at a b c d e ∙ run-placed S at (a ∷ b ∷ c ∷ d ∷ e ∷ []) h
 
 -- ---- a front in its slice
 

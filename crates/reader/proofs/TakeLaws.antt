@@ -7,10 +7,10 @@ use native.Mathlib.Nat.{mod-eq-of-lt}
 use native.Mathlib.Omega.{arith}
 use borrow.Author.Tests.{leb-true, leb-false, ltb-false}
 use lib.Dec as Dec
+use lib.Ieee.Fits.{and-l, and-r}
 use lib.Dec.{leb, ltb, ltb→lt}
 use lib.ListN.{length, getD, take, set, length-append, length-set}
 use lib.Seq.{getD-take}
-use Rattle.digits.specs.ReadBack.{and-left, and-right}
 use Rattle.lines.specs.Counted.{countIn}
 use Rattle.lines.specs.Forms.{form, numbers}
 use Rattle.lines.specs.declared.Kind.{Kind}
@@ -22,7 +22,7 @@ use Rattle.reader.specs.Added.{Ready, RowAdded, RowRoom, TriangleAdded, 
 use Rattle.line_order.specs.Refusals.{Passed, passed}
 use Rattle.reader.proofs.RoomLaws.{Held, counts-of, held-of, last-index, last-vertex, some-row}
 use Rattle.reader.proofs.StoreLaws.{changed, grown, kept}
-use Rattle.lists.specs.Both.{both-left, both-right, either-false}
+use Rattle.lists.specs.Both.{and-left, and-right, or-right}
 
 -- a list of six numbers at least is these six and a rest
 six : (P : List ℕ → Type 0) → ((a b c d e f : ℕ) (rest : List ℕ) → P (a ∷ b ∷ c ∷ d ∷ e ∷ f ∷ rest)) → (ns : List ℕ) → 6 < length ns → P ns
@@ -136,7 +136,7 @@ module _ (s : Reader) (T P N I M : List ℕ) where
     unfolding takenUp takeUp withLine form numbers countIn
     default-six a b c d e f rest v q =
         let h = held-of s T P N I M (v .fitting .roomy .held) in
-        let small : Dec.T (ltb a (2 ^ 32)) = and-left (ltb a (2 ^ 32)) true (v .fitting .small) in
+        let small : Dec.T (ltb a (2 ^ 32)) = and-l (ltb a (2 ^ 32)) true (v .fitting .small) in
         header r (takeUp (stateOf here) (lineFrom Default (a ∷ b ∷ c ∷ d ∷ e ∷ f ∷ rest)))
         (q ∙ same-reader s (s .refusal) 0 3 3 (s .rows) _ (s .vertices) _ (s .indices) _ (a % 2 ^ 32 + 1) (a + 1) (s .sag) (v .fitting .roomy .clean) refl (same-rows h) (same-vertices h) (same-indices h) (ap (λ (n : ℕ). n + 1) (low a small)))
         refl refl refl refl refl
@@ -148,10 +148,10 @@ module _ (s : Reader) (T P N I M : List ℕ) where
         let h = held-of s T P N I M (v .fitting .roomy .held) in
         let ok : Passed (lineFrom Material (a ∷ b ∷ c ∷ d ∷ e ∷ f ∷ rest)) (stateOf here) = passed _ _ (v .taken) in
         let low-face : a ≤ 63 = ltb-false 63 a (ok .limit) in
-        let first : leb 3 (s .place) ≡ true = both-left (leb 3 (s .place)) (leb (s .place) 3) (ok .order) in
-        let last : leb (s .place) 3 ≡ true = both-right (leb 3 (s .place)) (leb (s .place) 3) (ok .order) in
+        let first : leb 3 (s .place) ≡ true = and-left (leb 3 (s .place)) (leb (s .place) 3) (ok .order) in
+        let last : leb (s .place) 3 ≡ true = and-right (leb 3 (s .place)) (leb (s .place) 3) (ok .order) in
         let place : s .place ≡ 3 = omega (arith, leb-true 3 (s .place) first, leb-true (s .place) 3 last) in
-        let small : Dec.T (ltb b (2 ^ 32)) = and-left (ltb b (2 ^ 32)) true (and-right (ltb a (2 ^ 32)) (ltb b (2 ^ 32) && true) (v .fitting .small)) in
+        let small : Dec.T (ltb b (2 ^ 32)) = and-l (ltb b (2 ^ 32)) true (and-r (ltb a (2 ^ 32)) (ltb b (2 ^ 32) && true) (v .fitting .small)) in
         same-lent
         (same-reader s (s .refusal) 0 (s .place) 3 (s .rows) _ (s .vertices) _ (s .indices) _ (s .default) (s .default) (s .sag) (v .fitting .roomy .clean) place (same-rows h) (same-vertices h) (same-indices h) refl)
         (kept (5 * s .rows) T)
@@ -175,7 +175,7 @@ module _ (s : Reader) (T P N I M : List ℕ) where
         (kept 64 M)
 
   few-rows : (x : Bool) → Held s T P N I M → x || leb 80 (length (take (5 * s .rows) T)) ≡ false → s .rows < 16
-  few-rows x h e = omega (arith, leb-false 80 (length (take (5 * s .rows) T)) (either-false x (leb 80 (length (take (5 * s .rows) T))) e), counts-of s T P N I M h .table)
+  few-rows x h e = omega (arith, leb-false 80 (length (take (5 * s .rows) T)) (or-right x (leb 80 (length (take (5 * s .rows) T))) e), counts-of s T P N I M h .table)
 
   -- a line that opens a row has room for it
   row-room : (k : Kind) → ((ms : List ℕ) (x : Patterns) → passesLimit k ms x ≡ ltb 63 (at ms 1) || leb 80 (length (x .table))) → (ns : List ℕ) → Ready here k ns → RowRoom s T
@@ -188,8 +188,8 @@ module _ (s : Reader) (T P N I M : List ℕ) where
   unfolding takenUp takeUp withLine form numbers countIn passesLimit
   face-six r a b c d e f rest W v q =
       let h = held-of s T P N I M (v .fitting .roomy .held) in
-      let t0 : Dec.T (ltb a (2 ^ 32)) = and-left (ltb a (2 ^ 32)) (ltb b (2 ^ 32) && true) (v .fitting .small) in
-      let t1 : Dec.T (ltb b (2 ^ 32)) = and-left (ltb b (2 ^ 32)) true (and-right (ltb a (2 ^ 32)) (ltb b (2 ^ 32) && true) (v .fitting .small)) in
+      let t0 : Dec.T (ltb a (2 ^ 32)) = and-l (ltb a (2 ^ 32)) (ltb b (2 ^ 32) && true) (v .fitting .small) in
+      let t1 : Dec.T (ltb b (2 ^ 32)) = and-l (ltb b (2 ^ 32)) true (and-r (ltb a (2 ^ 32)) (ltb b (2 ^ 32) && true) (v .fitting .small)) in
       row-more r 4 a b 0 W h (row-room Face (λ ms x. refl) (a ∷ b ∷ c ∷ d ∷ e ∷ f ∷ rest) v .rows) (v .fitting .roomy .clean) (q .reader)
       (three-same T (5 * s .rows) (0 ∷ 0 ∷ []) (low a t0) (low b t1) refl (q .table))
 
@@ -197,10 +197,10 @@ module _ (s : Reader) (T P N I M : List ℕ) where
   unfolding takenUp takeUp withLine form numbers countIn passesLimit
   fail-six r a b c d e f rest W v q =
       let h = held-of s T P N I M (v .fitting .roomy .held) in
-      let t0 : Dec.T (ltb a (2 ^ 32)) = and-left (ltb a (2 ^ 32)) (ltb b (2 ^ 32) && (ltb c (2 ^ 32) && true)) (v .fitting .small) in
-      let w1 : Dec.T (ltb b (2 ^ 32) && (ltb c (2 ^ 32) && true)) = and-right (ltb a (2 ^ 32)) (ltb b (2 ^ 32) && (ltb c (2 ^ 32) && true)) (v .fitting .small) in
-      let t1 : Dec.T (ltb b (2 ^ 32)) = and-left (ltb b (2 ^ 32)) (ltb c (2 ^ 32) && true) w1 in
-      let t2 : Dec.T (ltb c (2 ^ 32)) = and-left (ltb c (2 ^ 32)) true (and-right (ltb b (2 ^ 32)) (ltb c (2 ^ 32) && true) w1) in
+      let t0 : Dec.T (ltb a (2 ^ 32)) = and-l (ltb a (2 ^ 32)) (ltb b (2 ^ 32) && (ltb c (2 ^ 32) && true)) (v .fitting .small) in
+      let w1 : Dec.T (ltb b (2 ^ 32) && (ltb c (2 ^ 32) && true)) = and-r (ltb a (2 ^ 32)) (ltb b (2 ^ 32) && (ltb c (2 ^ 32) && true)) (v .fitting .small) in
+      let t1 : Dec.T (ltb b (2 ^ 32)) = and-l (ltb b (2 ^ 32)) (ltb c (2 ^ 32) && true) w1 in
+      let t2 : Dec.T (ltb c (2 ^ 32)) = and-l (ltb c (2 ^ 32)) true (and-r (ltb b (2 ^ 32)) (ltb c (2 ^ 32) && true) w1) in
       row-more r 6 a b c W h (row-room Fail (λ ms x. refl) (a ∷ b ∷ c ∷ d ∷ e ∷ f ∷ rest) v .rows) (v .fitting .roomy .clean) (q .reader)
       (three-same T (5 * s .rows) (0 ∷ 0 ∷ []) (low a t0) (low b t1) (low c t2) (q .table))
 
@@ -232,7 +232,7 @@ module _ (s : Reader) (T P N I M : List ℕ) where
   vertex-six-room a b c d e f rest v =
       let h = held-of s T P N I M (v .fitting .roomy .held) in
       let ok : Passed (lineFrom Vertex (a ∷ b ∷ c ∷ d ∷ e ∷ f ∷ rest)) (stateOf here) = passed _ _ (v .taken) in
-      let first : leb 4 (s .place) ≡ true = both-left (leb 4 (s .place)) (leb (s .place) 4) (ok .order) in
+      let first : leb 4 (s .place) ≡ true = and-left (leb 4 (s .place)) (leb (s .place) 4) (ok .order) in
       let row : 0 < s .rows = some-row s T P N I M h (omega (arith, leb-true 4 (s .place) first)) in
       record {
         some-row = row;
@@ -255,19 +255,19 @@ module _ (s : Reader) (T P N I M : List ℕ) where
       let h = held-of s T P N I M (v .fitting .roomy .held) in
       let room = vertex-six-room a b c d e f rest v in
       let w0 : Dec.T (short a && (short b && (short c && (short d && (short e && (short f && true)))))) = v .fitting .small in
-      let w1 = and-right (short a) (short b && (short c && (short d && (short e && (short f && true))))) w0 in
-      let w2 = and-right (short b) (short c && (short d && (short e && (short f && true)))) w1 in
-      let w3 = and-right (short c) (short d && (short e && (short f && true))) w2 in
-      let w4 = and-right (short d) (short e && (short f && true)) w3 in
-      let w5 = and-right (short e) (short f && true) w4 in
+      let w1 = and-r (short a) (short b && (short c && (short d && (short e && (short f && true))))) w0 in
+      let w2 = and-r (short b) (short c && (short d && (short e && (short f && true)))) w1 in
+      let w3 = and-r (short c) (short d && (short e && (short f && true))) w2 in
+      let w4 = and-r (short d) (short e && (short f && true)) w3 in
+      let w5 = and-r (short e) (short f && true) w4 in
       let back : 2 ≤ 5 * s .rows = omega (arith, room .some-row) in
       let long : length (take (3 * s .vertices) P ++ a ∷ b ∷ c ∷ []) ≡ length (take (3 * s .vertices) P) + 3 = length-append (take (3 * s .vertices) P) (a ∷ b ∷ c ∷ []) in
       let vertices : s .vertices + 1 ≡ length (take (3 * s .vertices) P ++ a ∷ b ∷ c ∷ []) / 3 = omega (arith, counts-of s T P N I M h .positions) in
       same-lent
       (q .reader ∙ same-reader s (s .refusal) 0 4 4 (s .rows) _ (s .vertices + 1) _ (s .indices) _ (s .default) (s .default) (s .sag) (v .fitting .roomy .clean) refl (raised-rows 2 1 h (omega arith) back) vertices (same-indices h) refl)
       (raised-in 2 1 h (omega arith) back T' (q .table))
-      (three-same P (3 * s .vertices) [] (low a (and-left (short a) (short b && (short c && (short d && (short e && (short f && true))))) w0)) (low b (and-left (short b) (short c && (short d && (short e && (short f && true)))) w1)) (low c (and-left (short c) (short d && (short e && (short f && true))) w2)) (q .positions) ∙ grown (3 * s .vertices) P (a ∷ b ∷ c ∷ []) (vertices-fit h))
-      (three-same N (3 * s .vertices) [] (low d (and-left (short d) (short e && (short f && true)) w3)) (low e (and-left (short e) (short f && true) w4)) (low f (and-left (short f) true w5)) (q .normals) ∙ grown (3 * s .vertices) N (d ∷ e ∷ f ∷ []) (normals-fit h))
+      (three-same P (3 * s .vertices) [] (low a (and-l (short a) (short b && (short c && (short d && (short e && (short f && true))))) w0)) (low b (and-l (short b) (short c && (short d && (short e && (short f && true)))) w1)) (low c (and-l (short c) (short d && (short e && (short f && true))) w2)) (q .positions) ∙ grown (3 * s .vertices) P (a ∷ b ∷ c ∷ []) (vertices-fit h))
+      (three-same N (3 * s .vertices) [] (low d (and-l (short d) (short e && (short f && true)) w3)) (low e (and-l (short e) (short f && true) w4)) (low f (and-l (short f) true w5)) (q .normals) ∙ grown (3 * s .vertices) N (d ∷ e ∷ f ∷ []) (normals-fit h))
       (kept (s .indices) I)
       (kept 64 M)
 
@@ -277,7 +277,7 @@ module _ (s : Reader) (T P N I M : List ℕ) where
   triangle-six-room a b c d e f rest v =
       let h = held-of s T P N I M (v .fitting .roomy .held) in
       let ok : Passed (lineFrom Triangle (a ∷ b ∷ c ∷ d ∷ e ∷ f ∷ rest)) (stateOf here) = passed _ _ (v .taken) in
-      let first : leb 4 (s .place) ≡ true = both-left (leb 4 (s .place)) (leb (s .place) 5) (ok .order) in
+      let first : leb 4 (s .place) ≡ true = and-left (leb 4 (s .place)) (leb (s .place) 5) (ok .order) in
       let row : 0 < s .rows = some-row s T P N I M h (omega (arith, leb-true 4 (s .place) first)) in
       record {
         some-row = row;
@@ -295,8 +295,8 @@ module _ (s : Reader) (T P N I M : List ℕ) where
       let h = held-of s T P N I M (v .fitting .roomy .held) in
       let room = triangle-six-room a b c d e f rest v in
       let w0 : Dec.T (ltb a (2 ^ 32) && (ltb b (2 ^ 32) && (ltb c (2 ^ 32) && true))) = v .fitting .small in
-      let w1 = and-right (ltb a (2 ^ 32)) (ltb b (2 ^ 32) && (ltb c (2 ^ 32) && true)) w0 in
-      let w2 = and-right (ltb b (2 ^ 32)) (ltb c (2 ^ 32) && true) w1 in
+      let w1 = and-r (ltb a (2 ^ 32)) (ltb b (2 ^ 32) && (ltb c (2 ^ 32) && true)) w0 in
+      let w2 = and-r (ltb b (2 ^ 32)) (ltb c (2 ^ 32) && true) w1 in
       let back : 1 ≤ 5 * s .rows = omega (arith, room .some-row) in
       let long : length (take (s .indices) I ++ a ∷ b ∷ c ∷ []) ≡ length (take (s .indices) I) + 3 = length-append (take (s .indices) I) (a ∷ b ∷ c ∷ []) in
       let indices : s .indices + 3 ≡ length (take (s .indices) I ++ a ∷ b ∷ c ∷ []) = omega (arith, counts-of s T P N I M h .indices) in
@@ -305,7 +305,7 @@ module _ (s : Reader) (T P N I M : List ℕ) where
       (raised-in 1 3 h (omega arith) back T' (q .table))
       (kept (3 * s .vertices) P)
       (kept (3 * s .vertices) N)
-      (three-same I (s .indices) [] (low a (and-left (ltb a (2 ^ 32)) (ltb b (2 ^ 32) && (ltb c (2 ^ 32) && true)) w0)) (low b (and-left (ltb b (2 ^ 32)) (ltb c (2 ^ 32) && true) w1)) (low c (and-left (ltb c (2 ^ 32)) true w2)) (q .indices) ∙ grown (s .indices) I (a ∷ b ∷ c ∷ []) (indices-fit h))
+      (three-same I (s .indices) [] (low a (and-l (ltb a (2 ^ 32)) (ltb b (2 ^ 32) && (ltb c (2 ^ 32) && true)) w0)) (low b (and-l (ltb b (2 ^ 32)) (ltb c (2 ^ 32) && true) w1)) (low c (and-l (ltb c (2 ^ 32)) true w2)) (q .indices) ∙ grown (s .indices) I (a ∷ b ∷ c ∷ []) (indices-fit h))
       (kept 64 M)
 
   -- ---- every kind, whatever numbers follow the line's own

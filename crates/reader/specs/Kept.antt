@@ -17,7 +17,7 @@ use Rattle.reader.specs.declared.Reader.{Reader}
 use Rattle.line_order.specs.Reading.{Patterns, State, at, finished, lineRefusal, orderOf, passesLimit, raised, readLine, refuse, start, takeUp, withForm, withLine}
 use Rattle.line_order.specs.Refusals.{Passed, passed}
 use Rattle.reader.specs.Slices.{Lent, ended, fits, fitsIn, inLimits, lastFits, lent, onto, over, readInto, readerOf, refused, stateOf}
-use Rattle.lists.specs.Both.{both-left, either-false}
+use Rattle.lists.specs.Both.{and-left, or-right}
 
 -- the slices have room for the program's limits
 pub record Room (l : Lent) : Type 0 where
@@ -121,7 +121,7 @@ module _ (s : State) (v : Sized s) where
   row-more : (x : Patterns) (place a b c : ℕ) → x .box ≡ s .sheet .box → x .materials ≡ s .sheet .materials → x .table ≡ s .sheet .table ++ a ∷ b ∷ c ∷ 0 ∷ 0 ∷ [] → x .positions ≡ s .sheet .positions → x .normals ≡ s .sheet .normals → x .indices ≡ s .sheet .indices
       → (d : Bool) → d || leb 80 (length (s .sheet .table)) ≡ false → Sized (record { refusal = 0; place = place; sheet = x })
   row-more x place a b c e m t p n i d l =
-      let few : length (s .sheet .table) < 80 = leb-false 80 (length (s .sheet .table)) (either-false d (leb 80 (length (s .sheet .table))) l) in
+      let few : length (s .sheet .table) < 80 = leb-false 80 (length (s .sheet .table)) (or-right d (leb 80 (length (s .sheet .table))) l) in
       let row : List ℕ = a ∷ b ∷ c ∷ 0 ∷ 0 ∷ [] in
       let three : 5 * (v .rows + 1) - 2 ≡ 5 * v .rows + 3 = omega arith in
       let four : 5 * (v .rows + 1) - 1 ≡ 5 * v .rows + 4 = omega arith in
@@ -229,8 +229,8 @@ module _ (s : State) (v : Sized s) where
   sized-take Default ns c p = header Default (withLine Default ns (s .sheet)) (v .box) (v .materials) refl refl refl refl (omega arith)
   sized-take Material ns c p = header Material (withLine Material ns (s .sheet)) (v .box) (length-set (s .sheet .materials) (at ns 0) (at ns 1 + 1) ∙ v .materials) refl refl refl refl (omega arith)
   sized-take Face ns c p = row-more (withLine Face ns (s .sheet)) 4 (at ns 0) (at ns 1) 0 refl refl refl refl refl refl (ltb 63 (at ns 1)) (p .limit)
-  sized-take Vertex ns c p = vertex-more ns c (omega (arith, leb-true 4 (s .place) (both-left (leb 4 (s .place)) (leb (s .place) 4) (p .order)))) (p .limit)
-  sized-take Triangle ns c p = triangle-more ns c (omega (arith, leb-true 4 (s .place) (both-left (leb 4 (s .place)) (leb (s .place) 5) (p .order)))) (p .limit)
+  sized-take Vertex ns c p = vertex-more ns c (omega (arith, leb-true 4 (s .place) (and-left (leb 4 (s .place)) (leb (s .place) 4) (p .order)))) (p .limit)
+  sized-take Triangle ns c p = triangle-more ns c (omega (arith, leb-true 4 (s .place) (and-left (leb 4 (s .place)) (leb (s .place) 5) (p .order)))) (p .limit)
   sized-take Fail ns c p = row-more (withLine Fail ns (s .sheet)) 6 (at ns 0) (at ns 1) (at ns 2) refl refl refl refl refl refl (ltb 63 (at ns 1)) (p .limit)
 
   sized-form : (l : Line) → length (l .numbers) ≡ countIn (form (l .kind)) → Sized (withForm s l)

@@ -6,7 +6,7 @@ use borrow.Author.Tests.{leb-true}
 use lib.Dec.{leb}
 use Rattle.reader.specs.declared.Reader.{Reader}
 use Rattle.reader.specs.Slices.{inLimits}
-use Rattle.lists.specs.Both.{both-left, both-right}
+use Rattle.lists.specs.Both.{and-left, and-right}
 
 -- the reader counts no more than the limits, and slices of these lengths have room for these
 pub record Limited (r : Reader) (t p n i m : ℕ) : Type 0 where
@@ -22,19 +22,19 @@ pub record Limited (r : Reader) (t p n i m : ℕ) : Type 0 where
 pub limited : (r : Reader) (t p n i m : ℕ) → inLimits r t p n i m ≡ true → Limited r t p n i m
 unfolding inLimits
 limited r t p n i m e0 =
-    let e1 = both-right (leb 80 t) _ e0 in
-    let e2 = both-right (leb 288 p) _ e1 in
-    let e3 = both-right (leb 288 n) _ e2 in
-    let e4 = both-right (leb 96 i) _ e3 in
-    let e5 = both-right (leb 64 m) _ e4 in
-    let e6 = both-right (leb (r .rows) 16) _ e5 in
+    let e1 = and-right (leb 80 t) _ e0 in
+    let e2 = and-right (leb 288 p) _ e1 in
+    let e3 = and-right (leb 288 n) _ e2 in
+    let e4 = and-right (leb 96 i) _ e3 in
+    let e5 = and-right (leb 64 m) _ e4 in
+    let e6 = and-right (leb (r .rows) 16) _ e5 in
     record {
-      table = leb-true 80 t (both-left _ _ e0);
-      positions = leb-true 288 p (both-left _ _ e1);
-      normals = leb-true 288 n (both-left _ _ e2);
-      indices = leb-true 96 i (both-left _ _ e3);
-      materials = leb-true 64 m (both-left _ _ e4);
-      rows = leb-true (r .rows) 16 (both-left _ _ e5);
-      vertices = leb-true (r .vertices) 96 (both-left _ _ e6);
-      counted = leb-true (r .indices) 96 (both-right (leb (r .vertices) 96) _ e6);
+      table = leb-true 80 t (and-left _ _ e0);
+      positions = leb-true 288 p (and-left _ _ e1);
+      normals = leb-true 288 n (and-left _ _ e2);
+      indices = leb-true 96 i (and-left _ _ e3);
+      materials = leb-true 64 m (and-left _ _ e4);
+      rows = leb-true (r .rows) 16 (and-left _ _ e5);
+      vertices = leb-true (r .vertices) 96 (and-left _ _ e6);
+      counted = leb-true (r .indices) 96 (and-right (leb (r .vertices) 96) _ e6);
     }

@@ -8,7 +8,8 @@ use lib.Dec.{ltb}
 use borrow.Author.Tests.{ltb-false}
 use Rattle.body.specs.Body.{Row, Check, check, firstFailing, allVertices, allIndices}
 use Rattle.table_checks.specs.TableChecks.{tooLarge}
-use Rattle.body.specs.Checks.{clear-first, or-left, or-right}
+use Rattle.body.specs.Checks.{clear-first}
+use Rattle.lists.specs.Both.{or-left, or-right}
 use Rattle.results.specs.Slices.{StitchSlices, stitchChecks}
 
 -- 32: a slice of length t, p, n or x is shorter than f rows, v vertices and i indices need

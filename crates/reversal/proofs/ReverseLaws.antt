@@ -1,28 +1,25 @@
 -- Laws of the loops that reverse a row where it stands. Assumes nothing.
 use mathlib.Core.Path.{_≡_, refl, sym, ap, _∙_}
 use mathlib.Core.List.{List, [], _∷_, _++_, map, append-assoc, map-append}
-use Prim.Native.Nat.{ℕ, suc, _+_, _-_, _%_, _≤_, _<_}
+use Prim.Native.Nat.{ℕ, _+_, _-_, _%_, _≤_, _<_}
 use native.Mathlib.Omega.{arith}
-use lib.ListN.{length, getD, set, take, drop, length-set, length-drop, take-append-drop}
-use lib.Seq.{sets, sets-eq, take-suc, take-add, getD-drop, set-getD, length-take-le}
+use lib.ListN.{length, getD, set, take, drop, length-set, length-drop, take-append-drop, length-map}
+use lib.Seq.{sets, sets-eq, take-add, set-getD, length-take-le}
 use borrow.Author.Tests.{eq-eqb, ne-eqb}
 use lib.Ieee.{Float, nan, neg}
-use Rattle.lists.specs.Sets.{getD-sets-beyond, sets-append}
-use Rattle.reversal.specs.Reversal.{swapped}
+use Rattle.lists.specs.Sets.{getD-sets-beyond, sets-append, three-stored}
+use Rattle.lists.specs.Stretches.{stretch-more}
+use Rattle.reversal.specs.Reversal.{swapped, length-swapped}
 use Rattle.reversal.specs.Reversed.{Triangles, Stretch, RowStretches, RowReversed}
 
-pub length-map : {A B : Type 0} (f : A → B) (xs : List A) → length (map f xs) ≡ length xs
-length-map f [] = refl
-length-map f (x ∷ xs) = ap suc (length-map f xs)
-
--- one more item of a stretch
-stretch-more : {A : Type 0} (xs : List A) (from k : ℕ) (d : A) → from ≤ k → k < length xs → take (k + 1 - from) (drop from xs) ≡ take (k - from) (drop from xs) ++ getD xs k d ∷ []
-stretch-more xs from k d l h =
-    let e : k + 1 - from ≡ suc (k - from) = omega arith in
+-- the stretch from `from` up to k, and the item at k
+stretch-to : {A : Type 0} (xs : List A) (from k : ℕ) (d : A) → from ≤ k → k < length xs → take (k + 1 - from) (drop from xs) ≡ take (k - from) (drop from xs) ++ getD xs k d ∷ []
+stretch-to xs from k d l h =
+    let e : k + 1 - from ≡ k - from + 1 = omega arith in
     let q : from + (k - from) ≡ k = omega arith in
     ap (λ n. take n (drop from xs)) e
-    ∙ take-suc (drop from xs) (k - from) d (omega (arith, length-drop from xs))
-    ∙ ap (λ x. take (k - from) (drop from xs) ++ x ∷ []) (getD-drop from xs (k - from) d ∙ ap (λ n. getD xs n d) q)
+    ∙ stretch-more xs from (k - from) d (omega arith)
+    ∙ ap (λ n. take (k - from) (drop from xs) ++ getD xs n d ∷ []) q
 
 -- `negate` with the numbers before k negated: N became w
 pub record Negating (N : List Float) (from to k : ℕ) (w : List Float) : Type 0 where
@@ -40,7 +37,7 @@ pub negating-more : {N w : List Float} {from to k : ℕ} → Stretch N from to �
 negating-more {N} {w} {from} {to} {k} s n h =
     let xs = take (k - from) (drop from N) in
     let l : length xs ≡ k - from = length-take-le (k - from) (drop from N) (omega (arith, length-drop from N, s .inside, n .low)) in
-    let at : from + length (map neg xs) ≡ k = omega (arith, l, length-map neg xs, n .low) in
+    let at : from + length (map neg xs) ≡ k = omega (arith, l, length-map xs neg, n .low) in
     let x : getD w k nan ≡ getD N k nan = ap (λ v. getD v k nan) (n .list) ∙ getD-sets-beyond N from (map neg xs) k nan (omega (arith, at)) in
     record {
       low = omega (arith, n .low);
@@ -50,7 +47,7 @@ negating-more {N} {w} {from} {to} {k} s n h =
           ∙ ap (λ v. set v k (neg (getD N k nan))) (n .list)
           ∙ ap (λ m. sets (sets N from (map neg xs)) m (neg (getD N k nan) ∷ [])) (sym at)
           ∙ sym (sets-append N from (map neg xs) (neg (getD N k nan) ∷ []))
-          ∙ ap (sets N from) (sym (map-append neg xs (getD N k nan ∷ [])) ∙ ap (map neg) (sym (stretch-more N from k nan (n .low) (omega (arith, s .inside)))));
+          ∙ ap (sets N from) (sym (map-append neg xs (getD N k nan ∷ [])) ∙ ap (map neg) (sym (stretch-to N from k nan (n .low) (omega (arith, s .inside)))));
       long = simp length-set (n .long);
     }
 
@@ -60,13 +57,6 @@ negating-all {N} {w} {from} {to} {k} n h =
     n .list ∙ ap (λ m. sets N from (map neg (take m (drop from N)))) e
 
 -- ---- corners
-
-pub length-swapped : (is : List ℕ) → length (swapped is) ≡ length is
-unfolding swapped
-length-swapped [] = refl
-length-swapped (a ∷ []) = refl
-length-swapped (a ∷ b ∷ []) = refl
-length-swapped (a ∷ b ∷ c ∷ is) = let h = length-swapped is in omega arith
 
 -- whole triangles, and one more
 swapped-more : (is : List ℕ) (a b c : ℕ) → length is % 3 ≡ 0 → swapped (is ++ a ∷ b ∷ c ∷ []) ≡ swapped is ++ a ∷ c ∷ b ∷ []
@@ -130,19 +120,12 @@ module _ {N w : List ℕ} {from to k : ℕ} (t : Triangles N from to) (s : Swapp
       read : (j : ℕ) → k ≤ j → getD w j 0 ≡ getD N j 0
       read j h = ap (λ v. getD v j 0) (s .list) ∙ getD-sets-beyond N from (swapped xs) j 0 (omega (arith, at))
 
-      e1 : k + 1 ≡ suc k
-      e1 = omega arith
-
-      e2 : k + 2 ≡ suc (suc k)
-      e2 = omega arith
-
       stored : set (set w (k + 1) (getD w (k + 2) 0)) (k + 2) (getD w (k + 1) 0) ≡ sets w k (a ∷ c ∷ b ∷ [])
       stored =
           ap (λ x. set (set w (k + 1) x) (k + 2) (getD w (k + 1) 0)) (read (k + 2) (omega arith))
           ∙ ap (λ x. set (set w (k + 1) c) (k + 2) x) (read (k + 1) (omega arith))
           ∙ ap (λ v. set (set v (k + 1) c) (k + 2) b) (sym (set-getD w k 0) ∙ ap (set w k) (read k (omega arith)))
-          ∙ ap (λ n. set (set (set w k a) n c) (k + 2) b) e1
-          ∙ ap (λ n. set (set (set w k a) (suc k) c) n b) e2
+          ∙ three-stored w k a c b
 
       next : take (k + 3 - from) (drop from N) ≡ xs ++ a ∷ b ∷ c ∷ []
       next =
@@ -150,10 +133,10 @@ module _ {N w : List ℕ} {from to k : ℕ} (t : Triangles N from to) (s : Swapp
           let p : k + 1 + 1 ≡ k + 2 = omega arith in
           let q : k + 2 + 1 ≡ k + 3 = omega arith in
           ap (λ n. take (n - from) (drop from N)) (sym q)
-          ∙ stretch-more N from (k + 2) 0 (omega (arith, s .low)) i
+          ∙ stretch-to N from (k + 2) 0 (omega (arith, s .low)) i
           ∙ ap (λ n. take (n - from) (drop from N) ++ c ∷ []) (sym p)
-          ∙ ap (λ v. v ++ c ∷ []) (stretch-more N from (k + 1) 0 (omega (arith, s .low)) (omega arith))
-          ∙ ap (λ v. (v ++ b ∷ []) ++ c ∷ []) (stretch-more N from k 0 (s .low) (omega arith))
+          ∙ ap (λ v. v ++ c ∷ []) (stretch-to N from (k + 1) 0 (omega (arith, s .low)) (omega arith))
+          ∙ ap (λ v. (v ++ b ∷ []) ++ c ∷ []) (stretch-to N from k 0 (s .low) (omega arith))
           ∙ append-assoc (xs ++ a ∷ []) (b ∷ []) (c ∷ [])
           ∙ append-assoc xs (a ∷ []) (b ∷ c ∷ [])
 

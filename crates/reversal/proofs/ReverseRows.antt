@@ -4,7 +4,7 @@ use mathlib.Core.Bool.{Bool, true, false, cond}
 use mathlib.Core.List.{List, [], _∷_, _++_, map, append-assoc}
 use Prim.Native.Nat.{ℕ, suc, _+_, _-_, _*_, _%_, _≤_, _<_}
 use native.Mathlib.Omega.{arith}
-use lib.ListN.{length, getD, take, drop, length-append, length-drop, drop-of-length-le}
+use lib.ListN.{length, getD, take, drop, length-append, length-drop, drop-of-length-le, length-map}
 use lib.Seq.{sets, sets-eq, length-sets, drop-cons, drop-drop, getD-take, getD-drop, take-at, drop-at, drop-append-add, length-take-le}
 use lib.Dec.{eqb}
 use lib.Ieee.{Float, neg}
@@ -14,9 +14,8 @@ use Rattle.body.specs.Body.{Row, rowsOf, allVertices, allIndices}
 use Rattle.body.specs.Rows.{noRow, rowAt, verticesBefore, indicesBefore}
 use Rattle.body.specs.Patches.{vertices-next, indices-next}
 use Rattle.walk.specs.Walk.{coloured}
-use Rattle.reversal.specs.Reversal.{swapped}
+use Rattle.reversal.specs.Reversal.{swapped, length-swapped}
 use Rattle.reversal.specs.Reversed.{changed, changedRows, coordinates, indexCount, RowStretches, RowReversed, Reversible, Reversed}
-use Rattle.reversal.proofs.ReverseLaws.{length-swapped, length-map}
 
 -- ---- one slice, whatever its items
 
@@ -173,7 +172,7 @@ module _ {table W : List ℕ} {colours : ℕ} {N : List Float} {I : List ℕ} {k
         at-i = omega (arith, h .at-i, indices-next table k more);
         normals =
             subst (λ n. Changing (map neg) coordinates (coloursIn table W colours) (rowsOf table) N (k + 1) n ns') (sym ev)
-            (changing-more (λ ys. length-map neg ys) (h .normals) (colour-here ec) row-here refl normals-end (q .normals ∙ ap (λ n. sets ns v (changed (map neg) c (take n (drop v ns)))) a));
+            (changing-more (λ ys. length-map ys neg) (h .normals) (colour-here ec) row-here refl normals-end (q .normals ∙ ap (λ n. sets ns v (changed (map neg) c (take n (drop v ns)))) a));
         indices =
             subst (λ n. Changing swapped indexCount (coloursIn table W colours) (rowsOf table) I (k + 1) n is') (sym ei)
             (changing-more length-swapped (h .indices) (colour-here ec) row-here refl indices-end (q .indices ∙ ap (λ n. sets is i (changed swapped c (take n (drop i is)))) b));

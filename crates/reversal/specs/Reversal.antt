@@ -1,7 +1,10 @@
 -- Coloured rows reversed: corners swapped and normals negated. Assumes nothing.
+use mathlib.Core.Path.{_≡_, refl}
 use mathlib.Core.Bool.{cond}
 use mathlib.Core.List.{List, [], _∷_, map}
 use Prim.Native.Nat.{ℕ}
+use native.Mathlib.Omega.{arith}
+use lib.ListN.{length}
 use lib.Dec.{eqb}
 use lib.Ieee.{neg}
 use Rattle.body.specs.Body.{Patch}
@@ -13,6 +16,14 @@ swapped [] = []
 swapped (a ∷ []) = a ∷ []
 swapped (a ∷ b ∷ []) = a ∷ b ∷ []
 swapped (a ∷ b ∷ c ∷ is) = a ∷ c ∷ b ∷ swapped is
+
+-- as many as before
+pub length-swapped : (is : List ℕ) → length (swapped is) ≡ length is
+unfolding swapped
+length-swapped [] = refl
+length-swapped (a ∷ []) = refl
+length-swapped (a ∷ b ∷ []) = refl
+length-swapped (a ∷ b ∷ c ∷ is) = let h = length-swapped is in omega arith
 
 -- A coloured row has corners 1 and 2 of each triangle swapped and its normals negated, those of unused vertices too.
 unfoldable pub turnedPatch : ℕ → Patch → Patch

@@ -5,7 +5,7 @@ use mathlib.Core.List.{List, [], _∷_, _++_, append-assoc, append-nil}
 use Prim.Native.Nat.{ℕ, zero, suc, _+_, _/_, _<_, _≤_}
 use native.Mathlib.Omega.{arith}
 use lib.ListN.{length, getD, take, drop, length-append, length-drop}
-use lib.Seq.{take-take, take-suc, getD-drop, length-take-le}
+use lib.Seq.{take-take, length-take-le}
 use lib.Dec.{eqb}
 use borrow.Author.Tests.{eq-eqb, ne-eqb}
 use Rattle.splits.specs.Entries.{entriesOf, entriesIn}
@@ -15,6 +15,7 @@ use Rattle.rings.specs.Added.{FanReady, FanWritten}
 use Rattle.rings.specs.FanSteps.{picked, edgeNumbers, Held, PushRoom, PickReady, EdgeReady, Pushed}
 use Rattle.rings.proofs.PushLaws.{pushed-none, pushed-then}
 use Rattle.rings.specs.FanLaws.{first-none}
+use Rattle.lists.specs.Stretches.{stretch-more}
 
 -- ---- one entry
 
@@ -116,14 +117,11 @@ module _ {a : ℕ} {W : List ℕ} {at count e next : ℕ} {f : Fan} {out : List 
       one-more : edgeNumbers e next (take (j + 1) (drop at W)) ≡ edgeNumbers e next (take j (drop at W)) ++ picked e (getD W (at + j) 0) (next + j)
       unfolding edgeNumbers
       one-more =
-          let z : j + 1 ≡ suc j = omega arith in
           let n : j < length (drop at W) = omega (arith, length-drop at W, r .words) in
-          ap (λ (n : ℕ). edgeNumbers e next (take n (drop at W))) z
-          ∙ ap (edgeNumbers e next) (take-suc (drop at W) j 0 n)
-          ∙ numbers-append e next (take j (drop at W)) (getD (drop at W) j 0 ∷ [])
+          ap (edgeNumbers e next) (stretch-more W at j 0 (omega (arith, r .words)))
+          ∙ numbers-append e next (take j (drop at W)) (getD W (at + j) 0 ∷ [])
           ∙ ap (λ (v : List ℕ). edgeNumbers e next (take j (drop at W)) ++ v)
-          (append-nil (picked e (getD (drop at W) j 0) (next + length (take j (drop at W))))
-          ∙ ap (λ (x : ℕ). picked e x (next + length (take j (drop at W)))) (getD-drop at W j 0)
+          (append-nil (picked e (getD W (at + j) 0) (next + length (take j (drop at W))))
           ∙ ap (λ (n : ℕ). picked e (getD W (at + j) 0) (next + n)) (length-take-le j (drop at W) (omega arith)))
 
       -- there is room for it

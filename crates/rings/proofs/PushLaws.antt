@@ -1,56 +1,16 @@
 -- Vertices pushed: none, one, and one list behind another. Assumes nothing.
 use mathlib.Core.Path.{_≡_, refl, sym, ap, _∙_, subst}
 use mathlib.Core.Bool.{Bool, true, false, cond}
-use mathlib.Core.List.{List, [], _∷_, _++_, append-assoc, append-nil}
-use Prim.Native.Nat.{ℕ, suc, _+_, _≤_}
-use native.Mathlib.Nat.{add-zero}
+use mathlib.Core.List.{List, [], _∷_, _++_, append-assoc}
+use Prim.Native.Nat.{ℕ, _+_, _≤_}
 use native.Mathlib.Omega.{arith}
-use lib.ListN.{length, take, drop, set, length-append}
-use lib.Seq.{sets, sets-eq, length-sets, take-at, length-take-le}
-use Rattle.lists.specs.Sets.{drop-sets}
-use Rattle.lists.specs.Stretches.{rest-less}
+use lib.ListN.{length, set, length-append}
+use lib.Seq.{sets, length-sets}
+use Rattle.lists.specs.Sets.{three-stored}
 use Rattle.rings.specs.declared.fan.Fan.{Fan}
 use Rattle.rings.specs.Rings.{fanGo}
-use Rattle.append.specs.Appended.{Appended}
+use Rattle.append.specs.Appended.{Appended, appended-none, appended-sets, appended-then}
 use Rattle.rings.specs.FanSteps.{PushRoom, Pushed}
-
--- ---- what is appended
-
--- nothing
-appended-none : (o : ℕ) (out : List ℕ) → Appended o [] out out
-appended-none o out =
-    record {
-      content = ap (λ (n : ℕ). take n out) (add-zero o) ∙ sym (append-nil (take o out));
-      rest = refl;
-    }
-
--- a run of stores
-appended-sets : (o : ℕ) (xs out : List ℕ) → o + length xs ≤ length out → Appended o xs out (sets out o xs)
-appended-sets o xs out l =
-    record {
-      content =
-          ap (take (o + length xs)) (sets-eq xs out o l)
-          ∙ take-at (take o out ++ xs) (drop (o + length xs) out) (o + length xs) (length-append (take o out) xs ∙ ap (λ (n : ℕ). n + length xs) (length-take-le o out (omega arith)));
-      rest = drop-sets out o xs (o + length xs) (omega arith);
-    }
-
--- more behind what was appended
-appended-then : {o p : ℕ} {xs ys A B C : List ℕ} → Appended o xs A B → p ≡ o + length xs → Appended p ys B C → Appended o (xs ++ ys) A C
-appended-then {o} {p} {xs} {ys} {A} {B} {C} s e t =
-    let l : o + length (xs ++ ys) ≡ p + length ys = omega (arith, length-append xs ys) in
-    record {
-      content =
-          ap (λ (n : ℕ). take n C) l
-          ∙ t .content
-          ∙ ap (λ (n : ℕ). take n B ++ ys) e
-          ∙ ap (λ (v : List ℕ). v ++ ys) (s .content)
-          ∙ append-assoc (take o A) xs ys;
-      rest =
-          ap (λ (n : ℕ). drop n C) l
-          ∙ t .rest
-          ∙ ap (λ (n : ℕ). drop n B) (sym l)
-          ∙ rest-less (o + length xs) (o + length (xs ++ ys)) A B (s .rest) (omega arith);
-    }
 
 -- ---- what is pushed
 
@@ -104,20 +64,14 @@ module _ {f : Fan} {out : List ℕ} (r : PushRoom f 1 out) (e : f .started ≡ t
   pub pushed-next : (a x : ℕ) → Pushed a f (x ∷ []) out (set (set (set out (f .o) a) (f .o + 1) (f .last)) (f .o + 2) x) (record { o = f .o + 3; last = x; started = true })
   unfolding fanGo
   pushed-next a x =
-      subst (λ (v : List ℕ). Pushed a f (x ∷ []) out v (record { o = f .o + 3; last = x; started = true })) stores
+      subst (λ (v : List ℕ). Pushed a f (x ∷ []) out v (record { o = f .o + 3; last = x; started = true })) (sym (three-stored out (f .o) a (f .last) x))
       (subst
       (λ (s : Bool). Pushed a (record { o = f .o; last = f .last; started = s }) (x ∷ []) out (sets out (f .o) (a ∷ f .last ∷ x ∷ [])) (record { o = f .o + 3; last = x; started = true }))
       (sym e)
       (record {
-        written = appended-sets (f .o) (a ∷ f .last ∷ x ∷ []) out (omega (arith, triangle-room));
+        written = appended-sets (omega (arith, triangle-room)) refl;
         end-is = omega arith;
         behind = λ more. refl;
         moved = omega arith;
         long = length-sets out (f .o) (a ∷ f .last ∷ x ∷ []);
       }))
-    where
-      stores : sets out (f .o) (a ∷ f .last ∷ x ∷ []) ≡ set (set (set out (f .o) a) (f .o + 1) (f .last)) (f .o + 2) x
-      stores =
-          let y : suc (f .o) ≡ f .o + 1 = omega arith in
-          let z : suc (suc (f .o)) ≡ f .o + 2 = omega arith in
-          ap (λ (n : ℕ). set (set (set out (f .o) a) n (f .last)) (suc (suc (f .o))) x) y ∙ ap (λ (n : ℕ). set (set (set out (f .o) a) (f .o + 1) (f .last)) n x) z

@@ -3,10 +3,10 @@ use mathlib.Core.Path.{_≡_, refl, sym, ap, _∙_, subst}
 use mathlib.Core.List.{List, [], _∷_, _++_, append-assoc, append-nil}
 use Prim.Native.Nat.{ℕ, zero, suc, _+_, _*_, _/_, _%_, _<_, _≤_}
 use native.Mathlib.Omega.{arith}
-use lib.ListN.{length, getD, set, take, drop, length-append, length-drop}
-use lib.Seq.{sets, sets-eq, length-sets, take-suc, take-at, getD-drop, length-take-le}
+use lib.ListN.{length, getD, length-append}
+use lib.Seq.{sets, length-sets}
 use lib.Ieee.{Float}
-use Rattle.lists.specs.Sets.{sets-append, drop-sets}
+use Rattle.lists.specs.Sets.{sets-append}
 use Rattle.floats.specs.Floats.{f64}
 use Rattle.geometry.specs.declared.Vec3.{Vec3}
 use Rattle.geometry.specs.Geometry.{vertexAt, pointAt}
@@ -14,18 +14,11 @@ use Rattle.patch_volume.specs.Volume.{Corners}
 use Rattle.projection.specs.declared.mixing.Normal.{Normal}
 use Rattle.projection.specs.Answers.{normalOf}
 use Rattle.projection.specs.Projection.{mixed}
-use Rattle.splits.specs.Entries.{Entry, entries-append, entriesIn, entriesOf, entryAt}
+use Rattle.splits.specs.Entries.{Entry, entriesIn, entriesOf, entryAt, entries-more}
 use Rattle.rings.specs.Rings.{coordinatesAt, newPositions, newNormals, startOf, endOf}
-use Rattle.append.specs.Appended.{Appended}
+use Rattle.append.specs.Appended.{Appended, appended-sets}
 use Rattle.rings.specs.Added.{VerticesReady, NormalsReady}
 use Rattle.rings.specs.VertexSteps.{PointReady}
-
--- three stores in turn are a run
-pub three-stored : (out : List Float) (k : ℕ) (x y z : Float) → set (set (set out k x) (k + 1) y) (k + 2) z ≡ sets out k (x ∷ y ∷ z ∷ [])
-three-stored out k x y z =
-    let e1 : k + 1 ≡ suc k = omega arith in
-    let e2 : k + 2 ≡ suc (suc k) = omega arith in
-    rw (e1, e2)
 
 -- ---- the corners of an edge
 
@@ -57,22 +50,6 @@ normal-is ns a b c e t {p} {q} {na} {nb} ep eq en em k =
     ∙ ap (λ (x : Vec3). mixed (pointAt ns (startOf a b c e)) x t) (em ∙ ap (pointAt ns) eq)
 
 -- ---- one entry more
-
--- behind the first j words of a stretch stands the word at place j
-words-more : (W : List ℕ) (k j : ℕ) → k + j < length W → take (j + 1) (drop k W) ≡ take j (drop k W) ++ getD W (k + j) 0 ∷ []
-words-more W k j l =
-    let e : j + 1 ≡ suc j = omega arith in
-    ap (λ (n : ℕ). take n (drop k W)) e
-    ∙ take-suc (drop k W) j 0 (omega (arith, length-drop k W))
-    ∙ ap (λ (x : ℕ). take j (drop k W) ++ x ∷ []) (getD-drop k W j 0)
-
--- behind the first j entries stands the entry at place j
-entries-more : (W : List ℕ) (at ts j : ℕ) → at + j < length W → ts + j < length W → entriesIn W at ts (j + 1) ≡ entriesIn W at ts j ++ entryAt W at ts j ∷ []
-entries-more W at ts j l m =
-    ap (λ (v : List ℕ). entriesOf v (take (j + 1) (drop ts W))) (words-more W at j l)
-    ∙ ap (entriesOf (take j (drop at W) ++ getD W (at + j) 0 ∷ [])) (words-more W ts j m)
-    ∙ entries-append (take j (drop at W)) (take j (drop ts W)) (getD W (at + j) 0) (getD W (ts + j) 0)
-    (length-take-le j (drop at W) (omega (arith, length-drop at W)) ∙ sym (length-take-le j (drop ts W) (omega (arith, length-drop ts W))))
 
 -- the position of one entry more
 positions-append : (ps : List Float) (xs : List Entry) (x : Entry) → newPositions ps (xs ++ x ∷ []) ≡ newPositions ps xs ++ coordinatesAt ps (x .vertex)
@@ -123,14 +100,7 @@ module _ {o j kept : ℕ} {xs out new : List Float} (s : Adding o j kept xs out 
 
   -- what was written when all are
   adding-all : o + length xs ≤ length out → Appended o xs out new
-  adding-all l =
-      record {
-        content =
-            ap (take (o + length xs)) (s .list ∙ sets-eq xs out o l)
-            ∙ take-at (take o out ++ xs) (drop (o + length xs) out) (o + length xs)
-            (length-append (take o out) xs ∙ ap (λ (n : ℕ). n + length xs) (length-take-le o out (omega arith)));
-        rest = ap (drop (o + length xs)) (s .list) ∙ drop-sets out o xs (o + length xs) (omega arith);
-      }
+  adding-all l = appended-sets l (s .list)
 
 -- ---- the positions
 

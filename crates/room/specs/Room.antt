@@ -6,7 +6,7 @@ use Prim.Native.Nat.{ℕ, _*_, _≤_}
 use lib.ListN.{length}
 use lib.Dec.{ltb}
 use borrow.Author.Tests.{ltb-false}
-use Rattle.body.specs.Checks.{or-left, or-right}
+use Rattle.lists.specs.Both.{or-left, or-right}
 use Rattle.body.specs.Body.{firstFailing}
 use Rattle.acceptance.specs.Acceptance.{Accepted, acceptedVertices, acceptedIndices}
 use Rattle.materials.specs.Materials.{badMaterials}

@@ -1,12 +1,14 @@
 -- The placed points of a triangle as entries in the work area: edge and vertex in one word, the parameter's bits in another. Assumes nothing.
 use native.Mathlib.Omega.{arith}
-use mathlib.Core.Path.{_≡_, refl, ap}
+use mathlib.Core.Path.{_≡_, refl, sym, ap, _∙_}
 use mathlib.Core.Bool.{Bool, true, false, _&&_, _||_}
 use mathlib.Core.List.{List, [], _∷_, _++_}
 use Prim.Native.Nat.{ℕ, _+_, _/_, _%_, _<_, _≤_}
-use lib.ListN.{length, getD, take, drop, set}
+use lib.ListN.{length, getD, take, drop, set, length-drop}
+use lib.Seq.{length-take-le}
 use lib.Dec.{eqb, ltb}
 use lib.Ieee.{Float, lt}
+use Rattle.lists.specs.Stretches.{stretch-more}
 use Rattle.floats.specs.Floats.{f64, absolute}
 use Rattle.geometry.specs.Geometry.{sub}
 use Rattle.loose.specs.Put.{put}
@@ -124,3 +126,10 @@ entries-append [] [] x y e = refl
 entries-append [] (b ∷ Y) x y e = absurd (omega arith)
 entries-append (a ∷ X) [] x y e = absurd (omega arith)
 entries-append (a ∷ X) (b ∷ Y) x y e = ap (λ (r : List Entry). entryOf a b ∷ r) (entries-append X Y x y (omega arith))
+
+-- behind the first j entries stands the entry at place j
+pub entries-more : (W : List ℕ) (at ts j : ℕ) → at + j < length W → ts + j < length W → entriesIn W at ts (j + 1) ≡ entriesIn W at ts j ++ entryAt W at ts j ∷ []
+entries-more W at ts j l m =
+    (λ i. entriesOf (stretch-more W at j 0 l i) (stretch-more W ts j 0 m i))
+    ∙ entries-append (take j (drop at W)) (take j (drop ts W)) (getD W (at + j) 0) (getD W (ts + j) 0)
+    (length-take-le j (drop at W) (omega (arith, length-drop at W)) ∙ sym (length-take-le j (drop ts W) (omega (arith, length-drop ts W))))

@@ -15,6 +15,7 @@ use Rattle.splits.specs.Splits.{near-last, Placed, insertPlaced, sortPla
 use Rattle.splits.specs.Entries.{Entry, insertEntry, dropAfter, keptEntries}
 use Rattle.splits.specs.Filters.{filter-map}
 use Rattle.splits.specs.Places.{OnEdges, placedOf}
+use Rattle.lists.specs.Each.{Each, each-both, each-then}
 
 -- ---- one edge
 
@@ -100,57 +101,46 @@ insertAll C [] = C
 insertAll C (x ∷ xs) = insertAll (insertEntry x C) xs
 
 -- each entry has an edge that Q tells
-abbrev Each : (ℕ → Type 0) → List Entry → Type 0
-Each Q [] = Unit {0}
-Each Q (x ∷ xs) = Q (x .e) × Each Q xs
-
--- what follows of each edge
-each-weaker : {Q R : ℕ → Type 0} → ((k : ℕ) → Q k → R k) → (xs : List Entry) → Each Q xs → Each R xs
-each-weaker w [] q = tt
-each-weaker w (x ∷ xs) q = (w (x .e) (q .0), each-weaker w xs (q .1))
+abbrev EdgesEach : (ℕ → Type 0) → List Entry → Type 0
+EdgesEach Q xs = Each (λ x. Q (x .e)) xs
 
 module _ (Q : ℕ → Type 0) where
-  -- of two lists
-  each-append : (xs ys : List Entry) → Each Q xs → Each Q ys → Each Q (xs ++ ys)
-  each-append [] ys q r = r
-  each-append (x ∷ xs) ys q r = (q .0, each-append xs ys (q .1) r)
-
   -- of an entry and those that it is inserted into
-  each-insert : (x : Entry) (S : List Entry) → Q (x .e) → Each Q S → Each Q (insertAt x S)
+  each-insert : (x : Entry) (S : List Entry) → Q (x .e) → EdgesEach Q S → EdgesEach Q (insertAt x S)
   unfolding insertAt
   each-insert x [] q r = (q, tt)
   each-insert x (y ∷ S) q r = go (lt (x .t) (y .t)) (each-insert x S q (r .1))
     where
-      go : (b : Bool) → Each Q (insertAt x S) → Each Q (cond b (x ∷ y ∷ S) (y ∷ insertAt x S))
+      go : (b : Bool) → EdgesEach Q (insertAt x S) → EdgesEach Q (cond b (x ∷ y ∷ S) (y ∷ insertAt x S))
       go true i = (q, r)
       go false i = (r .0, i)
 
   -- of entries and those that they are sorted into
-  each-sort : (S xs : List Entry) → Each Q S → Each Q xs → Each Q (sortAt S xs)
+  each-sort : (S xs : List Entry) → EdgesEach Q S → EdgesEach Q xs → EdgesEach Q (sortAt S xs)
   unfolding sortAt
   each-sort S [] q r = q
   each-sort S (x ∷ xs) q r = each-sort (insertAt x S) xs (each-insert x S (r .0) q) (r .1)
 
 -- the entries of edge k are on it
-each-on : (k : ℕ) (xs : List Entry) → Each (λ j. j ≡ k) (onEdge k xs)
+each-on : (k : ℕ) (xs : List Entry) → EdgesEach (λ j. j ≡ k) (onEdge k xs)
 unfolding filter
 each-on k [] = tt
 each-on k (x ∷ xs) = go (eqb (x .e) k) refl (each-on k xs)
   where
-    go : (b : Bool) → eqb (x .e) k ≡ b → Each (λ j. j ≡ k) (onEdge k xs) → Each (λ j. j ≡ k) (cond b (x ∷ onEdge k xs) (onEdge k xs))
+    go : (b : Bool) → eqb (x .e) k ≡ b → EdgesEach (λ j. j ≡ k) (onEdge k xs) → EdgesEach (λ j. j ≡ k) (cond b (x ∷ onEdge k xs) (onEdge k xs))
     go true e r = (eqb-true (x .e) k e, r)
     go false e r = r
 
 -- entries of one edge are on a higher edge than another
-each-above : (i k : ℕ) → i < k → (xs : List Entry) → Each (λ j. j ≡ k) xs → Each (λ j. i < j) xs
-each-above i k h = each-weaker (λ j e. above j e)
+each-above : (i k : ℕ) → i < k → (xs : List Entry) → EdgesEach (λ j. j ≡ k) xs → EdgesEach (λ j. i < j) xs
+each-above i k h = each-then (λ x. x .e ≡ k) (λ x. i < x .e) (λ x e. above (x .e) e)
   where
     above : (j : ℕ) → j ≡ k → i < j
     above j e = omega arith
 
 -- and on a lower one than another
-each-below : (i k : ℕ) → k < i → (xs : List Entry) → Each (λ j. j ≡ k) xs → Each (λ j. j < i) xs
-each-below i k h = each-weaker (λ j e. below j e)
+each-below : (i k : ℕ) → k < i → (xs : List Entry) → EdgesEach (λ j. j ≡ k) xs → EdgesEach (λ j. j < i) xs
+each-below i k h = each-then (λ x. x .e ≡ k) (λ x. x .e < i) (λ x e. below (x .e) e)
   where
     below : (j : ℕ) → j ≡ k → j < i
     below j e = omega arith
@@ -158,7 +148,7 @@ each-below i k h = each-weaker (λ j e. below j e)
 -- ---- sorting
 
 -- an entry goes behind all of lower edges
-insert-behind : (x : Entry) (A B : List Entry) → Each (λ k. k < x .e) A → insertEntry x (A ++ B) ≡ A ++ insertEntry x B
+insert-behind : (x : Entry) (A B : List Entry) → EdgesEach (λ k. k < x .e) A → insertEntry x (A ++ B) ≡ A ++ insertEntry x B
 unfolding insertEntry
 insert-behind x [] B a = refl
 insert-behind x (y ∷ A) B a =
@@ -172,14 +162,14 @@ insert-behind x (y ∷ A) B a =
     differ h e = omega arith
 
 -- an entry goes in front of all of higher edges
-insert-front : (x : Entry) (B : List Entry) → Each (λ k. x .e < k) B → insertEntry x B ≡ x ∷ B
+insert-front : (x : Entry) (B : List Entry) → EdgesEach (λ k. x .e < k) B → insertEntry x B ≡ x ∷ B
 unfolding insertEntry
 insert-front x [] b = refl
 insert-front x (y ∷ B) b =
     λ i. elim (lt-ltb (x .e) (y .e) (b .0) i || (eqb (x .e) (y .e) && lt (x .t) (y .t))) [ true ↦ x ∷ y ∷ B | false ↦ y ∷ insertEntry x B ]
 
 -- among those of its edge it goes by parameter
-insert-among : (x : Entry) (A B : List Entry) → Each (λ k. k ≡ x .e) A → Each (λ k. x .e < k) B → insertEntry x (A ++ B) ≡ insertAt x A ++ B
+insert-among : (x : Entry) (A B : List Entry) → EdgesEach (λ k. k ≡ x .e) A → EdgesEach (λ k. x .e < k) B → insertEntry x (A ++ B) ≡ insertAt x A ++ B
 unfolding insertEntry insertAt
 insert-among x [] B a b = insert-front x B b
 insert-among x (y ∷ A) B a b =
@@ -196,7 +186,7 @@ insert-among x (y ∷ A) B a b =
 
 -- the entries of all edges in one list, and of each
 abbrev Sorts : List Entry → Type 0
-Sorts xs = (S₀ S₁ S₂ : List Entry) → Each (λ k. k ≡ 0) S₀ → Each (λ k. k ≡ 1) S₁ → Each (λ k. k ≡ 2) S₂
+Sorts xs = (S₀ S₁ S₂ : List Entry) → EdgesEach (λ k. k ≡ 0) S₀ → EdgesEach (λ k. k ≡ 1) S₁ → EdgesEach (λ k. k ≡ 2) S₂
     → insertAll (S₀ ++ S₁ ++ S₂) xs ≡ sortAt S₀ (onEdge 0 xs) ++ sortAt S₁ (onEdge 1 xs) ++ sortAt S₂ (onEdge 2 xs)
 
 -- entries inserted into one list are sorted edge by edge
@@ -213,7 +203,7 @@ sorts (x ∷ xs) o S₀ S₁ S₂ a₀ a₁ a₂ = go (x .e) (x .t) (x .vertex) 
         ++ sortAt S₂ (cond (eqb e 2) (y ∷ onEdge 2 xs) (onEdge 2 xs))
     go zero t v h r =
         let y : Entry = record { e = 0; t = t; vertex = v } in
-        let higher = each-append (λ j. 0 < j) S₁ S₂ (each-above 0 1 (omega arith) S₁ a₁) (each-above 0 2 (omega arith) S₂ a₂) in
+        let higher = each-both (λ x. 0 < x .e) S₁ S₂ (each-above 0 1 (omega arith) S₁ a₁) (each-above 0 2 (omega arith) S₂ a₂) in
         ap (λ (l : List Entry). insertAll l xs) (ap (insertEntry y) (append-assoc S₀ S₁ S₂) ∙ insert-among y S₀ (S₁ ++ S₂) a₀ higher ∙ sym (append-assoc (insertAt y S₀) S₁ S₂))
         ∙ r (insertAt y S₀) S₁ S₂ (each-insert (λ k. k ≡ 0) y S₀ refl a₀) a₁ a₂
     go (suc zero) t v h r =
@@ -227,7 +217,7 @@ sorts (x ∷ xs) o S₀ S₁ S₂ a₀ a₁ a₂ = go (x .e) (x .t) (x .vertex) 
         ∙ r S₀ (insertAt y S₁) S₂ a₀ (each-insert (λ k. k ≡ 1) y S₁ refl a₁) a₂
     go (suc (suc zero)) t v h r =
         let y : Entry = record { e = 2; t = t; vertex = v } in
-        let lower = each-append (λ j. j < 2) S₀ S₁ (each-below 2 0 (omega arith) S₀ a₀) (each-below 2 1 (omega arith) S₁ a₁) in
+        let lower = each-both (λ x. x .e < 2) S₀ S₁ (each-below 2 0 (omega arith) S₀ a₀) (each-below 2 1 (omega arith) S₁ a₁) in
         ap
         (λ (l : List Entry). insertAll l xs)
         (insert-behind y (S₀ ++ S₁) S₂ lower
@@ -238,7 +228,7 @@ sorts (x ∷ xs) o S₀ S₁ S₂ a₀ a₁ a₂ = go (x .e) (x .t) (x .vertex) 
 -- ---- dropping
 
 -- an entry on another edge than the last kept is not dropped
-drop-other : (last : Entry) (k : ℕ) → last .e ≡ k → (B : List Entry) → Each (λ j. k < j) B → dropAfter last B ≡ keptEntries B
+drop-other : (last : Entry) (k : ℕ) → last .e ≡ k → (B : List Entry) → EdgesEach (λ j. k < j) B → dropAfter last B ≡ keptEntries B
 unfolding dropAfter keptEntries
 drop-other last k e [] b = refl
 drop-other last k e (y ∷ B) b =
@@ -248,7 +238,7 @@ drop-other last k e (y ∷ B) b =
     differ h q = omega arith
 
 -- the entries of an edge are dropped by parameter, whatever is on higher edges
-drop-append : (last : Entry) (k : ℕ) → last .e ≡ k → (A B : List Entry) → Each (λ j. j ≡ k) A → Each (λ j. k < j) B
+drop-append : (last : Entry) (k : ℕ) → last .e ≡ k → (A B : List Entry) → EdgesEach (λ j. j ≡ k) A → EdgesEach (λ j. k < j) B
     → dropAfter last (A ++ B) ≡ dropNearAt last A ++ keptEntries B
 unfolding dropAfter dropNearAt
 drop-append last k e [] B a b = drop-other last k e B b
@@ -263,7 +253,7 @@ drop-append last k e (y ∷ A) B a b =
     go false p q = ap (λ (l : List Entry). y ∷ l) q
 
 -- so are those kept
-kept-append : (k : ℕ) (A B : List Entry) → Each (λ j. j ≡ k) A → Each (λ j. k < j) B → keptEntries (A ++ B) ≡ dropCloseAt A ++ keptEntries B
+kept-append : (k : ℕ) (A B : List Entry) → EdgesEach (λ j. j ≡ k) A → EdgesEach (λ j. k < j) B → keptEntries (A ++ B) ≡ dropCloseAt A ++ keptEntries B
 unfolding keptEntries dropCloseAt
 kept-append k [] B a b = refl
 kept-append k (x ∷ A) B a b = ap (λ (l : List Entry). x ∷ l) (drop-append x k (a .0) A B (a .1) b)
@@ -278,7 +268,7 @@ kept-edges xs o =
     let a₀ = each-sort (λ j. j ≡ 0) [] (onEdge 0 xs) tt (each-on 0 xs) in
     let a₁ = each-sort (λ j. j ≡ 1) [] (onEdge 1 xs) tt (each-on 1 xs) in
     let a₂ = each-sort (λ j. j ≡ 2) [] (onEdge 2 xs) tt (each-on 2 xs) in
-    let higher = each-append (λ j. 0 < j) S₁ S₂ (each-above 0 1 (omega arith) S₁ a₁) (each-above 0 2 (omega arith) S₂ a₂) in
+    let higher = each-both (λ x. 0 < x .e) S₁ S₂ (each-above 0 1 (omega arith) S₁ a₁) (each-above 0 2 (omega arith) S₂ a₂) in
     let last : keptEntries S₂ ≡ dropCloseAt S₂ = ap keptEntries (sym (append-nil S₂)) ∙ kept-append 2 S₂ [] a₂ tt ∙ append-nil (dropCloseAt S₂) in
     ap keptEntries (sorts xs o [] [] [] tt tt tt ∙ append-assoc S₀ S₁ S₂)
     ∙ kept-append 0 S₀ (S₁ ++ S₂) a₀ higher

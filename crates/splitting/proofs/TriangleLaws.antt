@@ -16,7 +16,7 @@ use Rattle.projection.specs.declared.Hit.{Hit}
 use Rattle.projection.specs.declared.Edge.{Edge}
 use Rattle.projection.specs.Projection.{project, withinSag}
 use Rattle.projection.specs.Beyond.{Ruled}
-use Rattle.loose.specs.Listed.{nameIn, Listed, NameAt}
+use Rattle.loose.specs.Listed.{NameAt, listed-kept}
 use Rattle.splitting.specs.declared.placing.Placing.{Placing}
 use Rattle.splitting.specs.declared.placing.Place.{Place}
 use Rattle.splitting.specs.declared.placing.Place.the-variants.{Nowhere, On}
@@ -166,22 +166,6 @@ module _ {ps : List Float} {sag beyond : Float} {v list count j e at ts found pl
             }
 
 -- ---- all vertices on one edge
-
--- a list in front of what was written is kept
-listed-kept : {v list count at : ℕ} {W E : List ℕ} → Listed v list count W → list + count ≤ at → take at E ≡ take at W → length E ≡ length W → Listed v list count E
-listed-kept {v} {list} {count} {at} {W} {E} s l e long =
-    record {
-      behind = s .behind;
-      room = omega (arith, s .room);
-      below = λ j b. subst (λ (x : ℕ). x < v) (sym (word j b)) (s .below j b);
-      rising = λ j k a b. omega (arith, name j (omega arith), name k b, s .rising j k a b);
-    }
-  where
-    word : (j : ℕ) → j < count → getD E (list + j) 0 ≡ getD W (list + j) 0
-    word j b = front-at at (list + j) W E 0 e (omega arith)
-
-    name : (j : ℕ) → j < count → nameIn E list j ≡ nameIn W list j
-    name j b = ap (λ (x : ℕ). getD E x 0) (word j b) ∙ front-at at (getD W (list + j) 0) W E 0 e (omega (arith, s .below j b, s .behind))
 
 -- the first j vertices have been tried: W became E
 pub record Finding (ps : List Float) (sag : Float) (s : Sides) (v list count e at ts found placed : ℕ) (W : List ℕ) (total entries j : ℕ) (E : List ℕ) : Type 0 where

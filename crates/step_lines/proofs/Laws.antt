@@ -6,10 +6,10 @@ use mathlib.Core.Path.{_≡_, refl, sym, _∙_, ap, subst}
 use Prim.Native.Nat.{ℕ, _^_, _≤_, _<_}
 use native.Mathlib.Omega.{arith}
 use lib.Dec.{T, ltb, ltb→lt}
+use lib.Ieee.Fits.{and-l}
 use lib.ListN.{length, getD, take}
 use Rattle.digits.specs.Bytes.{bytes}
 use Rattle.digits.specs.Given.{Wrote}
-use Rattle.digits.specs.ReadBack.{and-left}
 use Rattle.lines.specs.Forms.{Piece, read}
 use Rattle.lines.specs.Counted.{countIn}
 use Rattle.lines.specs.Exact.{read-fits}
@@ -102,7 +102,7 @@ unfolding form
 short {line} {N} {r} v e h =
     let there : read (form Widen) line ≡ some (getD N 0 0 ∷ []) = scanned Widen line N r v ∙ ap (λ (b : Bool). cond b (some (take 1 N)) none) e ∙ ap some (first N h) in
     let t : T (fits (form Widen) (getD N 0 0 ∷ [])) = read-fits (form Widen) line (getD N 0 0 ∷ []) there in
-    ltb→lt (getD N 0 0) (2 ^ 32) (and-left (ltb (getD N 0 0) (2 ^ 32)) true t)
+    ltb→lt (getD N 0 0) (2 ^ 32) (and-l (ltb (getD N 0 0) (2 ^ 32)) true t)
 
 -- The line for a reply is the line for the reply that it equals.
 pub print-as : (s : Reply) {r : Reply} {E W : List ℕ} {n : ℕ} → r ≡ s → Wrote E 0 (printed s) W n → Wrote E 0 (printed r) W n

@@ -1,9 +1,9 @@
 -- A triangle's view says what the definition finds and keeps of it: new vertices, their normals, and the fan. Assumes nothing.
 use mathlib.Core.Path.{_≡_, refl, ap, _∙_}
-use mathlib.Core.Bool.{Bool, true, false, not, cond}
+use mathlib.Core.Bool.{Bool, true, false, not}
 use mathlib.Core.List.{List, [], _∷_, _++_, map, flatMap}
 use Prim.Native.Nat.{ℕ, zero, suc, _+_, _<_}
-use lib.ListN.{length, getD, length-map}
+use lib.ListN.{length, length-map}
 use lib.Dec.{eqb}
 use lib.Ieee.{Float}
 use Rattle.body.specs.Body.{Triangle}
@@ -11,6 +11,7 @@ use Rattle.geometry.specs.Geometry.{pointAt}
 use Rattle.projection.specs.Projection.{edgeOf, mixed}
 use Rattle.loose.specs.Loose.{Facet, cornerOf}
 use Rattle.loose.specs.Listed.{looseOf}
+use Rattle.loose.specs.Based.{flag, PointsFrom, NamesFrom}
 use Rattle.splits.specs.declared.sides.Sides.{Sides}
 use Rattle.splits.specs.Splits.{Placed, SplitTriangle, splitTriangle, sideOf}
 use Rattle.splits.specs.Entries.{Entry}
@@ -23,26 +24,12 @@ use Rattle.stitched.specs.StitchedBody.{newNormal, coordinates, ring}
 use Rattle.counting.specs.Views.{edgeAt, sidesAt, View, viewOf}
 use Rattle.rings.specs.FanLaws.{fan-go}
 
--- ---- the fan
-
 -- ---- the sides of a triangle
-
--- 1 for an open edge, 0 for any other
-abbrev pub flag : Bool → ℕ
-flag b = cond b 1 0
 
 -- a flag is set where the edge is open
 flag-set : (b : Bool) → b ≡ not (eqb (flag b) 0)
 flag-set true = refl
 flag-set false = refl
-
--- a row's n vertices start at `base` of all points, and are the first of qs
-pub record PointsFrom (ps : List Float) (base n : ℕ) (qs : List Float) : Type 0 where
-  pub point : (i : ℕ) → i < n → pointAt qs i ≡ pointAt ps (base + i)
-
--- their names start at `base` of all names, and are the first of ms
-pub record NamesFrom (nms : List ℕ) (base : ℕ) (ms : List ℕ) : Type 0 where
-  pub name : (i : ℕ) → getD ms i 0 ≡ getD nms (base + i) 0
 
 -- a triangle of corners with their points and names
 abbrev pub facetAt : List Float → List ℕ → Bool → Bool → Bool → Triangle → Facet

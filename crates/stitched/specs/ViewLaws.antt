@@ -5,14 +5,11 @@ use mathlib.Core.List.{List, [], _∷_, _++_, map, map-map, flatMap}
 use Prim.Native.Nat.{ℕ, suc, _+_, _*_, _≤_, _<_}
 use native.Mathlib.Omega.{arith}
 use lib.ListN.{length, getD, take, drop, length-drop}
-use lib.Seq.{getD-drop, drop-drop, length-take-le}
-use lib.Ieee.{Float, nan}
-use Rattle.floats.specs.Floats.{widen}
+use lib.Seq.{drop-drop, length-take-le}
+use lib.Ieee.{Float}
 use Rattle.lists.specs.Lists.{sumOf}
-use Rattle.lists.specs.Stretches.{stretch-at}
 use Rattle.join.specs.Join.{joined}
 use Rattle.body.specs.Body.{Row, Patch, trianglesOf, rowsOf, patchesOf, allIndices}
-use Rattle.geometry.specs.Geometry.{pointAt}
 use Rattle.edges.specs.Edges.{Use, usesFrom, isOpen}
 use Rattle.edges.specs.RowUses.{Inside, inside-first, inside-rest}
 use Rattle.loose.specs.Loose.{Loose, facetsOf, bodyFacets, facetsIn, looseIn}
@@ -23,8 +20,8 @@ use Rattle.splits.specs.FoundPoints.{Distinct}
 use Rattle.rings.specs.Rings.{fanGo, ringAfter}
 use Rattle.stitched.specs.StitchedBody.{newNormal, coordinates, fanned, stitchedPatch, stitchedPatches, stitchedBodyOf, stitchedBody}
 use Rattle.counting.specs.Views.{View, rowViews, bodyViews, foundIn, keptIn, rowPositions, rowNormals, rowIndices, viewedRow, viewedRows, viewedPositions, viewedNormals, viewedIndices}
-use Rattle.stitched.specs.TriangleViews.{flag, PointsFrom, NamesFrom, Seen, triangle-seen, seen-count, seen-positions, seen-normals, seen-fan}
-use Rattle.loose.specs.LooseLaws.{flags-drop}
+use Rattle.stitched.specs.TriangleViews.{Seen, triangle-seen, seen-count, seen-positions, seen-normals, seen-fan}
+use Rattle.loose.specs.Based.{flag, flags-drop, PointsFrom, NamesFrom, points-from, names-from}
 
 -- ---- one row
 
@@ -101,28 +98,6 @@ module _ (sag : Float) {ps : List Float} {nms : List ℕ} {base n : ℕ} {qs : L
       (row-seen opens xs (λ j h. b (suc (suc (suc j))) (omega arith)))
 
 -- ---- where a row begins
-
--- a coordinate of the row stands at k of its own and at m of all
-coordinate : (ps : List Float) (base n k m : ℕ) → k < 3 * n → 3 * base + k ≡ m → getD (take (3 * n) (drop (3 * base) ps)) k nan ≡ getD ps m nan
-coordinate ps base n k m h e = stretch-at (3 * base) (3 * n) ps k nan h ∙ ap (λ (i : ℕ). getD ps i nan) e
-
--- a row's vertices are where those before it end
-points-from : (ps : List Float) (base n : ℕ) (qs : List Float) → qs ≡ drop (3 * base) ps → PointsFrom ps base n (take (3 * n) qs)
-points-from ps base n qs e =
-    record {
-      point = λ i h.
-          ap (λ (l : List Float). pointAt (take (3 * n) l) i) e
-          ∙ (λ j.
-          record {
-            x = widen (coordinate ps base n (3 * i) (3 * (base + i)) (omega arith) (omega arith) j);
-            y = widen (coordinate ps base n (3 * i + 1) (3 * (base + i) + 1) (omega arith) (omega arith) j);
-            z = widen (coordinate ps base n (3 * i + 2) (3 * (base + i) + 2) (omega arith) (omega arith) j);
-          });
-    }
-
--- so are their names
-names-from : (nms : List ℕ) (base : ℕ) (ms : List ℕ) → ms ≡ drop base nms → NamesFrom nms base ms
-names-from nms base ms e = record { name = λ i. ap (λ (l : List ℕ). getD l i 0) e ∙ getD-drop base nms i 0 }
 
 -- the coordinates of the vertices behind a row's
 points-behind : (ps : List Float) (base v : ℕ) (qs : List Float) → qs ≡ drop (3 * base) ps → drop (3 * v) qs ≡ drop (3 * (base + v)) ps

@@ -11,7 +11,7 @@ use borrow.Author.Tests.{ltb-false, eqb-true, not-false}
 use Rattle.body.specs.Body.{Row, rowsOf, allVertices, allIndices, rowWidth}
 use Rattle.table_checks.specs.TableChecks.{mostRows}
 use Rattle.body.specs.Rows.{WholeRows, length-rows}
-use Rattle.body.specs.Checks.{or-left, or-right}
+use Rattle.lists.specs.Both.{or-left, or-right}
 
 -- 11: the table isn't whole rows, or has too many
 abbrev pub notWhole : List ℕ → Bool

@@ -12,7 +12,8 @@ use Rattle.body.specs.Body.{rowsOf, allVertices, allIndices, firstFailing}
 use Rattle.table_checks.specs.TableChecks.{badRow, tooLarge, tableChecks}
 use Rattle.body.specs.Rows.{WholeRows}
 use Rattle.table_checks.specs.TableTests.{notWhole, wrongLengths, whole-rows}
-use Rattle.body.specs.Checks.{clear-first, or-left, or-right, and-left, and-right}
+use Rattle.body.specs.Checks.{clear-first}
+use Rattle.lists.specs.Both.{or-left, or-right, and-left, and-right}
 
 -- what the checks 11 to 14 give
 pub record Tabled (table : List ℕ) (ps ns : List Float) (is : List ℕ) : Type 0 where

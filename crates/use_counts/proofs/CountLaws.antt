@@ -4,14 +4,14 @@ use mathlib.Core.Bool.{Bool, true, false, cond}
 use mathlib.Core.List.{List, [], _∷_, _++_}
 use Prim.Native.Nat.{ℕ, suc, _+_, _-_, _≤_, _<_, min}
 use native.Mathlib.Omega.{arith}
-use native.Mathlib.Numerals.{add-one}
 use native.Mathlib.Decide.{ℕ-discrete}
 use lib.ListN.{length, getD, set, take, drop, replicate, length-set, length-take, length-drop, length-replicate, getD-replicate}
-use lib.Seq.{sets, length-sets, take-suc, getD-take, getD-drop, getD-set-same, getD-set-other, take-set-le, drop-set-lt, ext-getD}
+use lib.Seq.{sets, length-sets, getD-take, getD-drop, getD-set-same, getD-set-other, take-set-le, drop-set-lt, ext-getD}
 use lib.Dec.{eqb}
 use borrow.Author.Tests.{eq-eqb, ne-eqb}
 use Rattle.lists.specs.Lists.{countIf}
 use Rattle.lists.specs.Sets.{getD-sets-in, take-sets, drop-sets}
+use Rattle.lists.specs.Stretches.{stretch-more}
 use Rattle.edges.specs.Counted.{StepReady, CountReady, Counted}
 
 -- one more item
@@ -130,11 +130,7 @@ module _ {W w : List ℕ} {firsts counts n i : ℕ} (r : CountReady W firsts cou
 
   -- the first uses counted next
   next : take (i + 1) (drop firsts W) ≡ take i (drop firsts W) ++ getD w (firsts + i) 0 ∷ []
-  next =
-      let h : i < length (drop firsts W) = omega (arith, length-drop firsts W, r .apart, r .room) in
-      ap (λ (m : ℕ). take m (drop firsts W)) (add-one i)
-      ∙ take-suc (drop firsts W) i 0 h
-      ∙ ap (λ (x : ℕ). take i (drop firsts W) ++ x ∷ []) (getD-drop firsts W i 0 ∙ sym first-is)
+  next = stretch-more W firsts i 0 (omega (arith, r .apart, r .room)) ∙ ap (λ (x : ℕ). take i (drop firsts W) ++ x ∷ []) (sym first-is)
 
   pub counting-more : {v : List ℕ} → v ≡ set w (counts + getD w (firsts + i) 0) (getD w (counts + getD w (firsts + i) 0) 0 + 1) → CountingUses W firsts counts n (i + 1) v
   counting-more {v} e =

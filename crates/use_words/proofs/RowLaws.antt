@@ -5,7 +5,7 @@ use Prim.Native.Nat.{ℕ, suc, _+_, _-_, _%_, _≤_, _<_}
 use native.Mathlib.Omega.{arith}
 use lib.ListN.{length, getD, set, take, drop, length-append}
 use lib.Seq.{sets, length-sets, drop-cons, getD-drop}
-use Rattle.lists.specs.Sets.{getD-sets-below, sets-append}
+use Rattle.lists.specs.Sets.{getD-sets-below, sets-append, three-stored}
 use Rattle.body.specs.Body.{trianglesOf}
 use Rattle.edges.specs.Edges.{Use, triangleUses}
 use Rattle.edges.specs.Named.{PointReady, Low, RowReady}
@@ -15,12 +15,9 @@ use Rattle.edges.specs.UseLaws.{length-named}
 abbrev pub usesBetween : List ℕ → List ℕ → ℕ → ℕ → ℕ → List Use
 usesBetween is P shell k to = triangleUses shell 0 P (trianglesOf (take (to - k) (drop k is)))
 
--- three stores in turn are a run
-pub three-stored : (W : List ℕ) (at : ℕ) {x y z x' y' z' : ℕ} → x ≡ x' → y ≡ y' → z ≡ z' → set (set (set W at x) (at + 1) y) (at + 2) z ≡ sets W at (x' ∷ y' ∷ z' ∷ [])
-three-stored W at {x} {y} {z} {x'} {y'} {z'} ex ey ez =
-    let e1 : at + 1 ≡ suc at = omega arith in
-    let e2 : at + 2 ≡ suc (suc at) = omega arith in
-    rw (ex, ey, ez, e1, e2)
+-- three stores in turn of what equals three words are a run of these
+pub three-written : (W : List ℕ) (at : ℕ) {x y z x' y' z' : ℕ} → x ≡ x' → y ≡ y' → z ≡ z' → set (set (set W at x) (at + 1) y) (at + 2) z ≡ sets W at (x' ∷ y' ∷ z' ∷ [])
+three-written W at {x} {y} {z} ex ey ez = three-stored W at x y z ∙ (λ j. sets W at (ex j ∷ ey j ∷ ez j ∷ []))
 
 -- with the words of the triangles before index k written: W became w
 pub record Writing (word : Use → ℕ) (is W : List ℕ) (points from to at shell k : ℕ) (w : List ℕ) : Type 0 where

@@ -8,18 +8,18 @@ use lib.Seq.{drop-drop, length-take-le}
 use lib.Ieee.{Float}
 use Rattle.lists.specs.Lists.{sumOf, written}
 use Rattle.body.specs.Body.{Row, rowsOf, tableOf}
-use Rattle.body.specs.Rows.{rowAt, verticesBefore, indicesBefore}
+use Rattle.body.specs.Rows.{rowAt, verticesBefore, indicesBefore, rows-here, table-length}
 use Rattle.body.specs.Patches.{before-none, indices-next, vertices-next}
 use Rattle.append.specs.Appended.{Appended, appended-none, appended-written, behind, part-low}
 use Rattle.counting.specs.Views.{View, keptIn, rowPositions, rowNormals, rowIndices, viewedRow, viewedRows, viewedPositions, viewedNormals, viewedIndices}
 use Rattle.counting.specs.Counting.{Stands, viewsIn}
 use Rattle.writing.specs.Writing.{RowWritable, RowWritten, viewsOf, BodyWritable, BodyWritten}
-use Rattle.writing.specs.Tables.{table-more, table-long}
+use Rattle.writing.specs.Tables.{table-more}
 use Rattle.writing.specs.Lengths.{row-positions-length, row-normals-length}
 use Rattle.writing.specs.BodyLengths.{viewed-positions-length, viewed-indices-length}
 use Rattle.counting.specs.RowLaws.{stands-kept}
 use Rattle.counting.specs.RowByRow.{viewsFrom, vertices-within, indices-within, views-here}
-use Rattle.edges.specs.RowUses.{rows-here, row-inside}
+use Rattle.edges.specs.RowUses.{row-inside}
 
 -- the rows before row k are written: W became E, and R, P, N, I became S, Q, M, J, where vo vertices and io indices stand
 pub record WritingRows (table : List ℕ) (ps ns : List Float) (is : List ℕ) (sag : Float) (v list count at ts flags : ℕ) (W R : List ℕ) (P N : List Float) (I : List ℕ) (vo io base i k : ℕ) (E S : List ℕ) (Q M : List Float) (J : List ℕ) : Type 0 where
@@ -275,7 +275,7 @@ module _ {table : List ℕ} {ps ns : List Float} {is : List ℕ} {sag beyond : F
             positions-many = omega (arith, length-append (c .done-positions) own-positions, c .positions-many, own-positions-long, d .vertices-end);
             normals-many = omega (arith, length-append (c .done-normals) own-normals, c .normals-many, own-normals-long, d .vertices-end);
             indices-many = omega (arith, length-append (c .done-indices) (rowIndices vertices vs), c .indices-many, d .indices-end);
-            rows-put = subst (λ (xs : List ℕ). Appended 0 xs R S') (sym (table-more (c .done-rows) r)) (behind (c .rows-put) (omega (arith, table-long (c .done-rows), c .rows-many)) five);
+            rows-put = subst (λ (xs : List ℕ). Appended 0 xs R S') (sym (table-more (c .done-rows) r)) (behind (c .rows-put) (omega (arith, table-length (c .done-rows), c .rows-many)) five);
             positions-put = behind (c .positions-put) (c .positions-many) (d .positions);
             normals-put = behind (c .normals-put) (c .normals-many) (d .normals);
             indices-put = behind (c .indices-put) (c .indices-many) (d .indices-are);

@@ -11,6 +11,7 @@ use Rattle.body.specs.Body.{Row, trianglesOf, allVertices, allIndices}
 use Rattle.body.specs.Rows.{noRow}
 use Rattle.counting.specs.Views.{View, rowViews, bodyViews, keptIn, rowPositions, rowNormals, rowIndices, viewedRows, viewedPositions, viewedNormals, viewedIndices}
 use Rattle.writing.specs.Lengths.{row-positions-length, row-normals-length, row-length}
+use Rattle.body.specs.Patches.{left-length}
 
 -- ---- any views, one list for each row
 
@@ -36,10 +37,6 @@ rows-indices [] vss = refl
 rows-indices (r ∷ rs) [] = refl
 rows-indices (r ∷ rs) (vs ∷ vss) = omega (arith, length-append (rowIndices (r .vertices) vs) (viewedIndices rs vss), rows-indices rs vss)
 
--- what is left of a slice for the rows that are left
-slice-left : (v w : ℕ) (qs : List Float) → length qs ≡ 3 * (v + w) → length (drop (3 * v) qs) ≡ 3 * w
-slice-left v w qs e = omega (arith, length-drop (3 * v) qs)
-
 -- what the first row has of it
 slice-first : (v w : ℕ) (qs : List Float) → length qs ≡ 3 * (v + w) → length (take (3 * v) qs) ≡ 3 * v
 slice-first v w qs e = length-take-le (3 * v) qs (omega arith)
@@ -54,7 +51,7 @@ positions-all ps (r ∷ rs) qs [] e f = absurd (omega arith)
 positions-all ps (r ∷ rs) qs (vs ∷ vss) e f =
     let own = take (3 * r .vertices) qs in
     let left = drop (3 * r .vertices) qs in
-    let h = positions-all ps rs left vss (omega arith) (slice-left (r .vertices) (allVertices rs) qs f) in
+    let h = positions-all ps rs left vss (omega arith) (left-length (r .vertices) (allVertices rs) qs f) in
     omega (
       arith,
       length-append (own ++ rowPositions ps vs) (viewedPositions ps rs left vss),
@@ -73,7 +70,7 @@ normals-all ns base (r ∷ rs) qs [] e f = absurd (omega arith)
 normals-all ns base (r ∷ rs) qs (vs ∷ vss) e f =
     let own = take (3 * r .vertices) qs in
     let left = drop (3 * r .vertices) qs in
-    let h = normals-all ns (base + r .vertices) rs left vss (omega arith) (slice-left (r .vertices) (allVertices rs) qs f) in
+    let h = normals-all ns (base + r .vertices) rs left vss (omega arith) (left-length (r .vertices) (allVertices rs) qs f) in
     omega (
       arith,
       length-append (own ++ rowNormals ns base vs) (viewedNormals ns (base + r .vertices) rs left vss),

@@ -1,9 +1,7 @@
--- The flat table of some rows and one more, and its length. Assumes nothing.
+-- The flat table of some rows and one more. Assumes nothing.
 use mathlib.Core.Path.{_≡_, refl, ap}
 use mathlib.Core.List.{List, [], _∷_, _++_}
-use Prim.Native.Nat.{ℕ, _*_}
-use native.Mathlib.Omega.{arith}
-use lib.ListN.{length}
+use Prim.Native.Nat.{ℕ}
 use Rattle.body.specs.Body.{Row, tableOf}
 
 -- the flat table of one row more
@@ -11,9 +9,3 @@ pub table-more : (rs : List Row) (r : Row) → tableOf (rs ++ r ∷ []) ≡ tabl
 unfolding tableOf
 table-more [] r = refl
 table-more (q ∷ rs) r = ap (λ (l : List ℕ). q .shell ∷ q .face ∷ q .outcome ∷ q .vertices ∷ q .indices ∷ l) (table-more rs r)
-
--- five numbers for each row
-pub table-long : (rs : List Row) → length (tableOf rs) ≡ 5 * length rs
-unfolding tableOf
-table-long [] = refl
-table-long (r ∷ rs) = let e = table-long rs in omega arith

@@ -1,7 +1,7 @@
 -- `copy` meets its contract. Assumes nothing.
 use Prim.Native.Nat.{_-_}
 use lib.ListN.{length}
-use Rattle.finisher.proofs.CopyLaws.{Copied, copied-all, copied-full, copied-more, copied-none}
+use Rattle.lists.specs.Copied.{Copied, copied-all, copied-full, copied-more, copied-none}
 use borrow.Author.Needs.{needs}
 use Rattle.finisher.proofs.copy.Statement.{statement}
 use Rattle.finisher.proofs.copy.Tie as tie

@@ -1,18 +1,19 @@
 -- `copying::copy::copy_numbers` meets its contract. With k items done the front is those of `from` and the rest as it was. Assumes nothing.
 use Prim.Native.Nat.{_-_}
-use Rattle.copying.proofs.CopyLaws.{Copying, copying-none, copying-more, copying-all}
+use native.Mathlib.Omega.{arith}
+use Rattle.lists.specs.Copied.{Copied, copied-none, copied-more, copied-written}
 use borrow.Author.Needs.{needs}
 use Rattle.copying.proofs.copy.copy_numbers.Statement.{statement}
 use Rattle.copying.proofs.copy.copy_numbers.Tie as tie
 
 abbrev Inv-loop : tie.InvT-loop
-Inv-loop from to₀ n k₀ to k = Copying from to₀ k to
+Inv-loop from to₀ n k₀ to k = Copied from to₀ to k
 
 abbrev μ-loop : tie.MeasureT-loop
 μ-loop from to₀ n k₀ to k = n - k
 
 loop-holds : tie.Need-loop-holds Inv-loop μ-loop
-loop-holds c = search copying-none
+loop-holds c = search copied-none
 
 mul-to : tie.Need-mul-to Inv-loop μ-loop
 mul-to c = search needs
@@ -33,13 +34,13 @@ loop-less : tie.Need-loop-less Inv-loop μ-loop
 loop-less c = search needs
 
 loop-again : tie.Need-loop-again Inv-loop μ-loop
-loop-again c = search copying-more
+loop-again c = copied-more (c .before .before .loop .inv) _ (omega arith) (omega arith)
 
 same-length : tie.Need-same-length Inv-loop μ-loop
 same-length c = search needs
 
 returns : tie.Need-returns Inv-loop μ-loop
-returns c = search copying-all
+returns c = search (needs, copied-written)
 
 pub copy-numbers-spec : {M : Type 1} → statement M
 copy-numbers-spec =

@@ -1,7 +1,7 @@
 -- `store_row` meets its contract. Assumes nothing.
 use native.Mathlib.Omega.{arith}
 use lib.ListN.{length-set}
-use Rattle.reader.proofs.StoreLaws.{row-stored}
+use Rattle.reader.proofs.StoreLaws.{row-placed}
 use borrow.Author.Needs.{needs}
 use Rattle.reader.proofs.storing.store_row.Statement.{statement}
 use Rattle.reader.proofs.storing.store_row.Tie as tie
@@ -52,7 +52,7 @@ same-length : tie.Need-same-length
 same-length c = search needs
 
 returns : tie.Need-returns
-returns c = search (needs, row-stored)
+returns c = search (needs, row-placed)
 
 pub store-row-spec : {M : Type 1} → statement M
 store-row-spec =

@@ -1,7 +1,7 @@
 -- `store_three` meets its contract. Assumes nothing.
 use native.Mathlib.Omega.{arith}
 use lib.ListN.{length-set}
-use Rattle.reader.proofs.StoreLaws.{three-stored}
+use Rattle.reader.proofs.StoreLaws.{three-placed}
 use borrow.Author.Needs.{needs}
 use Rattle.reader.proofs.storing.store_three.Statement.{statement}
 use Rattle.reader.proofs.storing.store_three.Tie as tie
@@ -34,7 +34,7 @@ same-length : tie.Need-same-length
 same-length c = search needs
 
 returns : tie.Need-returns
-returns c = search (needs, three-stored)
+returns c = search (needs, three-placed)
 
 pub store-three-spec : {M : Type 1} → statement M
 store-three-spec =

@@ -1,7 +1,7 @@
 -- `put_three` meets its contract. Assumes nothing.
 use native.Mathlib.Omega.{arith}
 use lib.ListN.{length-set}
-use Rattle.rings.proofs.VertexLaws.{three-stored}
+use Rattle.lists.specs.Sets.{three-stored}
 use borrow.Author.Needs.{needs}
 use Rattle.rings.proofs.vertices.put_three.Statement.{statement}
 use Rattle.rings.proofs.vertices.put_three.Tie as tie

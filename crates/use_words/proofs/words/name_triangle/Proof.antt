@@ -1,7 +1,7 @@
 -- `name_triangle` meets its contract: three stores in turn. Assumes nothing.
 use native.Mathlib.Omega.{arith}
 use lib.ListN.{length-set}
-use Rattle.use_words.proofs.RowLaws.{three-stored}
+use Rattle.use_words.proofs.RowLaws.{three-written}
 use borrow.Author.Needs.{needs}
 use Rattle.use_words.proofs.words.name_triangle.Statement.{statement}
 use Rattle.use_words.proofs.words.name_triangle.Tie as tie
@@ -45,7 +45,7 @@ same-length c = search needs
 returns : tie.Need-returns
 returns c =
     let s = c .before .before .before .before .args in
-    three-stored (s .w .now) (s .at) (c .before .before .edge-name .ensures) (c .before .edge-name2 .ensures) (c .edge-name3 .ensures)
+    three-written (s .w .now) (s .at) (c .before .before .edge-name .ensures) (c .before .edge-name2 .ensures) (c .edge-name3 .ensures)
 
 pub name-triangle-spec : {M : Type 1} → statement M
 name-triangle-spec =
