@@ -9,7 +9,9 @@ use lib.Dec.{T, leb, ltb, eqb, nleb→lt, nltb→le, eqb→eq, lit<, lit≤}
 use lib.ListN.{getD, length, take, drop, length-drop, length-append, List·getD-append}
 use lib.Seq.{length-take-le, getD-take, getD-drop}
 use lib.IntN.{natAbs}
+use mir.Facts.{T-not-not}
 use lib.Ieee.{Float, nan, inf, fin, fits, binary32}
+use lib.Ieee.Fits.{and-l, and-r}
 use lib.Ieee.Scale as Scale
 use Rattle.floats.specs.Floats as Floats
 use Rattle.lists.specs.Lists.{any, sumOf}
@@ -33,18 +35,6 @@ use Rattle.volume.specs.Sign.{All}
 pub nor-r : (a b : Bool) → T (not (a || b)) → T (not b)
 nor-r true b h = absurd h
 nor-r false b h = h
-
-pub double : (a : Bool) → T (not (not a)) → T a
-double true h = tt
-double false h = h
-
-pub both-l : (a b : Bool) → T (a && b) → T a
-both-l true b h = tt
-both-l false b h = h
-
-pub both-r : (a b : Bool) → T (a && b) → T b
-both-r true b h = h
-both-r false b h = absurd h
 
 either : (b r : Bool) → T (not (elim b [ true ↦ true | false ↦ r ])) → T (not b) × T (not r)
 either true r h = absurd h
@@ -91,13 +81,13 @@ passed table ps ns is words h =
     let c21 = passes 21 _ _ (lit< tt) (c14 .1) in
     let c22 = passes 22 _ _ (lit< tt) (c21 .1) in
     let c23 = passes 23 _ _ (lit< tt) (c22 .1) in
-    let e14 = double (eqb (length ps) (3 * allVertices rows) && eqb (length ns) (3 * allVertices rows) && eqb (length is) (allIndices rows)) (c14 .0) in
+    let e14 = T-not-not (eqb (length ps) (3 * allVertices rows) && eqb (length ns) (3 * allVertices rows) && eqb (length is) (allIndices rows)) (c14 .0) in
     record {
       rows = nltb→le 4096 (length rows) (nor-r (not (eqb (length table % 5) 0)) (ltb 4096 (length rows)) (c11 .0));
       indices = nltb→le 786432 (allIndices rows) (nor-r (ltb 262144 (allVertices rows)) (ltb 786432 (allIndices rows)) (c13 .0));
-      all-positions = eqb→eq (length ps) (3 * allVertices rows) (both-l (eqb (length ps) (3 * allVertices rows)) (eqb (length ns) (3 * allVertices rows)) (both-l (eqb (length ps) (3 * allVertices rows) && eqb (length ns) (3 * allVertices rows)) (eqb (length is) (allIndices rows)) e14));
-      all-normals = eqb→eq (length ns) (3 * allVertices rows) (both-r (eqb (length ps) (3 * allVertices rows)) (eqb (length ns) (3 * allVertices rows)) (both-l (eqb (length ps) (3 * allVertices rows) && eqb (length ns) (3 * allVertices rows)) (eqb (length is) (allIndices rows)) e14));
-      all-indices = eqb→eq (length is) (allIndices rows) (both-r (eqb (length ps) (3 * allVertices rows) && eqb (length ns) (3 * allVertices rows)) (eqb (length is) (allIndices rows)) e14);
+      all-positions = eqb→eq (length ps) (3 * allVertices rows) (and-l (eqb (length ps) (3 * allVertices rows)) (eqb (length ns) (3 * allVertices rows)) (and-l (eqb (length ps) (3 * allVertices rows) && eqb (length ns) (3 * allVertices rows)) (eqb (length is) (allIndices rows)) e14));
+      all-normals = eqb→eq (length ns) (3 * allVertices rows) (and-r (eqb (length ps) (3 * allVertices rows)) (eqb (length ns) (3 * allVertices rows)) (and-l (eqb (length ps) (3 * allVertices rows) && eqb (length ns) (3 * allVertices rows)) (eqb (length is) (allIndices rows)) e14));
+      all-indices = eqb→eq (length is) (allIndices rows) (and-r (eqb (length ps) (3 * allVertices rows) && eqb (length ns) (3 * allVertices rows)) (eqb (length is) (allIndices rows)) e14);
       threes = c21 .0;
       inside = c22 .0;
       finite = c23 .0;

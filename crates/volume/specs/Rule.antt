@@ -8,6 +8,8 @@ use mathlib.Core.Bool.{Bool, true, false, not, _&&_}
 use lib.Dec.{T, eqb, eqb→eq, lit≤}
 use lib.ListN.{getD, length}
 use lib.Ieee.{Float}
+use lib.Ieee.Fits.{and-i}
+use mir.Facts.{T-not-not}
 use Rattle.floats.specs.Floats as Floats
 use Rattle.lists.specs.Lists.{any, all}
 use Rattle.points.specs.Rule.{names}
@@ -27,7 +29,7 @@ use Rattle.volume.specs.Bound.{within}
 use Rattle.volume.specs.Sign as All
 use Rattle.volume.specs.Sign.{All}
 use Rattle.volume.specs.Outward.{left-outward}
-use Rattle.volume.specs.Accepted.{any-at, double, Passed, passed, accepted, patch-of, Vertex, vertices, corners, corners-under}
+use Rattle.volume.specs.Accepted.{any-at, Passed, passed, accepted, patch-of, Vertex, vertices, corners, corners-under}
 use Rattle.volume.specs.Pairs.{all-map}
 use Rattle.volume.specs.Output.{output-is}
 use Rattle.volume.specs.Groups.{Taking, GroupOk, groups-ok}
@@ -60,7 +62,7 @@ patch-good table ps ns is f c n l =
     let patches = patchesOf (rowsOf table) ps ns is in
     let p = patchAt patches n in
     let o = patch-of (rowsOf table) ps ns is 786432 f (omega (arith, c .all-positions)) (omega (arith, c .all-indices)) (c .indices) n l in
-    let e = eqb→eq (p .row .indices % 3) 0 (double (eqb (p .row .indices % 3) 0) (any-at (λ p. not (eqb (p .row .indices % 3) 0)) patches _ (c .threes) n l)) in
+    let e = eqb→eq (p .row .indices % 3) 0 (T-not-not (eqb (p .row .indices % 3) 0) (any-at (λ p. not (eqb (p .row .indices % 3) 0)) patches _ (c .threes) n l)) in
     record {
       vertices = vertices 786432 p o (any-at badIndices patches _ (c .inside) n l) (any-at (λ p. any (λ x. not (Floats.finite x)) (p .positions ++ p .normals)) patches _ (c .finite) n l);
       few = o .few;
@@ -95,11 +97,7 @@ module _ (patches : List Patch) (good : (n : ℕ) → n < length patches → Pat
       let t = rows-few (o .rows) (o .taking) in
       let w = within patches (o .cols) (o .rows) (rows-good (largestIn patches (o .rows)) (o .rows) (o .taking) (le-refl _)) (rows-under (o .rows) (o .taking)) (omega (arith, o .few)) in
       subst (λ (z : Group). T (withinBound patches z && leftOutward patches (turnedBody final patches) z)) (sym (o .is))
-      (both (withinBound patches g') (leftOutward patches (turnedBody final patches) g') w (left-outward patches (o .cols) final (o .rows) x w (o .settled)))
-    where
-      both : (a b : Bool) → T a → T b → T (a && b)
-      both true b h k = k
-      both false b h k = absurd h
+      (and-i (withinBound patches g') (leftOutward patches (turnedBody final patches) g') w (left-outward patches (o .cols) final (o .rows) x w (o .settled)))
 
 all-pass : {A : Type 0} (f : A → Bool) (xs : List A) → All (λ x. T (f x)) xs → T (all f xs)
 unfolding all
