@@ -26,7 +26,8 @@ use Rattle.join.specs.Join.{joined}
 use Rattle.volume.specs.Exact.{wholeOf, wholeAt, largest, largestOf}
 use Rattle.rounding.specs.Tri.{Coord}
 use Rattle.volume.specs.Det.{coord, whole-size, size-under, Corner}
-use Rattle.volume.specs.Sums.{Corners, none, more}
+use Rattle.volume.specs.Sums.{Corners}
+use Rattle.volume.specs.Pairs.{all-map}
 use Rattle.volume.specs.Sign as Sign
 use Rattle.volume.specs.Sign.{All}
 
@@ -171,13 +172,9 @@ module _ (most : ℕ) (p : Patch) (o : PatchOf most p) (inside : T (not (badIndi
       let c = o .coordinates in
       record { x = number (3 * i) (omega arith); y = number (3 * i + 1) (omega arith); z = number (3 * i + 2) (omega arith) }
 
-  all-vertices : (is : List ℕ) → All (λ i. T (not (leb (p .row .vertices) i))) is → All (Vertex (p .positions)) is
-  all-vertices [] g = Sign.none
-  all-vertices (i ∷ is) (Sign.more h g) = Sign.more (vertex i h) (all-vertices is g)
-
   pub vertices : All (Vertex (p .positions)) (p .indices)
   unfolding badIndices
-  vertices = all-vertices (p .indices) (any-all (λ i. leb (p .row .vertices) i) (p .indices) inside)
+  vertices = all-map vertex (any-all (λ i. leb (p .row .vertices) i) (p .indices) inside)
 
 -- ---- the largest coordinate
 number-coord : (M : ℕ) (x : Float) → Number x → natAbs (wholeOf 149 x) ≤ M → Coord M x
@@ -200,8 +197,8 @@ corner-under ps i c = max-le (number-under _ (c .x)) (max-le (number-under _ (c 
 
 pub corners : (M : ℕ) (ps : List Float) (is : List ℕ) → All (Vertex ps) is → largestOf ps is ≤ M → Corners M ps is
 unfolding largestOf
-corners M ps [] g l = none
-corners M ps (i ∷ is) (Sign.more c g) l = more (corner M ps i c (le-trans (le-max-left _ _) l)) (corners M ps is g (le-trans (le-max-right _ _) l))
+corners M ps [] g l = Sign.none
+corners M ps (i ∷ is) (Sign.more c g) l = Sign.more (corner M ps i c (le-trans (le-max-left _ _) l)) (corners M ps is g (le-trans (le-max-right _ _) l))
 
 pub corners-under : (ps : List Float) (is : List ℕ) → All (Vertex ps) is → largestOf ps is ≤ 2 ^ 277
 unfolding largestOf

@@ -20,7 +20,8 @@ use Rattle.walk.specs.Walk.{unvisited}
 use Rattle.volume.specs.Exact.{wholeOf, isWhole, exactRows, trianglesIn, largestIn, exactVolume, bound, volumeOf, withinBound}
 use Rattle.volume.specs.Ints.{Is, is-pos, is-sub, is-mul, is-cast, abs-le}
 use Rattle.volume.specs.Det.{whole-of, is-whole}
-use Rattle.volume.specs.Sums.{Rows, from-none, total-none, rows-near}
+use Rattle.volume.specs.Sign.{All}
+use Rattle.volume.specs.Sums.{RowGood, from-none, total-none, rows-near}
 
 -- the error, without its 2 ^ 53
 cancel : (P a b B e : ℕ) → 0 < P → e ≡ B * P → a * P ≤ b * P + e → a ≤ b + B
@@ -51,7 +52,7 @@ off-by x e B {p} {m} {E} h r q =
     (omega (arith, cancel (2 ^ 53) _ _ B E (lit< tt) q (r .hi))) (omega (arith, cancel (2 ^ 53) _ _ B E (lit< tt) q (r .lo)))
 
 -- ---- a group: V lies within the bound of E
-pub within : (patches : List Patch) (colours rows : List ℕ) → Rows (largestIn patches rows) patches rows → largestIn patches rows ≤ 2 ^ 277 → trianglesIn patches rows ≤ 2 ^ 40
+pub within : (patches : List Patch) (colours rows : List ℕ) → All (RowGood (largestIn patches rows) patches) rows → largestIn patches rows ≤ 2 ^ 277 → trianglesIn patches rows ≤ 2 ^ 40
     → T (withinBound patches (record { rows = rows; colours = map (λ n. getD colours n unvisited) rows; volume = volumeFrom patches colours zero64 rows }))
 unfolding withinBound volumeOf exactVolume bound
 within patches colours rows g M l =

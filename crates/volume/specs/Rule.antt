@@ -24,7 +24,7 @@ use Rattle.reversal.specs.Reversal.{turnedBody}
 use Rattle.walk.specs.Walk.{unvisited}
 use Rattle.volume.specs.Exact.{trianglesIn, largestIn, withinBound, leftOutward, ruleHolds, F32s}
 use Rattle.volume.specs.VolumeRule.{VolumeRule}
-use Rattle.volume.specs.Sums.{Rows, end, next}
+use Rattle.volume.specs.Sums.{RowGood}
 use Rattle.volume.specs.Bound.{within}
 use Rattle.volume.specs.Sign as All
 use Rattle.volume.specs.Sign.{All}
@@ -71,12 +71,12 @@ patch-good table ps ns is f c n l =
 
 -- ---- the rows of a group
 module _ (patches : List Patch) (good : (n : ℕ) → n < length patches → PatchGood (patchAt patches n)) where
-  rows-good : (M : ℕ) (rows : List ℕ) → All (Taking patches) rows → largestIn patches rows ≤ M → Rows M patches rows
+  rows-good : (M : ℕ) (rows : List ℕ) → All (Taking patches) rows → largestIn patches rows ≤ M → All (RowGood M patches) rows
   unfolding largestIn
-  rows-good M [] a l = end
+  rows-good M [] a l = All.none
   rows-good M (n ∷ ns) (All.more t a) l =
       let p = good n (t .row) in
-      next (corners M (patchAt patches n .positions) (patchAt patches n .indices) (p .vertices) (le-trans (le-max-left _ _) l)) (p .whole (t .some)) (rows-good M ns a (le-trans (le-max-right _ _) l))
+      All.more (record { corners = corners M (patchAt patches n .positions) (patchAt patches n .indices) (p .vertices) (le-trans (le-max-left _ _) l); some = p .whole (t .some) }) (rows-good M ns a (le-trans (le-max-right _ _) l))
 
   rows-under : (rows : List ℕ) → All (Taking patches) rows → largestIn patches rows ≤ 2 ^ 277
   unfolding largestIn

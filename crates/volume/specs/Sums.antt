@@ -22,6 +22,8 @@ use Rattle.inversion.specs.Inversion.{patchAt, volumeFrom}
 use Rattle.walk.specs.Walk.{coloured, unvisited}
 use Rattle.volume.specs.Exact.{wholeAt, exactDet, exactTriangles, exactRows, trianglesIn}
 use Rattle.volume.specs.Ints.{Is, is-pos, is-add}
+use Rattle.volume.specs.Sign as All
+use Rattle.volume.specs.Sign.{All}
 use Rattle.volume.specs.Det.{Corner, cornersD, whole-det, corners-near}
 
 -- x lies as near as S says to the whole number z, in units
@@ -58,15 +60,13 @@ abbrev pub TotalAt : ℕ → ℕ → Float → ℤ → Type 0
 TotalAt v t = At (Total v t)
 
 -- every index is of a good corner
-pub data Corners (M : ℕ) (ps : List Float) : List ℕ → Type 0 where
-  none : Corners M ps []
-  more : {i : ℕ} {is : List ℕ} → Corner M ps i → Corners M ps is → Corners M ps (i ∷ is)
+abbrev pub Corners : ℕ → List Float → List ℕ → Type 0
+Corners M ps = All (Corner M ps)
 
--- every row has triangles, all with good corners
-pub data Rows (M : ℕ) (patches : List Body.Patch) : List ℕ → Type 0 where
-  end : Rows M patches []
-  next : {n : ℕ} {ns : List ℕ} → Corners M (patchAt patches n .positions) (patchAt patches n .indices) → 0 < length (trianglesOf (patchAt patches n .indices)) → Rows M patches ns
-      → Rows M patches (n ∷ ns)
+-- a row has triangles, all with good corners
+pub record RowGood (M : ℕ) (patches : List Body.Patch) (n : ℕ) : Type 0 where
+  pub corners : Corners M (patchAt patches n .positions) (patchAt patches n .indices)
+  pub some : 0 < length (trianglesOf (patchAt patches n .indices))
 
 -- ---- one triangle
 -- what exactTriangles adds for a triangle
@@ -89,7 +89,7 @@ module _ (M : ℕ) (fine : Fine M) where
   sum-near ps flip [] {n} {x} {z} g r l = rw (add-zero, +ℤ-idr) r
   sum-near ps flip (a ∷ []) {n} {x} {z} g r l = rw (add-zero, +ℤ-idr) r
   sum-near ps flip (a ∷ b ∷ []) {n} {x} {z} g r l = rw (add-zero, +ℤ-idr) r
-  sum-near ps flip (a ∷ b ∷ c ∷ is) {n} {x} {z} (more A (more B (more C g))) r l =
+  sum-near ps flip (a ∷ b ∷ c ∷ is) {n} {x} {z} (All.more A (All.more B (All.more C g))) r l =
       let t : Triangle = record { a = a; b = b; c = c } in
       let e : n + suc (length (trianglesOf is)) ≡ n + 1 + length (trianglesOf is) = omega arith in
       let o = sum-near ps flip is g (at-sum (λ c d c' d' p q. patch-more v n p q (omega arith) (fine .three)) r (triangle ps flip A B C)) (omega arith) in
@@ -122,17 +122,17 @@ module _ (M : ℕ) (fine : Fine M) where
       let q : At (Part v n) (G.div y six64) w = record { p = o .p; m = o .m; is = o .is; near = patch-sixth v n six64 six-value (o .near) (omega arith) big (fine .three) } in
       at-sum (λ c d c' d' a b. total-more v t n a b h l (fine .three)) r q
 
-  pub rows-near : (patches : List Body.Patch) (colours : List ℕ) (rows : List ℕ) {t : ℕ} {x : Float} {z : ℤ} → Rows M patches rows → TotalAt v t x z → t + trianglesIn patches rows ≤ 2 ^ 40
+  pub rows-near : (patches : List Body.Patch) (colours : List ℕ) (rows : List ℕ) {t : ℕ} {x : Float} {z : ℤ} → All (RowGood M patches) rows → TotalAt v t x z → t + trianglesIn patches rows ≤ 2 ^ 40
       → TotalAt v (t + trianglesIn patches rows) (volumeFrom patches colours x rows) (z +ℤ exactRows patches rows (map (λ n. getD colours n unvisited) rows))
   unfolding trianglesIn volumeFrom exactRows
   rows-near patches colours [] {t} {x} {z} g r l = rw (add-zero, +ℤ-idr) r
-  rows-near patches colours (n ∷ ns) {t} {x} {z} (next c h g) r l =
+  rows-near patches colours (n ∷ ns) {t} {x} {z} (All.more w g) r l =
       let p = patchAt patches n in
       let flip = eqb (getD colours n unvisited) coloured in
       let k = length (trianglesOf (p .indices)) in
       let y = volumeFrom patches colours (G.add x (patchVolume (p .positions) (p .indices) flip)) ns in
       let a = exactTriangles (p .positions) flip (trianglesOf (p .indices)) in
       let b = exactRows patches ns (map (λ n. getD colours n unvisited) ns) in
-      let o = rows-near patches colours ns g (total-patch (p .positions) flip (p .indices) c h r (omega arith)) (omega arith) in
+      let o = rows-near patches colours ns g (total-patch (p .positions) flip (p .indices) (w .corners) (w .some) r (omega arith)) (omega arith) in
       subst (λ (j : ℕ). TotalAt v j y (z +ℤ (a +ℤ b))) (add-assoc t k (trianglesIn patches ns))
       (subst (λ (w : ℤ). TotalAt v (t + k + trianglesIn patches ns) y w) (+ℤ-assoc z a b) o)
