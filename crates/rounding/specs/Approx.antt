@@ -9,7 +9,7 @@ use lib.Pow.{pow-pos}
 use lib.Ieee.{Float, binary64, unlike, neg, add, sub, mul}
 use lib.Ieee.Exact.{HasValue}
 use lib.Ieee.Scale.{overflow}
-use Rattle.rounding.specs.Near.{plus, less, Size, Off}
+use Rattle.rounding.specs.Near.{Within, plus, less, Off}
 use Rattle.rounding.specs.Add.{add-rounded, neg-value}
 use Rattle.rounding.specs.Mul.{mul-scaled}
 
@@ -40,7 +40,7 @@ both true a B h = omega arith
 both false a B h = omega arith
 
 -- |x * k| ≤ B, from |c - d| ≤ b and the error
-pub size-le : {k : ℕ} {x : Float} {c d e : ℕ} (B b : ℕ) (r : Approx k x c d e) → Size c d b → b * 2 ^ 53 + e ≤ B * 2 ^ 53 → r .size * k ≤ B
+pub size-le : {k : ℕ} {x : Float} {c d e : ℕ} (B b : ℕ) (r : Approx k x c d e) → Within c d b → b * 2 ^ 53 + e ≤ B * 2 ^ 53 → r .size * k ≤ B
 size-le {k} {x} {c} {d} {e} B b r z h = sized (r .sign) k (r .size) B (omega (arith, r .hi, z .hi)) (omega (arith, r .lo, z .lo))
 
 -- the same with its numbers written otherwise, and a larger error
@@ -102,12 +102,12 @@ pub unit32-pos : 0 < unit32
 unfolding unit32
 unit32-pos = pow-pos 149
 
-module _ (U x y A p m c d e u v : ℕ) (Z : 0 < U) where
-  through-hi : (x * U + A * m) * 2 ^ 53 ≤ (A * p + y * U) * 2 ^ 53 + U * u → (p + U * d) * 2 ^ 53 ≤ (U * c + m) * 2 ^ 53 + e → A * e ≤ U * v → (x + A * d) * 2 ^ 53 ≤ (A * c + y) * 2 ^ 53 + (u + v)
-  through-hi g h k = le-of-mul-le-mul-right (omega (arith, mul-le-mul-left A h)) Z
-
-  through-lo : (A * p + y * U) * 2 ^ 53 ≤ (x * U + A * m) * 2 ^ 53 + U * u → (U * c + m) * 2 ^ 53 ≤ (p + U * d) * 2 ^ 53 + e → A * e ≤ U * v → (A * c + y) * 2 ^ 53 ≤ (x + A * d) * 2 ^ 53 + (u + v)
-  through-lo g h k = le-of-mul-le-mul-right (omega (arith, mul-le-mul-left A h)) Z
+-- x - y is near A times p - m, in which U is taken out of c - d and of the error
+through : (U x y A p m c d e u v : ℕ) → 0 < U → Off (2 ^ 53) (x * U) (y * U) (A * p) (A * m) (U * u) → Off (2 ^ 53) p m (U * c) (U * d) e → A * e ≤ U * v → Off (2 ^ 53) x y (A * c) (A * d) (u + v)
+through U x y A p m c d e u v Z o h k = record {
+  hi = le-of-mul-le-mul-right (omega (arith, o .hi, mul-le-mul-left A (h .hi))) Z;
+  lo = le-of-mul-le-mul-right (omega (arith, o .lo, mul-le-mul-left A (h .lo))) Z;
+}
 
 -- a sign times a difference
 abbrev pub turnP : Bool → ℕ → ℕ → ℕ
@@ -121,23 +121,15 @@ sign-mul false false A D = omega arith
 
 -- the same at either sign of the coordinate
 finish : (s t : Bool) (U x y A D c d e u v : ℕ) → 0 < U → Off (2 ^ 53) (x * U) (y * U) (plus (unlike s t) (A * D)) (less (unlike s t) (A * D)) (U * u)
-    → (plus t D + U * d) * 2 ^ 53 ≤ (U * c + less t D) * 2 ^ 53 + e → (U * c + less t D) * 2 ^ 53 ≤ (plus t D + U * d) * 2 ^ 53 + e → A * e ≤ U * v
-    → ((x + turnP s (A * d) (A * c)) * 2 ^ 53 ≤ (turnP s (A * c) (A * d) + y) * 2 ^ 53 + (u + v)) × ((turnP s (A * c) (A * d) + y) * 2 ^ 53 ≤ (x + turnP s (A * d) (A * c)) * 2 ^ 53 + (u + v))
-finish s t U x y A D c d e u v Z o h l k = go s (plus t D) (less t D) (sign-mul s t A D) (plus (unlike s t) (A * D)) (less (unlike s t) (A * D)) refl refl (o .hi) (o .lo) h l
+    → Off (2 ^ 53) (plus t D) (less t D) (U * c) (U * d) e → A * e ≤ U * v → Off (2 ^ 53) x y (turnP s (A * c) (A * d)) (turnP s (A * d) (A * c)) (u + v)
+finish s t U x y A D c d e u v Z o h k = let w = sign-mul s t A D in go s (plus t D) (less t D) (rw (w .0, w .1) at o) h
   where
-    go : (s : Bool) (p m : ℕ) → (plus (unlike s t) (A * D) ≡ turnP s (A * p) (A * m)) × (less (unlike s t) (A * D) ≡ turnP s (A * m) (A * p)) → (P M : ℕ) → P ≡ plus (unlike s t) (A * D) → M ≡ less (unlike s t) (A * D)
-        → (x * U + M) * 2 ^ 53 ≤ (P + y * U) * 2 ^ 53 + U * u → (P + y * U) * 2 ^ 53 ≤ (x * U + M) * 2 ^ 53 + U * u
-        → (p + U * d) * 2 ^ 53 ≤ (U * c + m) * 2 ^ 53 + e → (U * c + m) * 2 ^ 53 ≤ (p + U * d) * 2 ^ 53 + e
-        → ((x + turnP s (A * d) (A * c)) * 2 ^ 53 ≤ (turnP s (A * c) (A * d) + y) * 2 ^ 53 + (u + v)) × ((turnP s (A * c) (A * d) + y) * 2 ^ 53 ≤ (x + turnP s (A * d) (A * c)) * 2 ^ 53 + (u + v))
-    go false p m w P M eP eM a a' b b' = (
-      through-hi U x y A p m c d e u v Z (omega (arith, w .0, w .1)) b k,
-      through-lo U x y A p m c d e u v Z (omega (arith, w .0, w .1)) b' k,
-    )
-    go true p m w P M eP eM a a' b b' = (
-      through-hi U x y A m p d c e u v Z (omega (arith, w .0, w .1)) (omega arith) k,
-      through-lo U x y A m p d c e u v Z (omega (arith, w .0, w .1)) (omega arith) k,
-    )
+    go : (s : Bool) (p m : ℕ) → Off (2 ^ 53) (x * U) (y * U) (turnP s (A * p) (A * m)) (turnP s (A * m) (A * p)) (U * u) → Off (2 ^ 53) p m (U * c) (U * d) e
+        → Off (2 ^ 53) x y (turnP s (A * c) (A * d)) (turnP s (A * d) (A * c)) (u + v)
+    go false p m o h = through U x y A p m c d e u v Z o h k
+    go true p m o h = through U x y A m p d c e u v Z o (omega arith) k
 
+-- the product of x with y, whose error is u for the rounding and v for that of y
 pub mul-approx : (x : Float) {y : Float} (s : Bool) (A c d : ℕ) {e : ℕ} (u v : ℕ) → HasValue x s A unit32 → (r : Approx 1 y (unit32 * c) (unit32 * d) e)
     → A * r .size ≤ unit32 * u → A * e ≤ unit32 * v → (A * r .size ≡ 0) ⊎ (2 ^ 53 ≤ u * 2) → u * 2 + 1 < top64
     → Approx 1 (mul binary64 x y) (turnP s (A * c) (A * d)) (turnP s (A * d) (A * c)) (u + v)
@@ -150,8 +142,8 @@ mul-approx x {y} s A c d {e} u v h r k l z fine =
     let o = mul-scaled binary64 x y s A U t D unit32-pos h (r .is) (subst (λ (n : ℕ). w * 2 + U < n * U) top64-is lt) in
     let b = both (unlike s t) w w (omega arith) in
     let f = o .off (U * u) (record { hi = omega arith; lo = omega arith }) (go (unlike s t) w U z) in
-    let z' = finish s t U (plus (o .sign) (o .size)) (less (o .sign) (o .size)) A D c d e u v unit32-pos f (omega (arith, r .hi)) (omega (arith, r .lo)) l in
-    record { sign = o .sign; size = o .size; is = o .is; hi = omega (arith, z' .0); lo = omega (arith, z' .1) }
+    let z' = finish s t U (plus (o .sign) (o .size)) (less (o .sign) (o .size)) A D c d e u v unit32-pos f (omega (arith, r .hi, r .lo)) l in
+    record { sign = o .sign; size = o .size; is = o .is; hi = omega (arith, z' .hi); lo = omega (arith, z' .lo) }
   where
     small : (U w : ℕ) → w ≤ U * u → w * 2 + U ≤ (u * 2 + 1) * U
     small U w h = omega arith

@@ -9,7 +9,7 @@ use lib.Dec.{lit<}
 use lib.IntN.{pos}
 use lib.Ieee.{Float, fin, binary64, add, div}
 use lib.Ieee.Exact.{HasValue}
-use Rattle.rounding.specs.Near.{plus, less, Size}
+use Rattle.rounding.specs.Near.{Within, plus, less}
 use Rattle.rounding.specs.Mul.{div-scaled}
 use Rattle.rounding.specs.Approx.{Approx, top64, top64-is, size-le, recast, add-approx, both}
 
@@ -31,7 +31,7 @@ div-six {x} {c} {d} {e} y B r six h z fine =
 -- v is a sixteenth of the size of a product of three coordinates, at most, in units
 pub record Sum (k a b v n : ℕ) (x : Float) (c d : ℕ) : Type 0 where
   pub near : Approx k x c d ((a * n + b * (n * n)) * v)
-  pub exact : Size c d (96 * n * v)
+  pub exact : Within c d (96 * n * v)
 
 -- the sum of no determinant is +0
 pub sum-zero : {k a b v : ℕ} → Sum k a b v 0 (fin false 0 (pos 0)) 0 0

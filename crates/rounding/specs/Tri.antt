@@ -6,10 +6,10 @@ use native.Mathlib.Nat.{le-trans, mul-le-mul, mul-le-mul-right, mul-le-mul-left,
 use native.Mathlib.Omega.{arith}
 use mathlib.Core.Bool.{Bool, true, false}
 use lib.Dec.{lit≤, lit<}
-use lib.Ieee.{Float, nan, inf, fin, binary32, binary64, unlike, up, down, add, sub, mul}
+use lib.Ieee.{Float, binary32, binary64, unlike, add, sub, mul}
 use lib.Ieee.Exact.{HasValue}
-use Rattle.rounding.specs.Near.{plus, less, Size}
-use Rattle.rounding.specs.Held.{Held, mul-exact}
+use Rattle.rounding.specs.Near.{Within, plus, less}
+use Rattle.rounding.specs.Held.{Held, rescaled, mul-exact}
 use Rattle.rounding.specs.Approx.{Approx, top64, unit32, unit32-is, turnP, size-le, recast, add-approx, sub-approx, mul-approx}
 
 -- 2 ^ 623: 16 of it times the product of three coordinates' sizes is that product in units of 2 ^ -1074
@@ -53,7 +53,7 @@ abbrev pub plusD : Diff → Diff → Diff
 plusD y z = record { p = y .p + z .p; m = y .m + z .m }
 
 -- sizes
-pub turn-size : (s : Bool) (A M c d b : ℕ) → A ≤ M → Size c d b → Size (turnP s (A * c) (A * d)) (turnP s (A * d) (A * c)) (M * b)
+pub turn-size : (s : Bool) (A M c d b : ℕ) → A ≤ M → Within c d b → Within (turnP s (A * c) (A * d)) (turnP s (A * d) (A * c)) (M * b)
 turn-size s A M c d b l z = go s
   where
     hi : A * c ≤ A * d + M * b
@@ -62,20 +62,15 @@ turn-size s A M c d b l z = go s
     lo : A * d ≤ A * c + M * b
     lo = omega (arith, mul-le-mul-left A (z .lo), mul-le-mul-right b l)
 
-    go : (s : Bool) → Size (turnP s (A * c) (A * d)) (turnP s (A * d) (A * c)) (M * b)
+    go : (s : Bool) → Within (turnP s (A * c) (A * d)) (turnP s (A * d) (A * c)) (M * b)
     go true = record { hi = lo; lo = hi }
     go false = record { hi = hi; lo = lo }
 
-pub point-size : (s : Bool) (A M : ℕ) → A ≤ M → Size (plus s A) (less s A) M
+pub point-size : (s : Bool) (A M : ℕ) → A ≤ M → Within (plus s A) (less s A) M
 point-size true A M l = omega arith
 point-size false A M l = omega arith
 
 -- ---- the product of two coordinates, exact
-rescaled : (x : Float) (s : Bool) (w c k l : ℕ) → k * c ≡ l → HasValue x s w c → HasValue x s (w * k) l
-rescaled nan s w c k l h v = v
-rescaled (inf t) s w c k l h v = v
-rescaled (fin t m e) s w c k l h v = (v .0, subst (λ (z : ℕ). m * up e * z ≡ w * k * down e) h (omega (arith, ap (λ (z : ℕ). z * k) (v .1))))
-
 pub prod : (M : ℕ) {x y : Float} (a : Coord M x) (b : Coord M y) → HasValue (mul binary64 x y) (unlike (sg a) (sg b)) (sz a * sz b * (unit32 * (16 * sixteenth))) (2 ^ 1074)
 prod M {x} {y} a b = rescaled (mul binary64 x y) (unlike (sg a) (sg b)) (sz a * sz b) (2 ^ 149 * 2 ^ 149) (unit32 * (16 * sixteenth)) (2 ^ 1074) four-units (mul-exact x y (a .held) (b .held))
 
@@ -92,7 +87,7 @@ prod-approx M k U s t A B h = record { sign = unlike s t; size = A * B * (U * (1
     eq false true = omega arith
     eq false false = omega arith
 
-scale-size : (U p m b : ℕ) → Size p m b → Size (U * p) (U * m) (U * b)
+scale-size : (U p m b : ℕ) → Within p m b → Within (U * p) (U * m) (U * b)
 scale-size U p m b z = record { hi = omega (arith, mul-le-mul-left U (z .hi)); lo = omega (arith, mul-le-mul-left U (z .lo)) }
 
 -- nothing overflows
@@ -112,10 +107,10 @@ module _ (M : ℕ) (fine : Fine M) where
   abbrev pub cross : {xb xc xd xe : Float} → Coord M xb → Coord M xc → Coord M xd → Coord M xe → Diff
   cross b c d e = minusD (times b (point c)) (times d (point e))
 
-  one-size : {xb xc : Float} (b : Coord M xb) (c : Coord M xc) → Size (times b (point c) .p) (times b (point c) .m) (M * M)
+  one-size : {xb xc : Float} (b : Coord M xb) (c : Coord M xc) → Within (times b (point c) .p) (times b (point c) .m) (M * M)
   one-size b c = turn-size (sg b) (sz b) M (point c .p) (point c .m) M (b .most) (point-size (sg c) (sz c) M (c .most))
 
-  cross-size : {xb xc xd xe : Float} (b : Coord M xb) (c : Coord M xc) (d : Coord M xd) (e : Coord M xe) → Size (cross b c d e .p) (cross b c d e .m) (2 * (M * M))
+  cross-size : {xb xc xd xe : Float} (b : Coord M xb) (c : Coord M xc) (d : Coord M xd) (e : Coord M xe) → Within (cross b c d e .p) (cross b c d e .m) (2 * (M * M))
   cross-size b c d e =
       let y = one-size b c in
       let z = one-size d e in
@@ -137,7 +132,7 @@ module _ (M : ℕ) (fine : Fine M) where
   triple a b c d e = times a (cross b c d e)
 
   triple-size : {xa xb xc xd xe : Float} (a : Coord M xa) (b : Coord M xb) (c : Coord M xc) (d : Coord M xd) (e : Coord M xe)
-      → Size (16 * k * triple a b c d e .p) (16 * k * triple a b c d e .m) (32 * v)
+      → Within (16 * k * triple a b c d e .p) (16 * k * triple a b c d e .m) (32 * v)
   triple-size a b c d e =
       let z = scale-size (16 * k) (triple a b c d e .p) (triple a b c d e .m) (M * (2 * (M * M))) (turn-size (sg a) (sz a) M (cross b c d e .p) (cross b c d e .m) (2 * (M * M)) (a .most) (cross-size b c d e)) in
       record { hi = omega (arith, z .hi); lo = omega (arith, z .lo) }
@@ -189,7 +184,7 @@ module _ (M : ℕ) (fine : Fine M) where
     abbrev D : Diff
     D = det a0 a1 a2 b0 b1 b2 c0 c1 c2
 
-    pub det-size : Size (16 * k * D .p) (16 * k * D .m) (96 * v)
+    pub det-size : Within (16 * k * D .p) (16 * k * D .m) (96 * v)
     det-size =
         let x = triple-size a0 b1 c2 b2 c1 in
         let y = triple-size a1 b0 c2 b2 c0 in
