@@ -56,6 +56,10 @@ sign-weight b w h = go (sign b) (leb→le (2 ^ 63) b) (nleb→lt (2 ^ 63) b)
     go true l g = let k = l tt in one (b / 2 ^ 63) (omega arith)
     go false l g = let k = g tt in none (b / 2 ^ 63) (omega arith)
 
+-- a test that is true holds
+pub test-holds : (t : Bool) → t ≡ true → T t
+test-holds t e = subst T (sym e) tt
+
 -- ---- NaN
 nan-made : (f : Format) → div f (ofBits f 0) (ofBits f 0) ≡ nan
 unfolding div ofBits
@@ -66,13 +70,14 @@ nan-made binary64 = refl
 pub nan-of-bits : (f : Format) (b : ℕ) → ones f * hid f < b % top f → div f (ofBits f 0) (ofBits f 0) ≡ ofBits f b
 nan-of-bits f b h = nan-made f ∙ sym (nan-above f b h)
 
+-- what differs from itself is the NaN
 pub is-nan : (x : Float) → ne x x ≡ true → x ≡ nan
-is-nan x e = differs-from-itself x (subst T (sym e) tt)
+is-nan x e = differs-from-itself x (test-holds (ne x x) e)
 
 -- what differs from itself has its pattern
 pub bits-of-nan : (f : Format) (x : Float) → ne x x ≡ true → toBits f nan ≡ toBits f x
 bits-of-nan f x e = ap (toBits f) (sym (is-nan x e))
 
 -- ---- a step on bit patterns is one on floats: g is the step, from the format f to the format h
-pub through : (f h : Format) (g : Float → Float) (x : Float) → T (fits f x) → ((y : Float) → T (fits f y) → T (fits h (g y))) → ofBits h (toBits h (g (ofBits f (toBits f x)))) ≡ g x
-through f h g x k w = ofBits-toBits h (g (ofBits f (toBits f x))) (w (ofBits f (toBits f x)) (ofBits-fits f (toBits f x))) ∙ ap g (ofBits-toBits f x k)
+pub through : (f h : Format) (g : Float → Float) (x : Float) → fits f x ≡ true → ((y : Float) → T (fits f y) → T (fits h (g y))) → ofBits h (toBits h (g (ofBits f (toBits f x)))) ≡ g x
+through f h g x k w = ofBits-toBits h (g (ofBits f (toBits f x))) (w (ofBits f (toBits f x)) (ofBits-fits f (toBits f x))) ∙ ap g (ofBits-toBits f x (test-holds (fits f x) k))

@@ -14,7 +14,8 @@ pub record Plus (x : Float) : Type 0 where
 
 -- ---- a rounded value has the sign it was given
 
-negative-odd : (d : ℕ) (s : Bool) (q k l : ℕ) → negative (odd d s q k l) ≡ s
+-- a value with its digits made odd has the sign it was given
+pub negative-odd : (d : ℕ) (s : Bool) (q k l : ℕ) → negative (odd d s q k l) ≡ s
 unfolding negative odd
 negative-odd d s zero k l = refl
 negative-odd d s (suc q) k l = refl
