@@ -17,8 +17,8 @@ use lib.Ieee.Positive.{positive, above, first-pos, values-of-le, through}
 use Rattle.roots.specs.Roots.{rootOf, sqrt}
 use Rattle.roots.specs.SquareRoot.{Nearest, sqrt-nearest}
 
--- a root is rounded
-rounded-root : (n : ℕ) → T (fits binary64 (rootOf n))
+-- a root is rounded, so that an f64 holds it
+pub rounded-root : (n : ℕ) → T (fits binary64 (rootOf n))
 unfolding rootOf
 rounded-root n = round-fits binary64 false _ (2 ^ 1074)
 
