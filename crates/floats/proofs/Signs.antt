@@ -56,10 +56,6 @@ unfolding larger
 larger-right-nan x y e d = simp (no-nan x e, nan-is y d)
 
 module _ (x y : Float) (p : ne x x ≡ false) (q : ne y y ≡ false) where
-  pub larger-right : lt x y ≡ true → y ≡ larger x y
-  unfolding larger
-  larger-right h = simp (no-nan x p, no-nan y q, h)
-
   pub larger-left : lt x y ≡ false → lt y x ≡ true → x ≡ larger x y
   unfolding larger
   larger-left h k = simp (no-nan x p, no-nan y q, h, k)

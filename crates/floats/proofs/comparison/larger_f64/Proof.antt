@@ -1,6 +1,8 @@
 -- `floats::larger_f64` meets its contract. Assumes nothing.
+use mathlib.Core.Path.{sym}
 use Rattle.rounding.specs.Fields.{equals-itself}
-use Rattle.floats.proofs.Signs.{plus, minus, larger-left-nan, larger-right-nan, larger-left, larger-right, equal-plus, equal-minus}
+use Rattle.floats.specs.Plus.{larger-above}
+use Rattle.floats.proofs.Signs.{plus, minus, larger-left-nan, larger-right-nan, larger-left, equal-plus, equal-minus}
 use Rattle.floats.proofs.comparison.larger_f64.Statement.{statement}
 use Rattle.floats.proofs.comparison.larger_f64.Tie as tie
 
@@ -11,7 +13,7 @@ returns-2 : tie.Need-returns-2
 returns-2 c = let a = c .before .before .args in larger-right-nan (a .x) (a .y) (c .before .if1 .left) (c .if2 .taken)
 
 returns-3 : tie.Need-returns-3
-returns-3 c = let a = c .before .before .before .args in larger-right (a .x) (a .y) (c .before .before .if1 .left) (c .before .if2 .left) (c .if3 .taken)
+returns-3 c = let a = c .before .before .before .args in sym (larger-above (a .x) (a .y) (c .if3 .taken))
 
 returns-4 : tie.Need-returns-4
 returns-4 c = let a = c .before .before .before .before .args in larger-left (a .x) (a .y) (c .before .before .before .if1 .left) (c .before .before .if2 .left) (c .before .if3 .left) (c .if4 .taken)
