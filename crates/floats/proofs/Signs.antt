@@ -12,34 +12,31 @@ use lib.Ieee.Fits.{down-pos}
 use lib.Ieee.Scale.{round-same}
 use Rattle.rounding.specs.Fields.{bits-fields, equals-itself}
 use Rattle.floats.specs.Floats.{negative, larger, absolute, finite}
-use Rattle.floats.specs.Patterns.{is-nan, sign, field, tail}
+use Rattle.floats.specs.Patterns.{test-holds, is-nan, sign, field, tail}
+use Rattle.floats.specs.Plus.{negative-odd}
 
 -- ---- the sign of a value is the highest bit of its pattern
-odd-negative : (d : ℕ) (s : Bool) (q k l : ℕ) → negative (odd d s q k l) ≡ s
-unfolding odd negative
-odd-negative d s zero k l = refl
-odd-negative d s (suc q) k l = refl
-
+-- the sign of the value of some fields is the one given
 fields-negative : (f : Format) (s : Bool) (e t : ℕ) → T (not (isNan (ofFields f s e t))) → negative (ofFields f s e t) ≡ s
 unfolding ofFields negative isNan
-fields-negative f s zero t h = odd-negative (prec f) s t 0 (low f)
+fields-negative f s zero t h = negative-odd (prec f) s t 0 (low f)
 fields-negative f s (suc x) t h = go (eqb (suc x) (ones f)) (eqb t 0) h
   where
     go : (a b : Bool) → T (not (isNan (cond a (cond b (inf s) nan) (odd (prec f) s (hid f + t) x (low f))))) → negative (cond a (cond b (inf s) nan) (odd (prec f) s (hid f + t) x (low f))) ≡ s
     go true true k = refl
     go true false k = absurd k
-    go false b k = odd-negative (prec f) s (hid f + t) x (low f)
+    go false b k = negative-odd (prec f) s (hid f + t) x (low f)
 
-negative-bits : (x : Float) → T (fits binary64 x) → ne x x ≡ false → negative x ≡ leb (2 ^ 63) (toBits binary64 x)
+negative-bits : (x : Float) → fits binary64 x ≡ true → ne x x ≡ false → negative x ≡ leb (2 ^ 63) (toBits binary64 x)
 negative-bits x f n =
     let b = toBits binary64 x in
-    let e : x ≡ ofFields binary64 (sign b) (field b) (tail b) = sym (ofBits-toBits binary64 x f) ∙ bits-fields binary64 b in
+    let e : x ≡ ofFields binary64 (sign b) (field b) (tail b) = sym (ofBits-toBits binary64 x (test-holds (fits binary64 x) f)) ∙ bits-fields binary64 b in
     ap negative e ∙ fields-negative binary64 (sign b) (field b) (tail b) (subst (λ (z : Float). T (not (isNan z))) e (equals-itself x n))
 
-pub plus : (x : Float) → T (fits binary64 x) → ne x x ≡ false → toBits binary64 x < 0x8000_0000_0000_0000 → negative x ≡ false
+pub plus : (x : Float) → fits binary64 x ≡ true → ne x x ≡ false → toBits binary64 x < 0x8000_0000_0000_0000 → negative x ≡ false
 plus x f n h = negative-bits x f n ∙ lt-leb (2 ^ 63) (toBits binary64 x) h
 
-pub minus : (x : Float) → T (fits binary64 x) → ne x x ≡ false → 0x8000_0000_0000_0000 ≤ toBits binary64 x → negative x ≡ true
+pub minus : (x : Float) → fits binary64 x ≡ true → ne x x ≡ false → 0x8000_0000_0000_0000 ≤ toBits binary64 x → negative x ≡ true
 minus x f n h = negative-bits x f n ∙ le-leb (2 ^ 63) (toBits binary64 x) h
 
 -- ---- the larger of two
@@ -59,10 +56,6 @@ unfolding larger
 larger-right-nan x y e d = simp (no-nan x e, nan-is y d)
 
 module _ (x y : Float) (p : ne x x ≡ false) (q : ne y y ≡ false) where
-  pub larger-right : lt x y ≡ true → y ≡ larger x y
-  unfolding larger
-  larger-right h = simp (no-nan x p, no-nan y q, h)
-
   pub larger-left : lt x y ≡ false → lt y x ≡ true → x ≡ larger x y
   unfolding larger
   larger-left h k = simp (no-nan x p, no-nan y q, h, k)

@@ -1,5 +1,5 @@
 -- Values that no sign keeps from having a root: a NaN, or a value with the sign plus. Squares and their sums are such. Assumes nothing.
-use mathlib.Core.Path.{_≡_, refl, ap, _∙_}
+use mathlib.Core.Path.{_≡_, refl, sym, ap, _∙_}
 use mathlib.Core.Bool.{Bool, true, false, cond, true≢false}
 use Prim.Native.Nat.{ℕ, zero, suc, _+_, _*_, _^_}
 use lib.Dec.{T, ltb}
@@ -14,7 +14,8 @@ pub record Plus (x : Float) : Type 0 where
 
 -- ---- a rounded value has the sign it was given
 
-negative-odd : (d : ℕ) (s : Bool) (q k l : ℕ) → negative (odd d s q k l) ≡ s
+-- a value with its digits made odd has the sign it was given
+pub negative-odd : (d : ℕ) (s : Bool) (q k l : ℕ) → negative (odd d s q k l) ≡ s
 unfolding negative odd
 negative-odd d s zero k l = refl
 negative-odd d s (suc q) k l = refl
@@ -61,6 +62,24 @@ sum-sign (fin false m e) (fin false n d) p q = negative-round binary64 false (m 
 -- a sum
 pub plus-sum : (x y : Float) → Plus x → Plus y → Plus (add binary64 x y)
 plus-sum x y p q = record { f64 = add-fits binary64 x y; plus = sum-sign x y (p .plus) (q .plus) }
+
+-- nothing is below a NaN
+pub not-below-nan : (x : Float) → lt x nan ≡ true → ⊥
+unfolding lt
+not-below-nan nan h = true≢false (sym h)
+not-below-nan (inf s) h = true≢false (sym h)
+not-below-nan (fin s m e) h = true≢false (sym h)
+
+-- of two, one below the other, the other is the larger
+pub larger-above : (x y : Float) → lt x y ≡ true → larger x y ≡ y
+unfolding larger isNan
+larger-above nan y h = refl
+larger-above (inf s) nan h = absurd (not-below-nan (inf s) h)
+larger-above (inf s) (inf t) h = simp h
+larger-above (inf s) (fin t n d) h = simp h
+larger-above (fin s m e) nan h = absurd (not-below-nan (fin s m e) h)
+larger-above (fin s m e) (inf t) h = simp h
+larger-above (fin s m e) (fin t n d) h = simp h
 
 -- what holds of each of two holds of the larger
 pub larger-either : (P : Float → Type 0) (x y : Float) → P x → P y → P (larger x y)

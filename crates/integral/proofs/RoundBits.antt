@@ -4,20 +4,20 @@ use mathlib.Core.Path.{_≡_, refl, sym, ap, _∙_, subst}
 use mathlib.Core.Logic.{_⊎_, inl, inr}
 use mathlib.Core.Bool.{Bool, cond}
 use Prim.Native.Nat.{ℕ, _+_, _-_, _*_, _%_, _^_, _≤_, _<_}
-use native.Mathlib.Nat.{le-trans, le-of-eq, lt-of-lt-of-le, mul-assoc, mul-one, mul-le-mul-right, div-mul-le-self, div-lt-iff-lt-mul, le-div-iff-mul-le, add-zero, eq-or-lt-of-le}
+use native.Mathlib.Nat.{le-trans, le-of-eq, le-of-lt, lt-of-lt-of-le, mul-assoc, mul-one, mul-le-mul-right, div-mul-le-self, div-lt-iff-lt-mul, le-div-iff-mul-le, add-zero, eq-or-lt-of-le}
 use native.Mathlib.Omega.{arith}
 use lib.Dec.{T, lit≤, lit<}
 use lib.Pow.{pow-pos, pow-mono, pow-add, shl-lt}
 use lib.Ieee.{Float, nan, inf, fin, binary64, up, down, round, fits, ofBits, toBits}
-use lib.Ieee.Bits.{toBits-ofBits}
 use lib.Ieee.Exact.{HasValue, round-exact}
 use lib.Ieee.Fits.{down-pos, round-fits, nan-fits, inf-fits}
-use Rattle.rounding.specs.Fields.{nan-above, no-nan-below}
+use Rattle.rounding.specs.Fields.{nan-above}
+use Rattle.rounding.specs.Held.{rescaled}
 use Rattle.rounding.specs.Pattern.{exact-bits}
 use Rattle.rounding.specs.Shift.{product}
 use Rattle.integral.specs.Integral.{halfUp, roundAway, roundBits}
 use Rattle.integral.specs.Fractions.{same-fraction, below-half, some-digits, no-digits}
-use Rattle.floats.specs.Patterns.{sign, field, tail, all, all-lt, all-is, value, infinite}
+use Rattle.floats.specs.Patterns.{sign, field, tail, all, all-lt, all-is, all-from, value, infinite, bits-again}
 
 -- ---- rounding any fraction
 pub halfUp-le : (a c : ℕ) → halfUp a c * (c * 2) ≤ a * 2 + c
@@ -43,7 +43,7 @@ infinity s = refl
 -- a whole number n that is q * 2 ^ k of the smallest values
 whole-bits : (s : Bool) (n g j q k : ℕ) → g < 2 ^ 53 → n ≡ g * 2 ^ j → j < 972 → n * 2 ^ 1074 ≡ q * 2 ^ k → (k ≡ 0) ⊎ (2 ^ 52 ≤ q) → q ≤ 2 ^ 53 → toBits binary64 (round binary64 s n 1) ≡ cond s (2 ^ 63) 0 + (k * 2 ^ 52 + q)
 whole-bits s n g j q k G e J v lead most =
-    exact-bits binary64 (round binary64 s n 1) s q k (units (round binary64 s n 1) n (q * 2 ^ k) v (round-exact binary64 s n 1 g (j + 1074) (lit< tt) G under is)) lead most
+    exact-bits binary64 (round binary64 s n 1) s q k (subst (λ (z : ℕ). HasValue (round binary64 s n 1) s z (2 ^ 1074)) v (rescaled (round binary64 s n 1) s n 1 (2 ^ 1074) (2 ^ 1074) refl (round-exact binary64 s n 1 g (j + 1074) (lit< tt) G under is))) lead most
   where
     is : n * 2 ^ 1074 ≡ g * 2 ^ (j + 1074) * 1
     is = ap (λ (z : ℕ). z * 2 ^ 1074) e ∙ mul-assoc g (2 ^ j) (2 ^ 1074) ∙ ap (λ (z : ℕ). g * z) (sym (pow-add 2 j 1074)) ∙ sym (mul-one (g * 2 ^ (j + 1074)))
@@ -51,13 +51,9 @@ whole-bits s n g j q k G e J v lead most =
     under : g * 2 ^ (j + 1074) < 2 ^ 2098
     under = lt-of-lt-of-le (shl-lt 53 (j + 1074) G) (pow-mono {i = 53 + (j + 1074)} {j = 2098} (omega arith))
 
-    units : (x : Float) (n m : ℕ) → n * 2 ^ 1074 ≡ m → HasValue x s n 1 → HasValue x s m (2 ^ 1074)
-    units nan n m e h = absurd h
-    units (inf t) n m e h = absurd h
-    units (fin t a d) n m e h = (h .0, scale (a * up d) (down d) (2 ^ 1074) (h .1) ∙ ap (λ (z : ℕ). z * down d) e)
-      where
-        scale : (a c u : ℕ) → a * 1 ≡ n * c → a * u ≡ n * u * c
-        scale a c u p = omega (arith, ap (λ (z : ℕ). z * u) p)
+-- twice a number above 0 is above 0
+twice-pos : (u : ℕ) → 0 < u → 0 < u * 2
+twice-pos u h = omega arith
 
 -- ---- M with its sh lowest digits rounded, a half up
 module _ (M sh : ℕ) (lo : 2 ^ 52 ≤ M) (hi : M < 2 ^ 53) (S : 0 < sh) (few : sh ≤ 53) where
@@ -67,9 +63,6 @@ module _ (M sh : ℕ) (lo : 2 ^ 52 ≤ M) (hi : M < 2 ^ 53) (S : 0 < sh) (few : 
   n-lt : n < 2 ^ 53
   n-lt = div-lt-iff-lt-mul (twice-pos (2 ^ sh) (pow-pos sh)) .1 (small (2 ^ sh) (pow-mono {i = 1} {j = sh} S))
     where
-      twice-pos : (u : ℕ) → 0 < u → 0 < u * 2
-      twice-pos u h = omega arith
-
       small : (u : ℕ) → 2 ≤ u → M * 2 + u < 2 ^ 53 * (u * 2)
       small u h = omega arith
 
@@ -79,9 +72,6 @@ module _ (M sh : ℕ) (lo : 2 ^ 52 ≤ M) (hi : M < 2 ^ 53) (S : 0 < sh) (few : 
       at : (u v : ℕ) → v * u ≡ 2 ^ 53 → 0 < u → halfUp M u * u ≤ 2 ^ 53
       at u v e U = le-trans (mul-le-mul-right u (below (halfUp M u) v (div-lt-iff-lt-mul (twice-pos u U) .1 (wide u v e U)))) (le-of-eq e)
         where
-          twice-pos : (u : ℕ) → 0 < u → 0 < u * 2
-          twice-pos u h = omega arith
-
           below : (a b : ℕ) → a < b + 1 → a ≤ b
           below a b h = omega arith
 
@@ -91,9 +81,6 @@ module _ (M sh : ℕ) (lo : 2 ^ 52 ≤ M) (hi : M < 2 ^ 53) (S : 0 < sh) (few : 
   kept-ge : 2 ^ 52 ≤ n * 2 ^ sh
   kept-ge = go (eq-or-lt-of-le few)
     where
-      twice-pos : (u : ℕ) → 0 < u → 0 < u * 2
-      twice-pos u h = omega arith
-
       at : (u v : ℕ) → v * u ≡ 2 ^ 52 → 0 < u → 2 ^ 52 ≤ halfUp M u * u
       at u v e U = le-trans (le-of-eq (sym e)) (mul-le-mul-right u (le-div-iff-mul-le (twice-pos u U) .1 (wide u v e)))
         where
@@ -134,37 +121,22 @@ module _ (b : ℕ) where
       whole-is e l k = omega arith
 
   pub round-whole : 1075 ≤ field b → b < 2 ^ 64 → b % 2 ^ 63 ≤ 2047 * 2 ^ 52 → roundBits b ≡ b
-  round-whole h l g = go (eq-or-lt-of-le (top-le g))
+  round-whole h l g = go (eq-or-lt-of-le g)
     where
-      top-le : b % 2 ^ 63 ≤ 2047 * 2 ^ 52 → field b ≤ 2047
-      top-le l = omega arith
-
-      bare : field b ≡ 2047 → tail b ≡ 0
-      bare e = omega arith
-
-      again : toBits binary64 (ofBits binary64 b) ≡ b
-      again = toBits-ofBits binary64 b l (no-nan-below binary64 b g)
-
-      go : (field b ≡ 2047) ⊎ (field b < 2047) → roundBits b ≡ b
-      go (inl e) = ap (λ (x : Float). toBits binary64 (roundAway x)) (infinite b e (bare e)) ∙ ap (toBits binary64) (infinity (sign b) ∙ sym (infinite b e (bare e))) ∙ again
+      go : (b % 2 ^ 63 ≡ 2047 * 2 ^ 52) ⊎ (b % 2 ^ 63 < 2047 * 2 ^ 52) → roundBits b ≡ b
+      go (inl e) = ap (λ (x : Float). toBits binary64 (roundAway x)) (infinite b e) ∙ ap (toBits binary64) (infinity (sign b) ∙ sym (infinite b e)) ∙ bits-again b l g
       go (inr k) =
           let j = field b - 1075 in
-          by-value k
+          by-value (omega arith)
           ∙ ap (λ (n : ℕ). toBits binary64 (round binary64 (sign b) n 1)) (no-digits (all b) (field b - 1) 1074 j (omega arith))
           ∙ whole-bits (sign b) (all b * 2 ^ j) (all b) j (all b) (field b - 1) (all-lt b) refl (omega arith)
           (mul-assoc (all b) (2 ^ j) (2 ^ 1074) ∙ ap (λ (z : ℕ). all b * z) (sym (pow-add 2 j 1074) ∙ ap (λ (z : ℕ). 2 ^ z) (whole-is (field b) (omega arith))))
-          (inr (lead (all-is b (omega arith)))) (most (all-lt b))
-          ∙ sym (exact-bits binary64 (ofBits binary64 b) (sign b) (all b) (field b - 1) (value b k) (inr (lead (all-is b (omega arith)))) (most (all-lt b)))
-          ∙ again
+          (inr (all-from b (omega arith))) (le-of-lt (all-lt b))
+          ∙ sym (exact-bits binary64 (ofBits binary64 b) (sign b) (all b) (field b - 1) (value b (omega arith)) (inr (all-from b (omega arith))) (le-of-lt (all-lt b)))
+          ∙ bits-again b l g
         where
           whole-is : (e : ℕ) → 1075 ≤ e → e - 1075 + 1074 ≡ e - 1
           whole-is e l = omega arith
-
-          lead : all b ≡ 2 ^ 52 + tail b → 2 ^ 52 ≤ all b
-          lead e = omega arith
-
-          most : all b < 2 ^ 53 → all b ≤ 2 ^ 53
-          most l = omega arith
 
   pub round-nan : 2047 * 2 ^ 52 < b % 2 ^ 63 → roundBits b ≡ 0x7ff8_0000_0000_0000
   round-nan h = ap (λ (x : Float). toBits binary64 (roundAway x)) (nan-above binary64 b h) ∙ pattern-is

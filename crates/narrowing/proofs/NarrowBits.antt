@@ -16,7 +16,7 @@ use Rattle.rounding.specs.Pattern.{round-bits}
 use Rattle.rounding.specs.Shift.{closest-zero, moved, n-lt, drop-many, drop-none}
 use Rattle.narrowing.specs.Narrow.{narrow, narrowBits}
 use Rattle.narrowing.specs.Narrowing.{narrow-value}
-use Rattle.floats.specs.Patterns.{sign, field, tail, all, all-lt, all-is, value, infinite}
+use Rattle.floats.specs.Patterns.{sign, field, tail, all, all-lt, all-is, all-from, value, infinite}
 
 -- ---- the nearest whole number to m / (2 * h) by one sum
 module _ (m h d r p : ℕ) (H : 0 < h) (M : d * (2 * h) + r ≡ m) (R : r < 2 * h) where
@@ -119,24 +119,15 @@ module _ (b : ℕ) where
       same e l = omega arith
 
   pub narrow-normal : 897 ≤ field b → b % 2 ^ 63 ≤ 2047 * 2 ^ 52 → narrowBits b ≡ cond (sign b) (2 ^ 31) 0 + min ((field b - 897) * 2 ^ 23 + closest (2 ^ 52 + tail b) (2 ^ 29)) (255 * 2 ^ 23)
-  narrow-normal h g = go (eq-or-lt-of-le (top-le g))
+  narrow-normal h g = go (eq-or-lt-of-le g)
     where
-      top-le : b % 2 ^ 63 ≤ 2047 * 2 ^ 52 → field b ≤ 2047
-      top-le l = omega arith
-
-      bare : field b ≡ 2047 → tail b ≡ 0
-      bare e = omega arith
-
       same : (e : ℕ) → 897 ≤ e → e - 1 - 896 ≡ e - 897
       same e l = omega arith
 
-      lead : all b ≡ 2 ^ 52 + tail b → 2 ^ 52 ≤ all b
-      lead e = omega arith
-
-      go : (field b ≡ 2047) ⊎ (field b < 2047) → narrowBits b ≡ cond (sign b) (2 ^ 31) 0 + min ((field b - 897) * 2 ^ 23 + closest (2 ^ 52 + tail b) (2 ^ 29)) (255 * 2 ^ 23)
+      go : (b % 2 ^ 63 ≡ 2047 * 2 ^ 52) ⊎ (b % 2 ^ 63 < 2047 * 2 ^ 52) → narrowBits b ≡ cond (sign b) (2 ^ 31) 0 + min ((field b - 897) * 2 ^ 23 + closest (2 ^ 52 + tail b) (2 ^ 29)) (255 * 2 ^ 23)
       go (inl e) =
-          ap (λ (x : Float). toBits binary32 (narrow x)) (infinite b e (bare e)) ∙ infinity (sign b)
-          ∙ ap (λ (z : ℕ). cond (sign b) (2 ^ 31) 0 + z) (cut (closest (2 ^ 52 + tail b) (2 ^ 29)) (field b) e)
+          ap (λ (x : Float). toBits binary32 (narrow x)) (infinite b e) ∙ infinity (sign b)
+          ∙ ap (λ (z : ℕ). cond (sign b) (2 ^ 31) 0 + z) (cut (closest (2 ^ 52 + tail b) (2 ^ 29)) (field b) (omega arith))
         where
           cut : (q e : ℕ) → e ≡ 2047 → 255 * 2 ^ 23 ≡ min ((e - 897) * 2 ^ 23 + q) (255 * 2 ^ 23)
           cut q e p = omega arith
@@ -144,7 +135,7 @@ module _ (b : ℕ) where
           infinity : (s : Bool) → toBits binary32 (narrow (inf s)) ≡ cond s (2 ^ 31) 0 + 255 * 2 ^ 23
           infinity s = unfold toBits narrow in refl
       go (inr l) =
-          by-value l ∙ to-normal (sign b) (all b) (field b - 1) (all-lt b) (lead (all-is b (omega arith))) (omega arith)
+          by-value (omega arith) ∙ to-normal (sign b) (all b) (field b - 1) (all-lt b) (all-from b (omega arith)) (omega arith)
           ∙ ap (λ (z : ℕ). cond (sign b) (2 ^ 31) 0 + min ((field b - 1 - 896) * 2 ^ 23 + closest z (2 ^ 29)) (255 * 2 ^ 23)) (all-is b (omega arith))
           ∙ ap (λ (z : ℕ). cond (sign b) (2 ^ 31) 0 + min (z * 2 ^ 23 + closest (2 ^ 52 + tail b) (2 ^ 29)) (255 * 2 ^ 23)) (same (field b) h)
 

@@ -1,5 +1,5 @@
 -- The laws of the test of a guess at a root: the exact square in parts of 27 binary digits. Assumes nothing.
-use mathlib.Core.Path.{_≡_, refl, sym, ap, _∙_}
+use mathlib.Core.Path.{_≡_, sym, ap, _∙_}
 use mathlib.Core.Bool.{true, false, true≢false}
 use Prim.Native.Nat.{ℕ, zero, suc, _+_, _-_, _*_, _/_, _%_, _^_, _≤_, _<_}
 use native.Mathlib.Nat.{mul-le-mul}
@@ -9,7 +9,7 @@ use lib.Dec.{leb}
 use lib.Ieee.{binary64, toBits}
 use Rattle.roots.specs.Roots.{nearestRoot, rootOf}
 use Rattle.roots.specs.Root.{Near, near-unique, nearest-near}
-use Rattle.roots.specs.SquareRoot.{root-even, root-odd}
+use Rattle.roots.specs.SquareRoot.{root-left}
 use Rattle.roots.proofs.SqrtBits.{root-pattern}
 
 -- a root's high and low part
@@ -69,17 +69,6 @@ kept m zero lo hi h = record { lo = omega arith; hi = omega arith }
 kept m (suc zero) lo hi h = record { lo = omega arith; hi = omega arith }
 kept m (suc (suc p)) lo hi h = omega arith
 
-module _ (m e : ℕ) (lo : 2 ^ 52 ≤ m) (hi : m < 2 ^ 53) (few : 52 ≤ e) (most : e < 3120) where
-  pub pattern : toBits binary64 (rootOf (m * 2 ^ e)) ≡ (e - 52) / 2 * 2 ^ 52 + nearestRoot (m * (1 + e % 2) * 2 ^ 52)
-  pattern = go (e % 2) refl (bit e)
-    where
-      bit : (e : ℕ) → e % 2 < 2
-      bit e = omega arith
-
-      same : (n : ℕ) → m * 2 ^ 52 ≡ n → toBits binary64 (rootOf (m * 2 ^ e)) ≡ (e - 52) / 2 * 2 ^ 52 + nearestRoot (m * 2 ^ 52) → toBits binary64 (rootOf (m * 2 ^ e)) ≡ (e - 52) / 2 * 2 ^ 52 + nearestRoot n
-      same n h k = k ∙ ap (λ (z : ℕ). (e - 52) / 2 * 2 ^ 52 + nearestRoot z) h
-
-      go : (p : ℕ) → p ≡ e % 2 → p < 2 → toBits binary64 (rootOf (m * 2 ^ e)) ≡ (e - 52) / 2 * 2 ^ 52 + nearestRoot (m * (1 + p) * 2 ^ 52)
-      go zero h l = same (m * (1 + 0) * 2 ^ 52) (omega arith) (root-pattern (root-even m e lo hi few most (sym h)))
-      go (suc zero) h l = root-pattern (root-odd m e lo hi few most (sym h))
-      go (suc (suc p)) h l = omega arith
+-- the pattern of the root of m * 2 ^ e, m having 53 digits
+pub pattern : (m e : ℕ) → 2 ^ 52 ≤ m → m < 2 ^ 53 → 52 ≤ e → e < 3120 → toBits binary64 (rootOf (m * 2 ^ e)) ≡ (e - 52) / 2 * 2 ^ 52 + nearestRoot (m * (1 + e % 2) * 2 ^ 52)
+pattern m e lo hi few most = root-pattern (root-left m e lo hi few most)

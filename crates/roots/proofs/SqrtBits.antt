@@ -9,18 +9,18 @@ use borrow.Author.Tests.{lt-leb, le-leb}
 use lib.Count.{leadingZeros, leading-top}
 use lib.Dec.{T}
 use lib.Pow.{pow-pos, pow-mono, shl-lt}
-use lib.Ieee.{Float, nan, inf, fin, binary64, up, down, size, fits, ofBits, toBits}
-use lib.Ieee.Bits.{toBits-ofBits}
+use lib.Ieee.{Float, nan, inf, fin, binary64, up, down, fits, ofBits, toBits}
 use lib.Ieee.Exact.{HasValue}
-use lib.Ieee.Fits.{up-pos, down-pos, round-fits, nan-fits, inf-fits}
-use Rattle.rounding.specs.Fields.{digits, nan-above, no-nan-below}
+use lib.Ieee.Fits.{up-pos, down-pos, nan-fits, inf-fits}
+use Rattle.rounding.specs.Fields.{digits, nan-above}
 use Rattle.rounding.specs.Near.{Cmp, cmp}
 use Rattle.rounding.specs.Pattern.{exact-bits}
 use Rattle.rounding.specs.Shift.{product}
 use Rattle.roots.specs.Roots.{nearestRoot, rootOf, sqrt, sqrtBits}
 use Rattle.roots.specs.Root.{nearest-near, near-below}
 use Rattle.roots.specs.SquareRoot.{Rooted, sqrt-value}
-use Rattle.floats.specs.Patterns.{sign, field, tail, all, all-is, value, infinite}
+use Rattle.roots.specs.RootOrder.{rounded-root}
+use Rattle.floats.specs.Patterns.{sign, field, tail, all, all-is, value, infinite, bits-again}
 
 -- ---- the pattern of a root of 53 digits
 pub root-pattern : {n k N q : ℕ} → Rooted n k N q → toBits binary64 (rootOf n) ≡ k * 2 ^ 52 + q
@@ -66,10 +66,7 @@ sqrt-fits (inf true) f = nan-fits binary64
 sqrt-fits (inf false) f = inf-fits binary64 false
 sqrt-fits (fin s zero e) f = f
 sqrt-fits (fin true (suc m) e) f = nan-fits binary64
-sqrt-fits (fin false (suc m) e) f = root-fits (suc m * up e * 4 ^ 1074 / down e)
-  where
-    root-fits : (n : ℕ) → T (fits binary64 (rootOf n))
-    root-fits n = unfold rootOf in round-fits binary64 false (nearestRoot (n / 4 ^ ((size n + 1) / 2 - 53)) * 2 ^ ((size n + 1) / 2 - 53)) (2 ^ 1074)
+sqrt-fits (fin false (suc m) e) f = rounded-root (suc m * up e * 4 ^ 1074 / down e)
 
 zero-root : (x : Float) (s : Bool) → HasValue x s 0 (2 ^ 1074) → sqrt x ≡ x
 unfolding sqrt
@@ -135,11 +132,8 @@ module _ (b : ℕ) where
       subnormal : all b ≡ b
       subnormal = ap (λ (e : ℕ). digits binary64 e (tail b)) field-is ∙ omega arith
 
-  again : b < 2 ^ 64 → b % 2 ^ 63 ≤ 2047 * 2 ^ 52 → toBits binary64 (ofBits binary64 b) ≡ b
-  again h l = toBits-ofBits binary64 b h (no-nan-below binary64 b l)
-
   pub sqrt-zero : b < 2 ^ 64 → b % 2 ^ 63 ≡ 0 → sqrtBits b ≡ b
-  sqrt-zero h l = ap (toBits binary64) (zero-root (ofBits binary64 b) (sign b) (subst (λ (n : ℕ). HasValue (ofBits binary64 b) (sign b) n (2 ^ 1074)) none (value b (omega arith)))) ∙ again h (omega arith)
+  sqrt-zero h l = ap (toBits binary64) (zero-root (ofBits binary64 b) (sign b) (subst (λ (n : ℕ). HasValue (ofBits binary64 b) (sign b) n (2 ^ 1074)) none (value b (omega arith)))) ∙ bits-again b h (omega arith)
     where
       field-is : field b ≡ 0
       field-is = omega arith
@@ -149,8 +143,8 @@ module _ (b : ℕ) where
 
   pub sqrt-infinity : b ≡ 2047 * 2 ^ 52 → sqrtBits b ≡ b
   sqrt-infinity e =
-      let i : ofBits binary64 b ≡ inf false = infinite b (omega arith) (omega arith) ∙ ap inf (positive (omega arith)) in
-      ap (λ (x : Float). toBits binary64 (sqrt x)) i ∙ ap (toBits binary64) (infinite-root ∙ sym i) ∙ again (omega arith) (omega arith)
+      let i : ofBits binary64 b ≡ inf false = infinite b (omega arith) ∙ ap inf (positive (omega arith)) in
+      ap (λ (x : Float). toBits binary64 (sqrt x)) i ∙ ap (toBits binary64) (infinite-root ∙ sym i) ∙ bits-again b (omega arith) (omega arith)
 
   pub sqrt-none : 2047 * 2 ^ 52 < b → (b % 2 ^ 63 ≡ 0 → ⊥) → b < 2 ^ 64 → sqrtBits b ≡ 0x7ff8_0000_0000_0000
   sqrt-none h n l = ap (toBits binary64) (go (compare (b % 2 ^ 63) (2047 * 2 ^ 52)) (cmp (b % 2 ^ 63) (2047 * 2 ^ 52))) ∙ nan-pattern
@@ -172,7 +166,7 @@ module _ (b : ℕ) where
           (mul-pos (some (field b) (tail b) no) (pow-pos (field b - 1)))
 
       at : b % 2 ^ 63 ≡ 2047 * 2 ^ 52 → sqrt (ofBits binary64 b) ≡ nan
-      at e = ap sqrt (infinite b (omega arith) (omega arith) ∙ ap inf (minus (le-of-eq e))) ∙ minus-infinite-root
+      at e = ap sqrt (infinite b e ∙ ap inf (minus (le-of-eq e))) ∙ minus-infinite-root
 
       above : 2047 * 2 ^ 52 < b % 2 ^ 63 → sqrt (ofBits binary64 b) ≡ nan
       above g = ap sqrt (nan-above binary64 b g) ∙ nan-root

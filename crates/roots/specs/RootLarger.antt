@@ -1,69 +1,45 @@
 -- The root of the larger of two values is the larger of their roots, where no sign keeps them from having one. Assumes nothing.
 use mathlib.Core.Path.{_≡_, refl, sym, ap, _∙_, subst}
 use mathlib.Core.Bool.{Bool, true, false, cond, true≢false}
-use Prim.Native.Nat.{ℕ, zero, suc, _+_, _-_, _*_, _/_, _^_, _≤_, _<_, zero-le}
-use native.Mathlib.Nat.{le-antisymm, le-of-lt, le-of-mul-le-mul-right, mul-le-mul-right, mul-div-cancel, mul-pos}
+use Prim.Native.Nat.{ℕ, zero, suc, _*_, _^_, _≤_, _<_, zero-le}
+use native.Mathlib.Nat.{le-antisymm, le-of-lt, le-of-mul-le-mul-right, mul-le-mul-right, mul-pos}
 use native.Mathlib.Omega.{arith}
 use borrow.Author.Tests.{ltb-false, lt-ltb, le-ltb}
 use lib.Dec.{T, ltb, lt→ltb}
 use lib.IntN.{ℤ}
 use lib.Pow.{pow-pos}
-use lib.Ieee.{Float, nan, inf, fin, binary64, prec, hid, up, down, size, lt, fits, isNan, ofBits, toBits}
+use lib.Ieee.{Float, nan, inf, fin, binary64, up, down, lt, fits, isNan, ofBits}
 use lib.Ieee.Bits.{ofBits-toBits}
 use lib.Ieee.Exact.{HasValue}
 use lib.Ieee.Fits.{up-pos, down-pos}
 use lib.Ieee.Order.{transfer}
 use lib.Ieee.Positive.{positive, cross→le}
+use Rattle.rounding.specs.Pattern.{value-bits}
 use Rattle.roots.specs.Roots.{sqrt}
 use Rattle.floats.specs.Floats.{negative, larger}
 use Rattle.roots.specs.SquareRoot.{Nearest, sqrt-nearest}
 use Rattle.roots.specs.RootOrder.{roots-ordered, root-fits, below-le}
-use Rattle.floats.specs.Plus.{Plus, larger-either}
+use Rattle.floats.specs.Plus.{Plus, larger-above, larger-either}
 
 -- ---- a value is written in one way
 
--- the pattern of n of the smallest values
-abbrev patternOf : ℕ → ℕ
-patternOf n = 0 + (size n - prec binary64) * hid binary64 + n / 2 ^ (size n - prec binary64)
-
-bits-of-value : (x : Float) (n : ℕ) → HasValue x false n (2 ^ 1074) → toBits binary64 x ≡ patternOf n
-unfolding toBits
-bits-of-value nan n h = absurd h
-bits-of-value (inf s) n h = absurd h
-bits-of-value (fin true m e) n h = absurd (true≢false (h .0))
-bits-of-value (fin false m e) n h = ap (λ (k : ℕ). patternOf k) (ap (λ (k : ℕ). k / down e) (h .1) ∙ mul-div-cancel n (down-pos e))
-
 -- two f64 of one value are the same
 same-value : (x y : Float) (n : ℕ) → T (fits binary64 x) → T (fits binary64 y) → HasValue x false n (2 ^ 1074) → HasValue y false n (2 ^ 1074) → x ≡ y
-same-value x y n f g h k = sym (ofBits-toBits binary64 x f) ∙ ap (ofBits binary64) (bits-of-value x n h ∙ sym (bits-of-value y n k)) ∙ ofBits-toBits binary64 y g
+same-value x y n f g h k = sym (ofBits-toBits binary64 x f) ∙ ap (ofBits binary64) (value-bits binary64 x false n h ∙ sym (value-bits binary64 y false n k)) ∙ ofBits-toBits binary64 y g
 
 -- ---- the larger of two values
 
--- what is below is not the larger
-larger-above : (x y : Float) → lt x y ≡ true → larger x y ≡ y
-unfolding larger isNan lt
-larger-above nan y h = refl
-larger-above (inf s) nan h = absurd (true≢false (sym h))
-larger-above (inf s) (inf t) h = ap (λ (b : Bool). cond b (inf t) (cond (lt (inf t) (inf s)) (inf s) (cond (negative (inf s)) (inf t) (inf s)))) h
-larger-above (inf s) (fin t n d) h = ap (λ (b : Bool). cond b (fin t n d) (cond (lt (fin t n d) (inf s)) (inf s) (cond (negative (inf s)) (fin t n d) (inf s)))) h
-larger-above (fin s m e) nan h = absurd (true≢false (sym h))
-larger-above (fin s m e) (inf t) h = ap (λ (b : Bool). cond b (inf t) (cond (lt (inf t) (fin s m e)) (fin s m e) (cond (negative (fin s m e)) (inf t) (fin s m e)))) h
-larger-above (fin s m e) (fin t n d) h = ap (λ (b : Bool). cond b (fin t n d) (cond (lt (fin t n d) (fin s m e)) (fin s m e) (cond (negative (fin s m e)) (fin t n d) (fin s m e)))) h
+-- either way the same value
+same : (b : Bool) (x : Float) → cond b x x ≡ x
+same true x = refl
+same false x = refl
 
 -- what is not below, and has the sign plus, is
 larger-first : (m : ℕ) (e : ℤ) (y : Float) → lt (fin false m e) y ≡ false → larger (fin false m e) y ≡ fin false m e
 unfolding larger isNan negative
 larger-first m e nan h = refl
-larger-first m e (inf t) h = ap (λ (b : Bool). cond b (inf t) (cond (lt (inf t) (fin false m e)) (fin false m e) (fin false m e))) h ∙ same (lt (inf t) (fin false m e))
-  where
-    same : (b : Bool) → cond b (fin false m e) (fin false m e) ≡ fin false m e
-    same true = refl
-    same false = refl
-larger-first m e (fin t n d) h = ap (λ (b : Bool). cond b (fin t n d) (cond (lt (fin t n d) (fin false m e)) (fin false m e) (fin false m e))) h ∙ same (lt (fin t n d) (fin false m e))
-  where
-    same : (b : Bool) → cond b (fin false m e) (fin false m e) ≡ fin false m e
-    same true = refl
-    same false = refl
+larger-first m e (inf t) h = simp (h, same)
+larger-first m e (fin t n d) h = simp (h, same)
 
 units : 0 < 2 ^ 1074
 units = pow-pos 1074

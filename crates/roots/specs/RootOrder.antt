@@ -14,11 +14,12 @@ use lib.Ieee.Exact.{HasValue}
 use lib.Ieee.Fits.{down-pos, round-fits}
 use lib.Ieee.Order.{transfer, le-of-values}
 use lib.Ieee.Positive.{positive, above, first-pos, values-of-le, through}
+use Rattle.floats.specs.Plus.{not-below-nan}
 use Rattle.roots.specs.Roots.{rootOf, sqrt}
 use Rattle.roots.specs.SquareRoot.{Nearest, sqrt-nearest}
 
--- a root is rounded
-rounded-root : (n : ℕ) → T (fits binary64 (rootOf n))
+-- a root is rounded, so that an f64 holds it
+pub rounded-root : (n : ℕ) → T (fits binary64 (rootOf n))
 unfolding rootOf
 rounded-root n = round-fits binary64 false _ (2 ^ 1074)
 
@@ -57,13 +58,6 @@ sqrt-monotone x y f g p q h =
     (mul-le-mul-right (2 ^ 1074) (roots-ordered x y p q h n m))
 
 -- ---- what is below the root of a value is below the roots of those above it
-
--- nothing is below a NaN
-not-below-nan : (x : Float) → lt x nan ≡ true → ⊥
-unfolding lt
-not-below-nan nan h = true≢false (sym h)
-not-below-nan (inf s) h = true≢false (sym h)
-not-below-nan (fin s m e) h = true≢false (sym h)
 
 -- what is below anything is below the infinity
 below-infinity : (x r : Float) → lt x r ≡ true → lt x (inf false) ≡ true

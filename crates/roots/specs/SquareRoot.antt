@@ -3,7 +3,7 @@ use mathlib.Core.Path.{_≡_, refl, sym, ap, _∙_, subst}
 use mathlib.Core.Logic.{_⊎_, inl, inr}
 use mathlib.Core.Bool.{Bool, true, false, not, true≢false}
 use Prim.Native.Nat.{ℕ, zero, suc, _+_, _-_, _*_, _/_, _%_, _^_, _≤_, _<_}
-use native.Mathlib.Nat.{le-trans, le-of-eq, lt-of-lt-of-le, lt-of-le-of-lt, mul-assoc, mul-one, mul-le-mul, mul-le-mul-right, lt-of-mul-lt-mul-right, mul-lt-mul-of-pos-right, mul-div-cancel, mul-pos, zero-mul, pow-succ', lt-irrefl, lt-suc-self, eq-or-lt-of-le}
+use native.Mathlib.Nat.{le-trans, le-of-eq, lt-of-lt-of-le, lt-of-le-of-lt, mul-assoc, mul-le-mul, mul-le-mul-right, lt-of-mul-lt-mul-right, mul-lt-mul-of-pos-right, mul-div-cancel, mul-pos, zero-mul, pow-succ', lt-irrefl, lt-suc-self, eq-or-lt-of-le}
 use native.Mathlib.Omega.{arith}
 use lib.Dec.{T, leb, leb→le, nleb→lt}
 use lib.Pow.{pow-pos, pow-mono, pow-add, shl-lt}
@@ -13,7 +13,7 @@ use lib.Ieee.Exact.{HasValue, round-exact}
 use lib.Ieee.Fits.{down-pos}
 use lib.Ieee.Positive.{positive, positive-finite, value-pos, first-pos}
 use lib.Ieee.Scale.{finite}
-use Rattle.rounding.specs.Held.{Held, held}
+use Rattle.rounding.specs.Held.{Held, held, rescaled}
 use Rattle.rounding.specs.Pattern.{size-exact, pow-lt-back}
 use Rattle.rounding.specs.Shift.{product, pows}
 use Rattle.rounding.specs.Whole.{same-size}
@@ -86,11 +86,19 @@ module _ (m e : ℕ) (lo : 2 ^ 52 ≤ m) (hi : m < 2 ^ 53) (few : 52 ≤ e) (mos
       }
 
   -- an even e leaves m * 2 ^ 52, and an odd one twice that
-  pub root-even : e % 2 ≡ 0 → Rooted (m * 2 ^ e) k (m * 2 ^ 52) (nearestRoot (m * 2 ^ 52))
-  root-even h = rooted (m * 2 ^ 52) (kept 0 (m * 2 ^ 52) (omega arith) (ap (λ (z : ℕ). z * 2 ^ 52) (sym (mul-one m)))) (omega arith) (omega arith)
+  pub root-left : Rooted (m * 2 ^ e) k (m * (1 + e % 2) * 2 ^ 52) (nearestRoot (m * (1 + e % 2) * 2 ^ 52))
+  root-left = go (e % 2) refl (bit e)
+    where
+      bit : (e : ℕ) → e % 2 < 2
+      bit e = omega arith
 
-  pub root-odd : e % 2 ≡ 1 → Rooted (m * 2 ^ e) k (m * 2 * 2 ^ 52) (nearestRoot (m * 2 * 2 ^ 52))
-  root-odd h = rooted (m * 2 * 2 ^ 52) (kept 1 (m * 2 * 2 ^ 52) (omega arith) refl) (omega arith) (omega arith)
+      go : (p : ℕ) → p ≡ e % 2 → p < 2 → Rooted (m * 2 ^ e) k (m * (1 + p) * 2 ^ 52) (nearestRoot (m * (1 + p) * 2 ^ 52))
+      go zero h l = rooted (m * 1 * 2 ^ 52) (kept 0 (m * 1 * 2 ^ 52) (omega arith) refl) (omega arith) (omega arith)
+      go (suc zero) h l = rooted (m * 2 * 2 ^ 52) (kept 1 (m * 2 * 2 ^ 52) (omega arith) refl) (omega arith) (omega arith)
+      go (suc (suc p)) h l = absurd (no l)
+        where
+          no : suc (suc p) < 2 → ⊥
+          no l = omega arith
 
 -- ---- any positive value, a of the smallest ones
 pub sqrt-value : (x : Float) (a : ℕ) → HasValue x false a (2 ^ 1074) → 0 < a → sqrt x ≡ rootOf (a * 2 ^ 1074)
@@ -99,10 +107,7 @@ sqrt-value nan a h p = absurd h
 sqrt-value (inf s) a h p = absurd h
 sqrt-value (fin true m e) a h p = absurd (true≢false (h .0))
 sqrt-value (fin false zero e) a h p = absurd (lt-irrefl 0 (subst (λ (z : ℕ). 0 < z) (sym (h .1) ∙ ap (λ (z : ℕ). z * 2 ^ 1074) (zero-mul (up e)) ∙ zero-mul (2 ^ 1074)) (mul-pos p (down-pos e))))
-sqrt-value (fin false (suc m) e) a h p = ap rootOf (ap (λ (z : ℕ). z / down e) (square (suc m * up e) (2 ^ 1074) (down e) (4 ^ 1074) refl (h .1)) ∙ mul-div-cancel (a * 2 ^ 1074) (down-pos e))
-  where
-    square : (n u d v : ℕ) → v ≡ u * u → n * u ≡ a * d → n * v ≡ a * u * d
-    square n u d v q r = ap (λ (z : ℕ). n * z) q ∙ omega (arith, ap (λ (z : ℕ). z * u) r)
+sqrt-value (fin false (suc m) e) a h p = ap rootOf (ap (λ (z : ℕ). z / down e) (rescaled (fin false (suc m) e) false a (2 ^ 1074) (2 ^ 1074) (4 ^ 1074) refl h .1) ∙ mul-div-cancel (a * 2 ^ 1074) (down-pos e))
 
 -- ---- no other value is as near
 -- x is `square` of the units 4 ^ -1074, and r is `root` of the units 2 ^ -1074, in which the root of x is the root of `square`. The middle of r and any
@@ -208,14 +213,6 @@ positive-sign (inf t) s a c p h = absurd p
 positive-sign (fin true m e) s a c p h = absurd p
 positive-sign (fin false m e) s a c p h = sym (h .0)
 
-squared : (x : Float) (a : ℕ) → HasValue x false a (2 ^ 1074) → HasValue x false (a * 2 ^ 1074) (4 ^ 1074)
-squared nan a h = absurd h
-squared (inf t) a h = absurd h
-squared (fin t m e) a h = (h .0, scale (m * up e) (down e) (2 ^ 1074) (4 ^ 1074) refl (h .1))
-  where
-    scale : (n d u v : ℕ) → v ≡ u * u → n * u ≡ a * d → n * v ≡ a * u * d
-    scale n d u v q r = ap (λ (z : ℕ). n * z) q ∙ omega (arith, ap (λ (z : ℕ). z * u) r)
-
 -- a value's digits d, of the weight 2 ^ j, moved up until they are 53
 record Moved (d j : ℕ) : Type 0 where
   m : ℕ
@@ -250,20 +247,6 @@ move d j p small under = go (size d) (size-lt d) (size-le d 53 small) (λ (i : �
         top : suc z + (52 - z) ≡ 53
         top = omega arith
 
-rooted-of : (m e : ℕ) → 2 ^ 52 ≤ m → m < 2 ^ 53 → 52 ≤ e → e < 3120 → (k : ℕ) × (N : ℕ) × (q : ℕ) × Rooted (m * 2 ^ e) k N q
-rooted-of m e lo hi few most = go (e % 2) refl (bit e)
-  where
-    bit : (e : ℕ) → e % 2 < 2
-    bit e = omega arith
-
-    go : (p : ℕ) → p ≡ e % 2 → p < 2 → (k : ℕ) × (N : ℕ) × (q : ℕ) × Rooted (m * 2 ^ e) k N q
-    go zero h l = ((e - 52) / 2, m * 2 ^ 52, nearestRoot (m * 2 ^ 52), root-even m e lo hi few most (sym h))
-    go (suc zero) h l = ((e - 52) / 2, m * 2 * 2 ^ 52, nearestRoot (m * 2 * 2 ^ 52), root-odd m e lo hi few most (sym h))
-    go (suc (suc p)) h l = absurd (no l)
-      where
-        no : suc (suc p) < 2 → ⊥
-        no l = omega arith
-
 -- The square root of a value above zero is the nearest value.
 pub sqrt-nearest : (x : Float) → T (fits binary64 x) → T (positive x) → Nearest x (sqrt x)
 sqrt-nearest x f p = at (h .sign) (positive-sign x (h .sign) (h .digits * 2 ^ h .shift) (2 ^ 1074) p (h .is)) (h .is)
@@ -273,7 +256,7 @@ sqrt-nearest x f p = at (h .sign) (positive-sign x (h .sign) (h .digits * 2 ^ h 
 
     at : (s : Bool) → s ≡ false → HasValue x s (h .digits * 2 ^ h .shift) (2 ^ 1074) → Nearest x (sqrt x)
     at true e v = absurd (true≢false e)
-    at false e v = go (rooted-of (w .m) (w .e) (w .lo) (w .hi) (w .few) (w .most))
+    at false e v = go (root-left (w .m) (w .e) (w .lo) (w .hi) (w .few) (w .most))
       where
         a : ℕ
         a = h .digits * 2 ^ h .shift
@@ -284,11 +267,11 @@ sqrt-nearest x f p = at (h .sign) (positive-sign x (h .sign) (h .digits * 2 ^ h 
         w : Moved (h .digits) (h .shift)
         w = move (h .digits) (h .shift) (first-pos (h .digits) (2 ^ h .shift) a-pos) (h .small) (h .under)
 
-        go : (k : ℕ) × (N : ℕ) × (q : ℕ) × Rooted (w .m * 2 ^ w .e) k N q → Nearest x (sqrt x)
-        go (k, N, q, r) = record {
+        go : {k N q : ℕ} → Rooted (w .m * 2 ^ w .e) k N q → Nearest x (sqrt x)
+        go {k} {N} {q} r = record {
           square = N * (2 ^ k * 2 ^ k);
           root = q * 2 ^ k;
-          of = subst (λ (n : ℕ). HasValue x false n (4 ^ 1074)) (sym (w .same) ∙ r .split ∙ ap (λ (n : ℕ). N * n) (four k ∙ sym (product k k (2 * k) (double k)))) (squared x a v);
+          of = subst (λ (n : ℕ). HasValue x false n (4 ^ 1074)) (sym (w .same) ∙ r .split ∙ ap (λ (n : ℕ). N * n) (four k ∙ sym (product k k (2 * k) (double k)))) (rescaled x false a (2 ^ 1074) (2 ^ 1074) (4 ^ 1074) refl v);
           is = subst (λ (y : Float). HasValue y false (q * 2 ^ k) (2 ^ 1074)) (ap rootOf (w .same) ∙ sym (sqrt-value x a v a-pos)) (r .is);
           below = λ y b g u l. let o = other y b g u in subst (λ (n : ℕ). (n + q * 2 ^ k) * (n + q * 2 ^ k) < 4 * (N * (2 ^ k * 2 ^ k))) (sym (o .1))
               (middle-below N q k (o .0 .digits) (o .0 .shift) (r .near) (r .least) (r .from) (o .0 .small) (subst (λ (n : ℕ). n < q * 2 ^ k) (o .1) l));

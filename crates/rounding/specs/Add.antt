@@ -6,7 +6,7 @@ use native.Mathlib.Omega.{arith}
 use mathlib.Core.Bool.{Bool, true, false, not, _&&_, Bool·beq, cond}
 use lib.Dec.{T, ltb, ltb→lt, lt→ltb, nltb→le}
 use lib.Pow.{pow-pos}
-use lib.Ieee.{Float, nan, inf, fin, Format, prec, low, up, down, round, sum, add, sub, neg}
+use lib.Ieee.{Float, nan, inf, fin, Format, prec, low, up, down, round, sum, add, neg}
 use lib.Ieee.Fits.{down-pos}
 use lib.Ieee.Exact.{HasValue}
 use lib.Ieee.Scale.{round-same, overflow}
@@ -95,14 +95,9 @@ pub add-rounded : (f : Format) (x y : Float) (s : Bool) (a : ℕ) (t : Bool) (b 
     → Rounded f (add f x y) (plus s a + plus t b) (less s a + less t b)
 add-rounded f x y s a t b p q h = subst (λ (z : Float). Rounded f z (plus s a + plus t b) (less s a + less t b)) (sym (add-is f x y s a t b p q)) (sum-rounded f s a t b h)
 
-neg-value : (y : Float) (t : Bool) (b c : ℕ) → HasValue y t b c → HasValue (neg y) (not t) b c
+-- the other sign has the same size
+pub neg-value : (y : Float) (t : Bool) (b c : ℕ) → HasValue y t b c → HasValue (neg y) (not t) b c
 unfolding neg
 neg-value nan t b c q = absurd q
 neg-value (inf v) t b c q = absurd q
 neg-value (fin v n d) t b c q = (ap not (q .0), q .1)
-
-pub sub-rounded : (f : Format) (x y : Float) (s : Bool) (a : ℕ) (t : Bool) (b : ℕ) → HasValue x s a (2 ^ low f) → HasValue y t b (2 ^ low f) → (a + b) * 2 < overflow f
-    → Rounded f (sub f x y) (plus s a + less t b) (less s a + plus t b)
-unfolding sub
-sub-rounded f x y s a false b p q h = add-rounded f x (neg y) s a true b p (neg-value y false b (2 ^ low f) q) h
-sub-rounded f x y s a true b p q h = add-rounded f x (neg y) s a false b p (neg-value y true b (2 ^ low f) q) h

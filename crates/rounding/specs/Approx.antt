@@ -2,15 +2,15 @@
 use mathlib.Core.Path.{_≡_, refl, sym, subst}
 use mathlib.Core.Logic.{_⊎_, inl, inr}
 use Prim.Native.Nat.{ℕ, _+_, _*_, _^_, _≤_, _<_}
-use native.Mathlib.Nat.{lt-of-le-of-lt, mul-le-mul-left, le-of-mul-le-mul-right, mul-lt-mul-of-pos-right}
+use native.Mathlib.Nat.{lt-of-le-of-lt, mul-le-mul-left, mul-le-mul-right, le-of-mul-le-mul-right, mul-lt-mul-of-pos-right}
 use native.Mathlib.Omega.{arith}
-use mathlib.Core.Bool.{Bool, true, false, cond}
+use mathlib.Core.Bool.{Bool, true, false, not, cond}
 use lib.Pow.{pow-pos}
-use lib.Ieee.{Float, binary64, unlike, up, add, sub, mul}
+use lib.Ieee.{Float, binary64, unlike, neg, add, sub, mul}
 use lib.Ieee.Exact.{HasValue}
 use lib.Ieee.Scale.{overflow}
-use Rattle.rounding.specs.Near.{plus, less, Size, Off}
-use Rattle.rounding.specs.Add.{add-rounded, sub-rounded}
+use Rattle.rounding.specs.Near.{Within, plus, less, Off}
+use Rattle.rounding.specs.Add.{add-rounded, neg-value}
 use Rattle.rounding.specs.Mul.{mul-scaled}
 
 -- from 2 ^ 2098 units on an f64 is an infinity. Shut, so that `omega` takes it for a number that it does not know
@@ -21,68 +21,74 @@ pub top64-is : top64 ≡ 2 ^ 2098
 unfolding top64
 top64-is = refl
 
--- x is off c - d, in units of 2 ^ -1074, by at most e / 2 ^ 53
-pub record Approx (x : Float) (c d e : ℕ) : Type 0 where
+-- x * k is off c - d, in units of 2 ^ -1074, by at most e / 2 ^ 53
+pub record Approx (k : ℕ) (x : Float) (c d e : ℕ) : Type 0 where
   pub sign : Bool
   pub size : ℕ
   pub is : HasValue x sign size (2 ^ 1074)
-  pub hi : (plus sign size + d) * 2 ^ 53 ≤ (c + less sign size) * 2 ^ 53 + e
-  pub lo : (c + less sign size) * 2 ^ 53 ≤ (plus sign size + d) * 2 ^ 53 + e
+  pub hi : (plus sign size * k + d) * 2 ^ 53 ≤ (c + less sign size * k) * 2 ^ 53 + e
+  pub lo : (c + less sign size * k) * 2 ^ 53 ≤ (plus sign size * k + d) * 2 ^ 53 + e
 
--- a size from the bounds of the difference
-pub sized : (s : Bool) (a B : ℕ) → plus s a ≤ less s a + B → less s a ≤ plus s a + B → a ≤ B
-sized true a B h k = omega arith
-sized false a B h k = omega arith
+-- a size times k, from the bounds of the difference
+sized : (s : Bool) (k a B : ℕ) → plus s a * k ≤ less s a * k + B → less s a * k ≤ plus s a * k + B → a * k ≤ B
+sized true k a B h l = omega arith
+sized false k a B h l = omega arith
 
 -- and the other way
 pub both : (s : Bool) (a B : ℕ) → a ≤ B → (plus s a ≤ B) × (less s a ≤ B)
 both true a B h = omega arith
 both false a B h = omega arith
 
--- |x| ≤ B, from |c - d| ≤ b and the error
-pub size-le : {x : Float} {c d e : ℕ} (B b : ℕ) (r : Approx x c d e) → Size c d b → b * 2 ^ 53 + e ≤ B * 2 ^ 53 → r .size ≤ B
-size-le {x} {c} {d} {e} B b r z h =
-    let p = plus (r .sign) (r .size) in
-    let q = less (r .sign) (r .size) in
-    sized (r .sign) (r .size) B (up p q (r .hi) (r .lo) (z .hi) (z .lo)) (down' p q (r .hi) (r .lo) (z .hi) (z .lo))
-  where
-    up : (p q : ℕ) → (p + d) * 2 ^ 53 ≤ (c + q) * 2 ^ 53 + e → (c + q) * 2 ^ 53 ≤ (p + d) * 2 ^ 53 + e → c ≤ d + b → d ≤ c + b → p ≤ q + B
-    up p q a a' g g' = omega arith
+-- |x * k| ≤ B, from |c - d| ≤ b and the error
+pub size-le : {k : ℕ} {x : Float} {c d e : ℕ} (B b : ℕ) (r : Approx k x c d e) → Within c d b → b * 2 ^ 53 + e ≤ B * 2 ^ 53 → r .size * k ≤ B
+size-le {k} {x} {c} {d} {e} B b r z h = sized (r .sign) k (r .size) B (omega (arith, r .hi, z .hi)) (omega (arith, r .lo, z .lo))
 
-    down' : (p q : ℕ) → (p + d) * 2 ^ 53 ≤ (c + q) * 2 ^ 53 + e → (c + q) * 2 ^ 53 ≤ (p + d) * 2 ^ 53 + e → c ≤ d + b → d ≤ c + b → q ≤ p + B
-    down' p q a a' g g' = omega arith
+-- the same with its numbers written otherwise, and a larger error
+pub recast : {k : ℕ} {x : Float} {c d e : ℕ} (c' d' e' : ℕ) → c ≡ c' → d ≡ d' → e ≤ e' → Approx k x c d e → Approx k x c' d' e'
+recast {k} {x} {c} {d} {e} c' d' e' p q l r = record { sign = r .sign; size = r .size; is = r .is; hi = omega (arith, r .hi, p, q, l); lo = omega (arith, r .lo, p, q, l) }
 
+-- what is below `top64` does not overflow
 pub under : (w : ℕ) → w < top64 → w < overflow binary64
 under w h = subst (λ (z : ℕ). w < z) top64-is h
 
 -- ---- the sum and the difference
-pub add-approx : {x y : Float} {c d e c' d' e' : ℕ} (B : ℕ) (r : Approx x c d e) (t : Approx y c' d' e') → r .size + t .size ≤ B → B * 2 < top64 → Approx (add binary64 x y) (c + c') (d + d') (e + e' + B)
-add-approx {x} {y} {c} {d} {e} {c'} {d'} {e'} B r t h fine =
-    let z = add-rounded binary64 x y (r .sign) (r .size) (t .sign) (t .size) (r .is) (t .is) (under ((r .size + t .size) * 2) (omega arith)) in
+-- the errors of a sum add up, and rounding it adds a bound of the sizes
+pub add-approx : {k : ℕ} {x y : Float} {c d e c' d' e' : ℕ} (B : ℕ) → 0 < k → (r : Approx k x c d e) (t : Approx k y c' d' e') → r .size * k + t .size * k ≤ B → B * 2 < top64 → Approx k (add binary64 x y) (c + c') (d + d') (e + e' + B)
+add-approx {k} {x} {y} {c} {d} {e} {c'} {d'} {e'} B K r t h fine =
+    let w = r .size + t .size in
+    let l : w ≤ w * k = omega (arith, mul-le-mul-left w K) in
+    let z = add-rounded binary64 x y (r .sign) (r .size) (t .sign) (t .size) (r .is) (t .is) (under (w * 2) (omega arith)) in
     let p = both (r .sign) (r .size) (r .size) (omega arith) in
     let q = both (t .sign) (t .size) (t .size) (omega arith) in
-    let o = z .off B (record { hi = omega arith; lo = omega arith }) in
+    let o = z .off w (record { hi = omega arith; lo = omega arith }) in
     record {
       sign = z .sign;
       size = z .size;
       is = z .is;
-      hi = omega (arith, o .hi, r .hi, t .hi);
-      lo = omega (arith, o .lo, r .lo, t .lo);
+      hi = omega (arith, mul-le-mul-right k (o .hi), r .hi, t .hi);
+      lo = omega (arith, mul-le-mul-right k (o .lo), r .lo, t .lo);
     }
 
-pub sub-approx : {x y : Float} {c d e c' d' e' : ℕ} (B : ℕ) (r : Approx x c d e) (t : Approx y c' d' e') → r .size + t .size ≤ B → B * 2 < top64 → Approx (sub binary64 x y) (c + d') (d + c') (e + e' + B)
-sub-approx {x} {y} {c} {d} {e} {c'} {d'} {e'} B r t h fine =
-    let z = sub-rounded binary64 x y (r .sign) (r .size) (t .sign) (t .size) (r .is) (t .is) (under ((r .size + t .size) * 2) (omega arith)) in
-    let p = both (r .sign) (r .size) (r .size) (omega arith) in
-    let q = both (t .sign) (t .size) (t .size) (omega arith) in
-    let o = z .off B (record { hi = omega arith; lo = omega arith }) in
+-- the other sign of x has the other sign of c - d
+neg-approx : {k : ℕ} {x : Float} {c d e : ℕ} → Approx k x c d e → Approx k (neg x) d c e
+neg-approx {k} {x} {c} {d} {e} r =
+    let p = turned (r .sign) (r .size) in
     record {
-      sign = z .sign;
-      size = z .size;
-      is = z .is;
-      hi = omega (arith, o .hi, r .hi, t .lo);
-      lo = omega (arith, o .lo, r .lo, t .hi);
+      sign = not (r .sign);
+      size = r .size;
+      is = neg-value x (r .sign) (r .size) (2 ^ 1074) (r .is);
+      hi = rw (p .0, p .1) (omega (arith, r .lo));
+      lo = rw (p .0, p .1) (omega (arith, r .hi));
     }
+  where
+    turned : (s : Bool) (a : ℕ) → (plus (not s) a ≡ less s a) × (less (not s) a ≡ plus s a)
+    turned true a = (refl, refl)
+    turned false a = (refl, refl)
+
+-- a difference is the sum with the other sign
+pub sub-approx : {k : ℕ} {x y : Float} {c d e c' d' e' : ℕ} (B : ℕ) → 0 < k → (r : Approx k x c d e) (t : Approx k y c' d' e') → r .size * k + t .size * k ≤ B → B * 2 < top64 → Approx k (sub binary64 x y) (c + d') (d + c') (e + e' + B)
+unfolding sub neg-approx
+sub-approx B K r t h fine = add-approx B K r (neg-approx t) h fine
 
 -- ---- the product with a coordinate: x is A / 2 ^ 149, with the sign s, and y is near (c - d) * 2 ^ 149 units
 unfoldable pub unit32 : ℕ
@@ -96,12 +102,12 @@ pub unit32-pos : 0 < unit32
 unfolding unit32
 unit32-pos = pow-pos 149
 
-module _ (U x y A p m c d e u v : ℕ) (Z : 0 < U) where
-  through-hi : (x * U + A * m) * 2 ^ 53 ≤ (A * p + y * U) * 2 ^ 53 + U * u → (p + U * d) * 2 ^ 53 ≤ (U * c + m) * 2 ^ 53 + e → A * e ≤ U * v → (x + A * d) * 2 ^ 53 ≤ (A * c + y) * 2 ^ 53 + (u + v)
-  through-hi g h k = le-of-mul-le-mul-right (omega (arith, mul-le-mul-left A h)) Z
-
-  through-lo : (A * p + y * U) * 2 ^ 53 ≤ (x * U + A * m) * 2 ^ 53 + U * u → (U * c + m) * 2 ^ 53 ≤ (p + U * d) * 2 ^ 53 + e → A * e ≤ U * v → (A * c + y) * 2 ^ 53 ≤ (x + A * d) * 2 ^ 53 + (u + v)
-  through-lo g h k = le-of-mul-le-mul-right (omega (arith, mul-le-mul-left A h)) Z
+-- x - y is near A times p - m, in which U is taken out of c - d and of the error
+through : (U x y A p m c d e u v : ℕ) → 0 < U → Off (2 ^ 53) (x * U) (y * U) (A * p) (A * m) (U * u) → Off (2 ^ 53) p m (U * c) (U * d) e → A * e ≤ U * v → Off (2 ^ 53) x y (A * c) (A * d) (u + v)
+through U x y A p m c d e u v Z o h k = record {
+  hi = le-of-mul-le-mul-right (omega (arith, o .hi, mul-le-mul-left A (h .hi))) Z;
+  lo = le-of-mul-le-mul-right (omega (arith, o .lo, mul-le-mul-left A (h .lo))) Z;
+}
 
 -- a sign times a difference
 abbrev pub turnP : Bool → ℕ → ℕ → ℕ
@@ -115,26 +121,18 @@ sign-mul false false A D = omega arith
 
 -- the same at either sign of the coordinate
 finish : (s t : Bool) (U x y A D c d e u v : ℕ) → 0 < U → Off (2 ^ 53) (x * U) (y * U) (plus (unlike s t) (A * D)) (less (unlike s t) (A * D)) (U * u)
-    → (plus t D + U * d) * 2 ^ 53 ≤ (U * c + less t D) * 2 ^ 53 + e → (U * c + less t D) * 2 ^ 53 ≤ (plus t D + U * d) * 2 ^ 53 + e → A * e ≤ U * v
-    → ((x + turnP s (A * d) (A * c)) * 2 ^ 53 ≤ (turnP s (A * c) (A * d) + y) * 2 ^ 53 + (u + v)) × ((turnP s (A * c) (A * d) + y) * 2 ^ 53 ≤ (x + turnP s (A * d) (A * c)) * 2 ^ 53 + (u + v))
-finish s t U x y A D c d e u v Z o h l k = go s (plus t D) (less t D) (sign-mul s t A D) (plus (unlike s t) (A * D)) (less (unlike s t) (A * D)) refl refl (o .hi) (o .lo) h l
+    → Off (2 ^ 53) (plus t D) (less t D) (U * c) (U * d) e → A * e ≤ U * v → Off (2 ^ 53) x y (turnP s (A * c) (A * d)) (turnP s (A * d) (A * c)) (u + v)
+finish s t U x y A D c d e u v Z o h k = let w = sign-mul s t A D in go s (plus t D) (less t D) (rw (w .0, w .1) at o) h
   where
-    go : (s : Bool) (p m : ℕ) → (plus (unlike s t) (A * D) ≡ turnP s (A * p) (A * m)) × (less (unlike s t) (A * D) ≡ turnP s (A * m) (A * p)) → (P M : ℕ) → P ≡ plus (unlike s t) (A * D) → M ≡ less (unlike s t) (A * D)
-        → (x * U + M) * 2 ^ 53 ≤ (P + y * U) * 2 ^ 53 + U * u → (P + y * U) * 2 ^ 53 ≤ (x * U + M) * 2 ^ 53 + U * u
-        → (p + U * d) * 2 ^ 53 ≤ (U * c + m) * 2 ^ 53 + e → (U * c + m) * 2 ^ 53 ≤ (p + U * d) * 2 ^ 53 + e
-        → ((x + turnP s (A * d) (A * c)) * 2 ^ 53 ≤ (turnP s (A * c) (A * d) + y) * 2 ^ 53 + (u + v)) × ((turnP s (A * c) (A * d) + y) * 2 ^ 53 ≤ (x + turnP s (A * d) (A * c)) * 2 ^ 53 + (u + v))
-    go false p m w P M eP eM a a' b b' = (
-      through-hi U x y A p m c d e u v Z (omega (arith, w .0, w .1)) b k,
-      through-lo U x y A p m c d e u v Z (omega (arith, w .0, w .1)) b' k,
-    )
-    go true p m w P M eP eM a a' b b' = (
-      through-hi U x y A m p d c e u v Z (omega (arith, w .0, w .1)) (omega arith) k,
-      through-lo U x y A m p d c e u v Z (omega (arith, w .0, w .1)) (omega arith) k,
-    )
+    go : (s : Bool) (p m : ℕ) → Off (2 ^ 53) (x * U) (y * U) (turnP s (A * p) (A * m)) (turnP s (A * m) (A * p)) (U * u) → Off (2 ^ 53) p m (U * c) (U * d) e
+        → Off (2 ^ 53) x y (turnP s (A * c) (A * d)) (turnP s (A * d) (A * c)) (u + v)
+    go false p m o h = through U x y A p m c d e u v Z o h k
+    go true p m o h = through U x y A m p d c e u v Z o (omega arith) k
 
-pub mul-approx : (x : Float) {y : Float} (s : Bool) (A c d : ℕ) {e : ℕ} (u v : ℕ) → HasValue x s A unit32 → (r : Approx y (unit32 * c) (unit32 * d) e)
+-- the product of x with y, whose error is u for the rounding and v for that of y
+pub mul-approx : (x : Float) {y : Float} (s : Bool) (A c d : ℕ) {e : ℕ} (u v : ℕ) → HasValue x s A unit32 → (r : Approx 1 y (unit32 * c) (unit32 * d) e)
     → A * r .size ≤ unit32 * u → A * e ≤ unit32 * v → (A * r .size ≡ 0) ⊎ (2 ^ 53 ≤ u * 2) → u * 2 + 1 < top64
-    → Approx (mul binary64 x y) (turnP s (A * c) (A * d)) (turnP s (A * d) (A * c)) (u + v)
+    → Approx 1 (mul binary64 x y) (turnP s (A * c) (A * d)) (turnP s (A * d) (A * c)) (u + v)
 mul-approx x {y} s A c d {e} u v h r k l z fine =
     let D = r .size in
     let t = r .sign in
@@ -144,8 +142,8 @@ mul-approx x {y} s A c d {e} u v h r k l z fine =
     let o = mul-scaled binary64 x y s A U t D unit32-pos h (r .is) (subst (λ (n : ℕ). w * 2 + U < n * U) top64-is lt) in
     let b = both (unlike s t) w w (omega arith) in
     let f = o .off (U * u) (record { hi = omega arith; lo = omega arith }) (go (unlike s t) w U z) in
-    let z' = finish s t U (plus (o .sign) (o .size)) (less (o .sign) (o .size)) A D c d e u v unit32-pos f (r .hi) (r .lo) l in
-    record { sign = o .sign; size = o .size; is = o .is; hi = z' .0; lo = z' .1 }
+    let z' = finish s t U (plus (o .sign) (o .size)) (less (o .sign) (o .size)) A D c d e u v unit32-pos f (omega (arith, r .hi, r .lo)) l in
+    record { sign = o .sign; size = o .size; is = o .is; hi = omega (arith, z' .hi); lo = omega (arith, z' .lo) }
   where
     small : (U w : ℕ) → w ≤ U * u → w * 2 + U ≤ (u * 2 + 1) * U
     small U w h = omega arith

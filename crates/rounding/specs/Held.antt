@@ -21,6 +21,12 @@ pub record Held (f : Format) (x : Float) : Type 0 where
   pub small : digits < 2 ^ prec f
   pub under : digits * 2 ^ shift < overflow f
 
+-- a value of w / c is one of w * k / (k * c)
+pub rescaled : (x : Float) (s : Bool) (w c k l : ℕ) → k * c ≡ l → HasValue x s w c → HasValue x s (w * k) l
+rescaled nan s w c k l h v = v
+rescaled (inf t) s w c k l h v = v
+rescaled (fin t m e) s w c k l h v = (v .0, subst (λ (z : ℕ). m * up e * z ≡ w * k * down e) h (omega (arith, ap (λ (z : ℕ). z * k) (v .1))))
+
 -- ---- 2 ^ e is 2 ^ j units
 pub pow-le-back : (a l : ℕ) → 2 ^ a ≤ 2 ^ l → a ≤ l
 pow-le-back a l h = le-of-suc-le-suc (lt-of-not-le (λ (g : suc l ≤ a). lt-irrefl (2 ^ l) (lt-of-lt-of-le (pow-lt g) h)))

@@ -1,8 +1,8 @@
 -- The theory of rounding to a binary format.
 pub mod Near
 pub mod Add
-pub mod Mul
 pub mod Held
+pub mod Mul
 pub mod Approx
 pub mod Tri
 pub mod Sum

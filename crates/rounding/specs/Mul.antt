@@ -2,7 +2,7 @@
 use mathlib.Core.Path.{_≡_, refl, sym, ap, _∙_, subst}
 use mathlib.Core.Logic.{_⊎_, inl, inr}
 use Prim.Native.Nat.{ℕ, zero, suc, _+_, _*_, _^_, _≤_, _<_}
-use native.Mathlib.Nat.{lt-of-le-of-lt, mul-mul-mul-comm, mul-le-mul-right, mul-le-mul-left, le-of-mul-le-mul-right, lt-of-mul-lt-mul-right, mul-pos, zero-mul, zero-lt-suc, lt-irrefl}
+use native.Mathlib.Nat.{lt-of-le-of-lt, mul-le-mul-right, mul-le-mul-left, le-of-mul-le-mul-right, lt-of-mul-lt-mul-right, mul-pos, zero-mul, zero-lt-suc, lt-irrefl}
 use native.Mathlib.Omega.{arith}
 use mathlib.Core.Bool.{Bool, true, false, cond}
 use lib.Pow.{pow-pos, pow-mono}
@@ -11,14 +11,15 @@ use lib.Ieee.{Float, nan, inf, fin, Format, prec, low, unlike, up, down, round, 
 use lib.Ieee.Fits.{up-pos, down-pos, two, two-le-pos}
 use lib.Ieee.Exact.{HasValue}
 use lib.Ieee.Scale.{round-same, grid, overflow}
-use Rattle.rounding.specs.Near.{Within, plus, less, Size, Off, grid-near, round-val}
+use Rattle.rounding.specs.Near.{Within, plus, less, Off, grid-near, round-val}
+use Rattle.rounding.specs.Held.{mul-same}
 
 -- x, of the format f, is a whole number of units near (A - B) / c: the error is a part in 2 ^ prec of any e that bounds the size of A - B, and c * 2 ^ (prec - 1) too unless A - B is 0.
 pub record Scaled (f : Format) (x : Float) (c A B : ℕ) : Type 0 where
   pub sign : Bool
   pub size : ℕ
   pub is : HasValue x sign size (2 ^ low f)
-  pub off : (e : ℕ) → Size A B e → (A ≡ B) ⊎ (c * 2 ^ prec f ≤ e * 2) → Off (2 ^ prec f) (plus sign size * c) (less sign size * c) A B e
+  pub off : (e : ℕ) → Within A B e → (A ≡ B) ⊎ (c * 2 ^ prec f ≤ e * 2) → Off (2 ^ prec f) (plus sign size * c) (less sign size * c) A B e
 
 -- the units, 1 / L, taken out
 cancel : (P L q c w : ℕ) → 0 < L → Within (q * (c * L) * P) (w * L * P) (w * L) ⊎ Within (q * (c * L) * 2) (w * L * 2) (c * L) → Within (q * c * P) (w * P) w ⊎ Within (q * c * 2) (w * 2) c
@@ -79,20 +80,8 @@ module _ (f : Format) (w c : ℕ) (C : 0 < c) where
 -- ---- the product: x is a / c, and y is b units
 pub mul-scaled : (f : Format) (x y : Float) (s : Bool) (a c : ℕ) (t : Bool) (b : ℕ) → 0 < c → HasValue x s a c → HasValue y t b (2 ^ low f) → a * b * 2 + c < overflow f * c
     → Scaled f (mul f x y) c (plus (unlike s t) (a * b)) (less (unlike s t) (a * b))
-unfolding mul
-mul-scaled f nan y s a c t b C p q h = absurd p
-mul-scaled f (inf u) y s a c t b C p q h = absurd p
-mul-scaled f (fin u m e) nan s a c t b C p q h = absurd q
-mul-scaled f (fin u m e) (inf v) s a c t b C p q h = absurd q
-mul-scaled f (fin u m e) (fin v n d) s a c t b C p q h =
-    let L = 2 ^ low f in
-    let x : m * up e * (n * up d) * (c * L) ≡ a * b * (down e * down d) =
-    mul-mul-mul-comm (m * up e) (n * up d) c L ∙ ap (λ (z : ℕ). z * (n * up d * L)) (p .1) ∙ ap (λ (z : ℕ). a * down e * z) (q .1) ∙ mul-mul-mul-comm a (down e) b (down d) in
-    let k : round f (unlike u v) (m * up e * (n * up d)) (down e * down d) ≡ round f (unlike s t) (a * b) (c * L) =
-    ap (λ (z : Bool). round f (unlike z v) (m * up e * (n * up d)) (down e * down d)) (p .0)
-    ∙ ap (λ (z : Bool). round f (unlike s z) (m * up e * (n * up d)) (down e * down d)) (q .0)
-    ∙ round-same f (unlike s t) (m * up e * (n * up d)) (down e * down d) (a * b) (c * L) (mul-pos (down-pos e) (down-pos d)) (mul-pos C (pow-pos (low f))) x in
-    subst (λ (z : Float). Scaled f z c (plus (unlike s t) (a * b)) (less (unlike s t) (a * b))) (sym k) (round-scaled f (a * b) c C (unlike s t) h)
+mul-scaled f x y s a c t b C p q h =
+    subst (λ (z : Float). Scaled f z c (plus (unlike s t) (a * b)) (less (unlike s t) (a * b))) (sym (mul-same f x y s a c t b (2 ^ low f) C (pow-pos (low f)) p q)) (round-scaled f (a * b) c C (unlike s t) h)
 
 -- ---- the quotient by a whole number c above 0: x is a units
 cond-zero : {X : Type 0} (n : ℕ) (x y : X) → 0 < n → cond (eqb n 0) x y ≡ y

@@ -145,21 +145,15 @@ abbrev pub less : Bool → ℕ → ℕ
 less s a = cond s a 0
 
 -- |(a - b) - (c - d)| * P ≤ e
-pub record Off (P a b c d e : ℕ) : Type 0 where
-  pub hi : (a + d) * P ≤ (c + b) * P + e
-  pub lo : (c + b) * P ≤ (a + d) * P + e
-
--- |a - b| ≤ e
-pub record Size (a b e : ℕ) : Type 0 where
-  pub hi : a ≤ b + e
-  pub lo : b ≤ a + e
+abbrev pub Off : ℕ → ℕ → ℕ → ℕ → ℕ → ℕ → Type 0
+Off P a b c d e = Within ((a + d) * P) ((c + b) * P) e
 
 -- x, of the format f, is a whole number of units away from c - d with an error of a part in 2 ^ prec of any e that bounds the size of c - d
 pub record Rounded (f : Format) (x : Float) (c d : ℕ) : Type 0 where
   pub sign : Bool
   pub size : ℕ
   pub is : HasValue x sign size (2 ^ low f)
-  pub off : (e : ℕ) → Size c d e → Off (2 ^ prec f) (plus sign size) (less sign size) c d e
+  pub off : (e : ℕ) → Within c d e → Off (2 ^ prec f) (plus sign size) (less sign size) c d e
 
 pub round-rounded : (f : Format) (s : Bool) (w : ℕ) → w * 2 < overflow f → Rounded f (round f s w (2 ^ low f)) (plus s w) (less s w)
 round-rounded f s w h = go s

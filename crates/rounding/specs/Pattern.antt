@@ -134,15 +134,11 @@ module _ (f : Format) (s : Bool) (q k : ℕ) (lead : (k ≡ 0) ⊎ (hid f ≤ q)
   one-lt binary32 = lit< tt
   one-lt binary64 = lit< tt
 
-  hid-twice : (f : Format) → 2 ^ prec f ≡ 2 * hid f
-  hid-twice binary32 = refl
-  hid-twice binary64 = refl
-
   ones-is : (e : ℕ) → suc (2 * e) ≡ 2 * e + 1
   ones-is e = omega arith
 
   most' : q ≤ 2 * hid f
-  most' = subst (λ (x : ℕ). q ≤ x) (hid-twice f) most
+  most' = subst (λ (x : ℕ). q ≤ x) (twice (prec f) (two-le-pos (prec f) (two f))) most
 
   min-l : (a b : ℕ) → a ≤ b → a ≡ min a b
   min-l a b h = omega arith

@@ -5,12 +5,12 @@ use Prim.Native.Nat.{ℕ, _+_, _*_, _^_, _≤_, _<_}
 use native.Mathlib.Nat.{le-trans, mul-le-mul, mul-le-mul-right, mul-le-mul-left, mul-pos, zero-mul, eq-zero-or-pos}
 use native.Mathlib.Omega.{arith}
 use mathlib.Core.Bool.{Bool, true, false}
-use lib.Dec.{lit≤}
-use lib.Ieee.{Float, nan, inf, fin, binary32, binary64, unlike, up, down, add, sub, mul}
+use lib.Dec.{lit≤, lit<}
+use lib.Ieee.{Float, binary32, binary64, unlike, add, sub, mul}
 use lib.Ieee.Exact.{HasValue}
-use Rattle.rounding.specs.Near.{plus, less, Size}
-use Rattle.rounding.specs.Held.{Held, mul-exact}
-use Rattle.rounding.specs.Approx.{Approx, top64, unit32, unit32-is, turnP, size-le, add-approx, sub-approx, mul-approx}
+use Rattle.rounding.specs.Near.{Within, plus, less}
+use Rattle.rounding.specs.Held.{Held, rescaled, mul-exact}
+use Rattle.rounding.specs.Approx.{Approx, top64, unit32, unit32-is, turnP, size-le, recast, add-approx, sub-approx, mul-approx}
 
 -- 2 ^ 623: 16 of it times the product of three coordinates' sizes is that product in units of 2 ^ -1074
 unfoldable pub sixteenth : ℕ
@@ -53,7 +53,7 @@ abbrev pub plusD : Diff → Diff → Diff
 plusD y z = record { p = y .p + z .p; m = y .m + z .m }
 
 -- sizes
-pub turn-size : (s : Bool) (A M c d b : ℕ) → A ≤ M → Size c d b → Size (turnP s (A * c) (A * d)) (turnP s (A * d) (A * c)) (M * b)
+pub turn-size : (s : Bool) (A M c d b : ℕ) → A ≤ M → Within c d b → Within (turnP s (A * c) (A * d)) (turnP s (A * d) (A * c)) (M * b)
 turn-size s A M c d b l z = go s
   where
     hi : A * c ≤ A * d + M * b
@@ -62,26 +62,21 @@ turn-size s A M c d b l z = go s
     lo : A * d ≤ A * c + M * b
     lo = omega (arith, mul-le-mul-left A (z .lo), mul-le-mul-right b l)
 
-    go : (s : Bool) → Size (turnP s (A * c) (A * d)) (turnP s (A * d) (A * c)) (M * b)
+    go : (s : Bool) → Within (turnP s (A * c) (A * d)) (turnP s (A * d) (A * c)) (M * b)
     go true = record { hi = lo; lo = hi }
     go false = record { hi = hi; lo = lo }
 
-pub point-size : (s : Bool) (A M : ℕ) → A ≤ M → Size (plus s A) (less s A) M
+pub point-size : (s : Bool) (A M : ℕ) → A ≤ M → Within (plus s A) (less s A) M
 point-size true A M l = omega arith
 point-size false A M l = omega arith
 
 -- ---- the product of two coordinates, exact
-rescaled : (x : Float) (s : Bool) (w c k l : ℕ) → k * c ≡ l → HasValue x s w c → HasValue x s (w * k) l
-rescaled nan s w c k l h v = v
-rescaled (inf t) s w c k l h v = v
-rescaled (fin t m e) s w c k l h v = (v .0, subst (λ (z : ℕ). m * up e * z ≡ w * k * down e) h (omega (arith, ap (λ (z : ℕ). z * k) (v .1))))
-
 pub prod : (M : ℕ) {x y : Float} (a : Coord M x) (b : Coord M y) → HasValue (mul binary64 x y) (unlike (sg a) (sg b)) (sz a * sz b * (unit32 * (16 * sixteenth))) (2 ^ 1074)
 prod M {x} {y} a b = rescaled (mul binary64 x y) (unlike (sg a) (sg b)) (sz a * sz b) (2 ^ 149 * 2 ^ 149) (unit32 * (16 * sixteenth)) (2 ^ 1074) four-units (mul-exact x y (a .held) (b .held))
 
 -- as a difference, in units
 prod-approx : (M k U : ℕ) {x : Float} (s t : Bool) (A B : ℕ) → HasValue x (unlike s t) (A * B * (U * (16 * k))) (2 ^ 1074)
-    → Approx x (U * (16 * k * turnP s (A * plus t B) (A * less t B))) (U * (16 * k * turnP s (A * less t B) (A * plus t B))) 0
+    → Approx 1 x (U * (16 * k * turnP s (A * plus t B) (A * less t B))) (U * (16 * k * turnP s (A * less t B) (A * plus t B))) 0
 prod-approx M k U s t A B h = record { sign = unlike s t; size = A * B * (U * (16 * k)); is = h; hi = omega (arith, eq s t); lo = omega (arith, eq s t) }
   where
     eq : (s t : Bool)
@@ -92,10 +87,7 @@ prod-approx M k U s t A B h = record { sign = unlike s t; size = A * B * (U * (1
     eq false true = omega arith
     eq false false = omega arith
 
-pub recast : {x : Float} {c d e : ℕ} (c' d' e' : ℕ) → c ≡ c' → d ≡ d' → e ≤ e' → Approx x c d e → Approx x c' d' e'
-recast {x} {c} {d} {e} c' d' e' p q l r = record { sign = r .sign; size = r .size; is = r .is; hi = omega (arith, r .hi, p, q, l); lo = omega (arith, r .lo, p, q, l) }
-
-scale-size : (U p m b : ℕ) → Size p m b → Size (U * p) (U * m) (U * b)
+scale-size : (U p m b : ℕ) → Within p m b → Within (U * p) (U * m) (U * b)
 scale-size U p m b z = record { hi = omega (arith, mul-le-mul-left U (z .hi)); lo = omega (arith, mul-le-mul-left U (z .lo)) }
 
 -- nothing overflows
@@ -115,10 +107,10 @@ module _ (M : ℕ) (fine : Fine M) where
   abbrev pub cross : {xb xc xd xe : Float} → Coord M xb → Coord M xc → Coord M xd → Coord M xe → Diff
   cross b c d e = minusD (times b (point c)) (times d (point e))
 
-  one-size : {xb xc : Float} (b : Coord M xb) (c : Coord M xc) → Size (times b (point c) .p) (times b (point c) .m) (M * M)
+  one-size : {xb xc : Float} (b : Coord M xb) (c : Coord M xc) → Within (times b (point c) .p) (times b (point c) .m) (M * M)
   one-size b c = turn-size (sg b) (sz b) M (point c .p) (point c .m) M (b .most) (point-size (sg c) (sz c) M (c .most))
 
-  cross-size : {xb xc xd xe : Float} (b : Coord M xb) (c : Coord M xc) (d : Coord M xd) (e : Coord M xe) → Size (cross b c d e .p) (cross b c d e .m) (2 * (M * M))
+  cross-size : {xb xc xd xe : Float} (b : Coord M xb) (c : Coord M xc) (d : Coord M xd) (e : Coord M xe) → Within (cross b c d e .p) (cross b c d e .m) (2 * (M * M))
   cross-size b c d e =
       let y = one-size b c in
       let z = one-size d e in
@@ -126,21 +118,21 @@ module _ (M : ℕ) (fine : Fine M) where
 
   -- the error is 32 * (U * (M * M * k)), and so is the size but for it
   cross-approx : {xb xc xd xe : Float} (b : Coord M xb) (c : Coord M xc) (d : Coord M xd) (e : Coord M xe)
-      → Approx (sub binary64 (mul binary64 xb xc) (mul binary64 xd xe)) (unit32 * (16 * k * cross b c d e .p)) (unit32 * (16 * k * cross b c d e .m)) (32 * (unit32 * (M * M * k)))
+      → Approx 1 (sub binary64 (mul binary64 xb xc) (mul binary64 xd xe)) (unit32 * (16 * k * cross b c d e .p)) (unit32 * (16 * k * cross b c d e .m)) (32 * (unit32 * (M * M * k)))
   cross-approx b c d e =
       let y = prod-approx M k unit32 (sg b) (sg c) (sz b) (sz c) (prod M b c) in
       let z = prod-approx M k unit32 (sg d) (sg e) (sz d) (sz e) (prod M d e) in
-      let h : y .size ≤ 16 * (unit32 * (M * M * k)) = size-le (16 * (unit32 * (M * M * k))) (unit32 * (16 * k * (M * M))) y (scale-size unit32 (16 * k * times b (point c) .p) (16 * k * times b (point c) .m) (16 * k * (M * M)) (scale-size (16 * k) (times b (point c) .p) (times b (point c) .m) (M * M) (one-size b c))) (omega arith) in
-      let l : z .size ≤ 16 * (unit32 * (M * M * k)) = size-le (16 * (unit32 * (M * M * k))) (unit32 * (16 * k * (M * M))) z (scale-size unit32 (16 * k * times d (point e) .p) (16 * k * times d (point e) .m) (16 * k * (M * M)) (scale-size (16 * k) (times d (point e) .p) (times d (point e) .m) (M * M) (one-size d e))) (omega arith) in
+      let h = size-le (16 * (unit32 * (M * M * k))) (unit32 * (16 * k * (M * M))) y (scale-size unit32 (16 * k * times b (point c) .p) (16 * k * times b (point c) .m) (16 * k * (M * M)) (scale-size (16 * k) (times b (point c) .p) (times b (point c) .m) (M * M) (one-size b c))) (omega arith) in
+      let l = size-le (16 * (unit32 * (M * M * k))) (unit32 * (16 * k * (M * M))) z (scale-size unit32 (16 * k * times d (point e) .p) (16 * k * times d (point e) .m) (16 * k * (M * M)) (scale-size (16 * k) (times d (point e) .p) (times d (point e) .m) (M * M) (one-size d e))) (omega arith) in
       recast (unit32 * (16 * k * cross b c d e .p)) (unit32 * (16 * k * cross b c d e .m)) (32 * (unit32 * (M * M * k))) (omega arith) (omega arith) (omega arith)
-      (sub-approx (32 * (unit32 * (M * M * k))) y z (omega arith) (omega (arith, fine .two)))
+      (sub-approx (32 * (unit32 * (M * M * k))) (lit< tt) y z (omega arith) (omega (arith, fine .two)))
 
   -- a * (b * c - d * e), off by 65 of v
   abbrev pub triple : {xa xb xc xd xe : Float} → Coord M xa → Coord M xb → Coord M xc → Coord M xd → Coord M xe → Diff
   triple a b c d e = times a (cross b c d e)
 
   triple-size : {xa xb xc xd xe : Float} (a : Coord M xa) (b : Coord M xb) (c : Coord M xc) (d : Coord M xd) (e : Coord M xe)
-      → Size (16 * k * triple a b c d e .p) (16 * k * triple a b c d e .m) (32 * v)
+      → Within (16 * k * triple a b c d e .p) (16 * k * triple a b c d e .m) (32 * v)
   triple-size a b c d e =
       let z = scale-size (16 * k) (triple a b c d e .p) (triple a b c d e .m) (M * (2 * (M * M))) (turn-size (sg a) (sz a) M (cross b c d e .p) (cross b c d e .m) (2 * (M * M)) (a .most) (cross-size b c d e)) in
       record { hi = omega (arith, z .hi); lo = omega (arith, z .lo) }
@@ -164,11 +156,11 @@ module _ (M : ℕ) (fine : Fine M) where
       go (inr h) = inr (omega (arith, v-big h))
 
   term : {xa xb xc xd xe : Float} (a : Coord M xa) (b : Coord M xb) (c : Coord M xc) (d : Coord M xd) (e : Coord M xe)
-      → Approx (mul binary64 xa (sub binary64 (mul binary64 xb xc) (mul binary64 xd xe))) (16 * k * triple a b c d e .p) (16 * k * triple a b c d e .m) (65 * v)
+      → Approx 1 (mul binary64 xa (sub binary64 (mul binary64 xb xc) (mul binary64 xd xe))) (16 * k * triple a b c d e .p) (16 * k * triple a b c d e .m) (65 * v)
   term {xa} a b c d e =
       let r = cross-approx b c d e in
-      let h : r .size ≤ 33 * (unit32 * (M * M * k)) = size-le (33 * (unit32 * (M * M * k))) (unit32 * (16 * k * (2 * (M * M)))) r (scale-size unit32 (16 * k * cross b c d e .p) (16 * k * cross b c d e .m) (16 * k * (2 * (M * M))) (scale-size (16 * k) (cross b c d e .p) (cross b c d e .m) (2 * (M * M)) (cross-size b c d e))) (omega arith) in
-      let g : sz a * r .size ≤ M * (33 * (unit32 * (M * M * k))) = mul-le-mul (a .most) h in
+      let h = size-le (33 * (unit32 * (M * M * k))) (unit32 * (16 * k * (2 * (M * M)))) r (scale-size unit32 (16 * k * cross b c d e .p) (16 * k * cross b c d e .m) (16 * k * (2 * (M * M))) (scale-size (16 * k) (cross b c d e .p) (cross b c d e .m) (2 * (M * M)) (cross-size b c d e))) (omega arith) in
+      let g = mul-le-mul (a .most) h in
       let g' : sz a * (32 * (unit32 * (M * M * k))) ≤ M * (32 * (unit32 * (M * M * k))) = mul-le-mul-right (32 * (unit32 * (M * M * k))) (a .most) in
       recast (16 * k * triple a b c d e .p) (16 * k * triple a b c d e .m) (65 * v)
       (turn-scale (sg a) (sz a) (16 * k) (cross b c d e .p) (cross b c d e .m)) (turn-scale (sg a) (sz a) (16 * k) (cross b c d e .m) (cross b c d e .p)) (omega arith)
@@ -192,24 +184,24 @@ module _ (M : ℕ) (fine : Fine M) where
     abbrev D : Diff
     D = det a0 a1 a2 b0 b1 b2 c0 c1 c2
 
-    pub det-size : Size (16 * k * D .p) (16 * k * D .m) (96 * v)
+    pub det-size : Within (16 * k * D .p) (16 * k * D .m) (96 * v)
     det-size =
         let x = triple-size a0 b1 c2 b2 c1 in
         let y = triple-size a1 b0 c2 b2 c0 in
         let z = triple-size a2 b0 c1 b1 c0 in
         record { hi = omega (arith, x .hi, y .lo, z .hi); lo = omega (arith, x .lo, y .hi, z .lo) }
 
-    pub det-approx : Approx (det64 xa0 xa1 xa2 xb0 xb1 xb2 xc0 xc1 xc2) (16 * k * D .p) (16 * k * D .m) (359 * v)
+    pub det-approx : Approx 1 (det64 xa0 xa1 xa2 xb0 xb1 xb2 xc0 xc1 xc2) (16 * k * D .p) (16 * k * D .m) (359 * v)
     det-approx =
         let p = term a0 b1 c2 b2 c1 in
         let q = term a1 b0 c2 b2 c0 in
         let r = term a2 b0 c1 b1 c0 in
         let X = triple-size a0 b1 c2 b2 c1 in
         let Y = triple-size a1 b0 c2 b2 c0 in
-        let p-le : p .size ≤ 33 * v = size-le (33 * v) (32 * v) p X (omega arith) in
-        let q-le : q .size ≤ 33 * v = size-le (33 * v) (32 * v) q Y (omega arith) in
-        let r-le : r .size ≤ 33 * v = size-le (33 * v) (32 * v) r (triple-size a2 b0 c1 b1 c0) (omega arith) in
-        let s = sub-approx (66 * v) p q (omega arith) (omega (arith, fine .three)) in
-        let s-le : s .size ≤ 65 * v = size-le (65 * v) (64 * v) s (record { hi = omega (arith, X .hi, Y .lo); lo = omega (arith, X .lo, Y .hi) }) (omega arith) in
+        let p-le = size-le (33 * v) (32 * v) p X (omega arith) in
+        let q-le = size-le (33 * v) (32 * v) q Y (omega arith) in
+        let r-le = size-le (33 * v) (32 * v) r (triple-size a2 b0 c1 b1 c0) (omega arith) in
+        let s = sub-approx (66 * v) (lit< tt) p q (omega arith) (omega (arith, fine .three)) in
+        let s-le = size-le (65 * v) (64 * v) s (record { hi = omega (arith, X .hi, Y .lo); lo = omega (arith, X .lo, Y .hi) }) (omega arith) in
         recast (16 * k * D .p) (16 * k * D .m) (359 * v) (omega arith) (omega arith) (omega arith)
-        (add-approx (98 * v) s r (omega arith) (omega (arith, fine .three)))
+        (add-approx (98 * v) (lit< tt) s r (omega arith) (omega (arith, fine .three)))

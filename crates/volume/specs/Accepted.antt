@@ -1,21 +1,24 @@
 -- What the checks 11 to 23 give for each row of an accepted body. Assumes nothing.
 use mathlib.Core.Path.{_≡_, refl, sym, _∙_, subst}
 use mathlib.Core.List.{List, [], _∷_, _++_}
-use Prim.Native.Nat.{ℕ, zero, suc, _+_, _*_, _%_, _^_, _≤_, _<_}
+use Prim.Native.Nat.{ℕ, zero, suc, _+_, _*_, _^_, _≤_, _<_}
 use native.Mathlib.Nat.{le-trans, le-max-left, le-max-right, max-le, le-of-suc-le-suc, not-suc-le-zero}
 use native.Mathlib.Omega.{arith}
-use mathlib.Core.Bool.{Bool, true, false, not, _&&_, _||_}
-use lib.Dec.{T, leb, ltb, eqb, nleb→lt, nltb→le, eqb→eq, lit<, lit≤}
+use mathlib.Core.Bool.{Bool, true, false}
+use lib.Dec.{T, leb, eqb, eqb→eq, lit≤}
 use lib.ListN.{getD, length, take, drop, length-drop, length-append, List·getD-append}
 use lib.Seq.{length-take-le, getD-take, getD-drop}
 use lib.IntN.{natAbs}
+use borrow.Author.Tests.{leb-false, not-false}
 use lib.Ieee.{Float, nan, inf, fin, fits, binary32}
 use lib.Ieee.Scale as Scale
 use Rattle.floats.specs.Floats as Floats
+use Rattle.floats.specs.Patterns.{test-holds}
 use Rattle.lists.specs.Lists.{any, sumOf}
-use Rattle.body.specs.Body.{Row, Patch, Check, check, rowsOf, patchesOf, allVertices, allIndices, firstFailing}
-use Rattle.table_checks.specs.TableChecks.{tooLarge, tableChecks}
-use Rattle.patch_checks.specs.PatchChecks.{badIndices, patchChecks}
+use Rattle.lists.specs.Any.{any-none}
+use Rattle.body.specs.Body.{Row, Patch, rowsOf, patchesOf, allVertices, allIndices, firstFailing}
+use Rattle.patch_checks.specs.PatchChecks.{badIndices}
+use Rattle.patch_checks.specs.PatchTests.{notFinite}
 use Rattle.checks.specs.BodyChecks.{bodyChecks}
 use Rattle.inversion.specs.Inversion.{patchAt}
 use Rattle.orient.specs.Orient.{AfterTurn, refuseTurn, turnOf, turnBody, walksOf}
@@ -24,85 +27,12 @@ use Rattle.join.specs.Join.{joined}
 use Rattle.volume.specs.Exact.{wholeOf, wholeAt, largest, largestOf}
 use Rattle.rounding.specs.Tri.{Coord}
 use Rattle.volume.specs.Det.{coord, whole-size, size-under, Corner}
-use Rattle.volume.specs.Sums.{Corners, none, more}
+use Rattle.volume.specs.Sums.{Corners}
+use Rattle.volume.specs.Pairs.{all-of}
 use Rattle.volume.specs.Sign as Sign
 use Rattle.volume.specs.Sign.{All}
 
--- ---- tests
-
-pub nor-r : (a b : Bool) → T (not (a || b)) → T (not b)
-nor-r true b h = absurd h
-nor-r false b h = h
-
-pub double : (a : Bool) → T (not (not a)) → T a
-double true h = tt
-double false h = h
-
-pub both-l : (a b : Bool) → T (a && b) → T a
-both-l true b h = tt
-both-l false b h = h
-
-pub both-r : (a b : Bool) → T (a && b) → T b
-both-r true b h = h
-both-r false b h = absurd h
-
-either : (b r : Bool) → T (not (elim b [ true ↦ true | false ↦ r ])) → T (not b) × T (not r)
-either true r h = absurd h
-either false r h = (tt, h)
-
-pub any-at : {A : Type 0} (f : A → Bool) (xs : List A) (d : A) → T (not (any f xs)) → (k : ℕ) → k < length xs → T (not (f (getD xs k d)))
-unfolding any
-any-at f [] d h k l = absurd (not-suc-le-zero l)
-any-at f (x ∷ xs) d h zero l = either (f x) (any f xs) h .0
-any-at f (x ∷ xs) d h (suc k) l = any-at f xs d (either (f x) (any f xs) h .1) k (le-of-suc-le-suc l)
-
-pub any-all : (f : ℕ → Bool) (xs : List ℕ) → T (not (any f xs)) → All (λ x. T (not (f x))) xs
-unfolding any
-any-all f [] h = Sign.none
-any-all f (x ∷ xs) h = let e = either (f x) (any f xs) h in Sign.more (e .0) (any-all f xs (e .1))
-
--- ---- the checks one by one
-passes : (n : ℕ) (b : Bool) (cs : List Check) → 0 < n → firstFailing (check n b ∷ cs) ≡ 0 → T (not b) × (firstFailing cs ≡ 0)
-unfolding firstFailing
-passes n true cs l h = absurd (no h)
-  where
-    no : n ≡ 0 → ⊥
-    no e = omega arith
-passes n false cs l h = (tt, h)
-
-pub record Passed (table : List ℕ) (ps ns : List Float) (is : List ℕ) : Type 0 where
-  pub rows : length (rowsOf table) ≤ 4096
-  pub indices : allIndices (rowsOf table) ≤ 786432
-  pub all-positions : length ps ≡ 3 * allVertices (rowsOf table)
-  pub all-normals : length ns ≡ 3 * allVertices (rowsOf table)
-  pub all-indices : length is ≡ allIndices (rowsOf table)
-  pub threes : T (not (any (λ p. not (eqb (p .row .indices % 3) 0)) (patchesOf (rowsOf table) ps ns is)))
-  pub inside : T (not (any badIndices (patchesOf (rowsOf table) ps ns is)))
-  pub finite : T (not (any (λ p. any (λ x. not (Floats.finite x)) (p .positions ++ p .normals)) (patchesOf (rowsOf table) ps ns is)))
-
-pub passed : (table : List ℕ) (ps ns : List Float) (is : List ℕ) (words : ℕ) → firstFailing (bodyChecks table ps ns is words) ≡ 0 → Passed table ps ns is
-unfolding bodyChecks tableChecks patchChecks tooLarge
-passed table ps ns is words h =
-    let rows = rowsOf table in
-    let c11 = passes 11 _ _ (lit< tt) h in
-    let c12 = passes 12 _ _ (lit< tt) (c11 .1) in
-    let c13 = passes 13 _ _ (lit< tt) (c12 .1) in
-    let c14 = passes 14 _ _ (lit< tt) (c13 .1) in
-    let c21 = passes 21 _ _ (lit< tt) (c14 .1) in
-    let c22 = passes 22 _ _ (lit< tt) (c21 .1) in
-    let c23 = passes 23 _ _ (lit< tt) (c22 .1) in
-    let e14 = double (eqb (length ps) (3 * allVertices rows) && eqb (length ns) (3 * allVertices rows) && eqb (length is) (allIndices rows)) (c14 .0) in
-    record {
-      rows = nltb→le 4096 (length rows) (nor-r (not (eqb (length table % 5) 0)) (ltb 4096 (length rows)) (c11 .0));
-      indices = nltb→le 786432 (allIndices rows) (nor-r (ltb 262144 (allVertices rows)) (ltb 786432 (allIndices rows)) (c13 .0));
-      all-positions = eqb→eq (length ps) (3 * allVertices rows) (both-l (eqb (length ps) (3 * allVertices rows)) (eqb (length ns) (3 * allVertices rows)) (both-l (eqb (length ps) (3 * allVertices rows) && eqb (length ns) (3 * allVertices rows)) (eqb (length is) (allIndices rows)) e14));
-      all-normals = eqb→eq (length ns) (3 * allVertices rows) (both-r (eqb (length ps) (3 * allVertices rows)) (eqb (length ns) (3 * allVertices rows)) (both-l (eqb (length ps) (3 * allVertices rows) && eqb (length ns) (3 * allVertices rows)) (eqb (length is) (allIndices rows)) e14));
-      all-indices = eqb→eq (length is) (allIndices rows) (both-r (eqb (length ps) (3 * allVertices rows) && eqb (length ns) (3 * allVertices rows)) (eqb (length is) (allIndices rows)) e14);
-      threes = c21 .0;
-      inside = c22 .0;
-      finite = c23 .0;
-    }
-
+-- a body that turn does not refuse has passed its checks
 pub accepted : (rule : Rule) (table : List ℕ) (ps ns : List Float) (is work : List ℕ) → turnOf rule table ps ns is work .refusal ≡ 0 → firstFailing (bodyChecks table ps ns is (length work)) ≡ 0
 unfolding turnOf refuseTurn
 accepted rule table ps ns is work h =
@@ -160,34 +90,32 @@ pub record Vertex (ps : List Float) (i : ℕ) : Type 0 where
   pub y : Number (getD ps (3 * i + 1) nan)
   pub z : Number (getD ps (3 * i + 2) nan)
 
-finite-is : (x : Float) → T (not (not (Floats.finite x))) → T (Scale.finite x)
+-- the kit's test of a finite value says the same
+finite-is : (x : Float) → Floats.finite x ≡ true → T (Scale.finite x)
 unfolding Floats.finite
-finite-is nan h = h
-finite-is (inf s) h = h
+finite-is nan h = test-holds false h
+finite-is (inf s) h = test-holds false h
 finite-is (fin s m e) h = tt
 
-module _ (most : ℕ) (p : Patch) (o : PatchOf most p) (inside : T (not (badIndices p))) (numbers : T (not (any (λ x. not (Floats.finite x)) (p .positions ++ p .normals)))) where
+module _ (most : ℕ) (p : Patch) (o : PatchOf most p) (inside : badIndices p ≡ false) (numbers : any notFinite (p .positions ++ p .normals) ≡ false) where
   number : (k : ℕ) → k < length (p .positions) → Number (getD (p .positions) k nan)
   number k h = record {
     fits = o .fit k h;
     finite = finite-is (getD (p .positions) k nan)
-        (subst (λ (x : Float). T (not (not (Floats.finite x)))) (List·getD-append (p .positions) (p .normals) nan k h)
-        (any-at (λ x. not (Floats.finite x)) (p .positions ++ p .normals) nan numbers k (omega (arith, length-append (p .positions) (p .normals)))));
+        (not-false (Floats.finite (getD (p .positions) k nan))
+        (subst (λ (x : Float). notFinite x ≡ false) (List·getD-append (p .positions) (p .normals) nan k h)
+        (any-none notFinite (p .positions ++ p .normals) nan numbers k (omega (arith, length-append (p .positions) (p .normals))))));
   }
 
-  vertex : (i : ℕ) → T (not (leb (p .row .vertices) i)) → Vertex (p .positions) i
+  vertex : (i : ℕ) → leb (p .row .vertices) i ≡ false → Vertex (p .positions) i
   vertex i h =
-      let l = nleb→lt (p .row .vertices) i h in
+      let l = leb-false (p .row .vertices) i h in
       let c = o .coordinates in
       record { x = number (3 * i) (omega arith); y = number (3 * i + 1) (omega arith); z = number (3 * i + 2) (omega arith) }
 
-  all-vertices : (is : List ℕ) → All (λ i. T (not (leb (p .row .vertices) i))) is → All (Vertex (p .positions)) is
-  all-vertices [] g = Sign.none
-  all-vertices (i ∷ is) (Sign.more h g) = Sign.more (vertex i h) (all-vertices is g)
-
   pub vertices : All (Vertex (p .positions)) (p .indices)
   unfolding badIndices
-  vertices = all-vertices (p .indices) (any-all (λ i. leb (p .row .vertices) i) (p .indices) inside)
+  vertices = all-of (p .indices) 0 (λ k h. vertex (getD (p .indices) k 0) (any-none (λ i. leb (p .row .vertices) i) (p .indices) 0 inside k h))
 
 -- ---- the largest coordinate
 number-coord : (M : ℕ) (x : Float) → Number x → natAbs (wholeOf 149 x) ≤ M → Coord M x
@@ -210,8 +138,8 @@ corner-under ps i c = max-le (number-under _ (c .x)) (max-le (number-under _ (c 
 
 pub corners : (M : ℕ) (ps : List Float) (is : List ℕ) → All (Vertex ps) is → largestOf ps is ≤ M → Corners M ps is
 unfolding largestOf
-corners M ps [] g l = none
-corners M ps (i ∷ is) (Sign.more c g) l = more (corner M ps i c (le-trans (le-max-left _ _) l)) (corners M ps is g (le-trans (le-max-right _ _) l))
+corners M ps [] g l = Sign.none
+corners M ps (i ∷ is) (Sign.more c g) l = Sign.more (corner M ps i c (le-trans (le-max-left _ _) l)) (corners M ps is g (le-trans (le-max-right _ _) l))
 
 pub corners-under : (ps : List Float) (is : List ℕ) → All (Vertex ps) is → largestOf ps is ≤ 2 ^ 277
 unfolding largestOf

@@ -2,16 +2,16 @@
 use mathlib.Core.Path.{_≡_, refl, sym, ap, subst}
 use mathlib.Core.List.{List, map}
 use Prim.Native.Nat.{ℕ, _+_, _*_, _^_, _≤_, _<_}
-use native.Mathlib.Nat.{zero-add, le-of-mul-le-mul-right}
+use native.Mathlib.Nat.{le-of-mul-le-mul-right}
 use native.Mathlib.Omega.{arith}
-use mathlib.Core.Bool.{Bool, true, false, _&&_}
 use lib.Dec.{T, lit<, le→leb}
 use lib.ListN.{getD}
-use lib.IntN.{ℤ, pos, natAbs, _+ℤ_, _-ℤ_, _*ℤ_, +ℤ-idl}
+use lib.IntN.{ℤ, pos, natAbs, _-ℤ_, _*ℤ_}
 use lib.Ieee.{Float}
-use Rattle.rounding.specs.Near.{plus, less}
+use lib.Ieee.Fits.{and-i}
+use Rattle.rounding.specs.Approx.{Approx}
 use Rattle.rounding.specs.Tri.{sixteenth}
-use Rattle.rounding.specs.Sum.{Sixth, total-bound}
+use Rattle.rounding.specs.Sum.{Total, total-bound}
 use Rattle.rounding.specs.Whole.{fine-of}
 use Rattle.body.specs.Body.{Patch}
 use Rattle.geometry.specs.Geometry.{zero64}
@@ -20,7 +20,8 @@ use Rattle.walk.specs.Walk.{unvisited}
 use Rattle.volume.specs.Exact.{wholeOf, isWhole, exactRows, trianglesIn, largestIn, exactVolume, bound, volumeOf, withinBound}
 use Rattle.volume.specs.Ints.{Is, is-pos, is-sub, is-mul, is-cast, abs-le}
 use Rattle.volume.specs.Det.{whole-of, is-whole}
-use Rattle.volume.specs.Sums.{Rows, TotalAt, total-none, rows-near}
+use Rattle.volume.specs.Sign.{All}
+use Rattle.volume.specs.Sums.{RowGood, from-none, total-none, rows-near}
 
 -- the error, without its 2 ^ 53
 cancel : (P a b B e : ℕ) → 0 < P → e ≡ B * P → a * P ≤ b * P + e → a ≤ b + B
@@ -37,35 +38,21 @@ unit-is : 16 * sixteenth ≡ 2 ^ 627
 unfolding sixteenth
 unit-is = refl
 
--- six times a number, and a number times u
-six-times : (y : ℤ) {p m : ℕ} → Is y p m → Is (y *ℤ pos 6) (p * 6) (m * 6)
-six-times y {p} {m} h = is-cast (y *ℤ pos 6) (p * 6) (m * 6) (is-mul y (pos 6) h (is-pos 6)) (omega arith)
-
+-- a number times u
 pub times-unit : (u : ℕ) (y : ℤ) {p m : ℕ} → Is y p m → Is (y *ℤ pos u) (u * p) (u * m)
 times-unit u y {p} {m} h = is-cast (y *ℤ pos u) (u * p) (u * m) (is-mul y (pos u) h (is-pos u)) (omega arith)
 
 -- the error as a size
-off-by : (x : Float) (e : ℤ) (B : ℕ) {p m E : ℕ} → Is e p m → Sixth x (16 * sixteenth * p) (16 * sixteenth * m) E → E ≡ B * 2 ^ 53
+off-by : (x : Float) (e : ℤ) (B : ℕ) {p m E : ℕ} → Is e p m → Approx 6 x (16 * sixteenth * p) (16 * sixteenth * m) E → E ≡ B * 2 ^ 53
     → natAbs (wholeOf 1074 x *ℤ pos 6 -ℤ e *ℤ pos (2 ^ 627)) ≤ B
 off-by x e B {p} {m} {E} h r q =
-    let k = six-times (wholeOf 1074 x) (whole-of 1074 x (r .sign) (r .size) (r .is)) in
+    let k = times-unit 6 (wholeOf 1074 x) (whole-of 1074 x (r .sign) (r .size) (r .is)) in
     let l : Is (e *ℤ pos (2 ^ 627)) (16 * sixteenth * p) (16 * sixteenth * m) = subst (λ (u : ℕ). Is (e *ℤ pos (2 ^ 627)) (u * p) (u * m)) (sym unit-is) (times-unit (2 ^ 627) e h) in
     abs-le (wholeOf 1074 x *ℤ pos 6 -ℤ e *ℤ pos (2 ^ 627)) B (is-sub (wholeOf 1074 x *ℤ pos 6) (e *ℤ pos (2 ^ 627)) k l)
-    (side (plus (r .sign) (r .size) * 6) (16 * sixteenth * m) (16 * sixteenth * p) (less (r .sign) (r .size) * 6) (cancel (2 ^ 53) _ _ B E (lit< tt) q (r .hi)))
-    (side' (plus (r .sign) (r .size) * 6) (16 * sixteenth * m) (16 * sixteenth * p) (less (r .sign) (r .size) * 6) (cancel (2 ^ 53) _ _ B E (lit< tt) q (r .lo)))
-  where
-    side : (a d c b : ℕ) → a + d ≤ c + b + B → a + d ≤ b + c + B
-    side a d c b h = omega arith
-
-    side' : (a d c b : ℕ) → c + b ≤ a + d + B → b + c ≤ a + d + B
-    side' a d c b h = omega arith
-
-both : (a b : Bool) → T a → T b → T (a && b)
-both true b h k = k
-both false b h k = absurd h
+    (omega (arith, cancel (2 ^ 53) _ _ B E (lit< tt) q (r .hi))) (omega (arith, cancel (2 ^ 53) _ _ B E (lit< tt) q (r .lo)))
 
 -- ---- a group: V lies within the bound of E
-pub within : (patches : List Patch) (colours rows : List ℕ) → Rows (largestIn patches rows) patches rows → largestIn patches rows ≤ 2 ^ 277 → trianglesIn patches rows ≤ 2 ^ 40
+pub within : (patches : List Patch) (colours rows : List ℕ) → All (RowGood (largestIn patches rows) patches) rows → largestIn patches rows ≤ 2 ^ 277 → trianglesIn patches rows ≤ 2 ^ 40
     → T (withinBound patches (record { rows = rows; colours = map (λ n. getD colours n unvisited) rows; volume = volumeFrom patches colours zero64 rows }))
 unfolding withinBound volumeOf exactVolume bound
 within patches colours rows g M l =
@@ -74,10 +61,7 @@ within patches colours rows g M l =
     let fine = fine-of m M in
     let e = exactRows patches rows (map (λ n. getD colours n unvisited) rows) in
     let x = volumeFrom patches colours zero64 rows in
-    let o : TotalAt (m * m * m * sixteenth) t x e = first (m * m * m * sixteenth) t x e (rows-near m fine patches colours rows g (total-none m fine) (omega arith)) in
+    let o = from-none (Total (m * m * m * sixteenth)) (rows-near m fine patches colours rows g (total-none m fine) (omega arith)) in
     let b = total-bound (m * m * m * sixteenth) t (o .near) in
-    both (isWhole 1074 x) _ (is-whole 1074 x (b .sign) (b .size) (b .is))
+    and-i (isWhole 1074 x) _ (is-whole 1074 x (b .sign) (b .size) (b .is))
     (le→leb _ _ (off-by x e (6 * (t * t * (m * m * m)) * 2 ^ 577) (o .is) (total-bound (m * m * m * sixteenth) t (o .near)) (regroup sixteenth (2 ^ 577) (2 ^ 53) (t * t) (m * m * m) constants)))
-  where
-    first : (v n : ℕ) (y : Float) (w : ℤ) → TotalAt v (0 + n) y (pos 0 +ℤ w) → TotalAt v n y w
-    first v n y w r = rw (zero-add, +ℤ-idl) at r

@@ -137,19 +137,24 @@ module _ (patches : List Patch) (pairs : List Pair) where
   unfolding begun
   begun-grown n s = walk-grown (s .colours) n pairs (length patches) 0 (record { rows = n ∷ []; colours = set (s .colours) n plain; against = s .against }) (start-grown (s .colours) n (s .against))
 
-  -- groups stay
-  groups-stay : (n : ℕ) (rest : List Patch) (s : Walks) (k : ℕ) → InSome k (s .groups) → InSome k (walksFrom patches pairs n rest s .groups)
-  unfolding walksFrom begun addGroup
-  groups-stay n [] s k h = h
-  groups-stay n (p ∷ rest) s k h =
-      go (eqb (length (p .indices)) 0 || not (eqb (getD (s .colours) n unvisited) unvisited)) (groups-stay (suc n) rest s k h) (groups-stay (suc n) rest (addGroup patches (s .groups) (begun n s)) k (some-append _ h))
+  -- what holds whether or not row n begins a walk holds of the walks from row n on
+  either-way : (Q : Walks → Type 0) (n : ℕ) (p : Patch) (rest : List Patch) (s : Walks) → Q (walksFrom patches pairs (suc n) rest s) → Q (walksFrom patches pairs (suc n) rest (addGroup patches (s .groups) (begun n s)))
+      → Q (walksFrom patches pairs n (p ∷ rest) s)
+  unfolding walksFrom begun
+  either-way Q n p rest s x y = go (eqb (length (p .indices)) 0 || not (eqb (getD (s .colours) n unvisited) unvisited))
     where
       pick : Bool → Walks
       pick b = elim b [ true ↦ walksFrom patches pairs (suc n) rest s | false ↦ walksFrom patches pairs (suc n) rest (addGroup patches (s .groups) (begun n s)) ]
 
-      go : (b : Bool) → InSome k (walksFrom patches pairs (suc n) rest s .groups) → InSome k (walksFrom patches pairs (suc n) rest (addGroup patches (s .groups) (begun n s)) .groups) → InSome k (pick b .groups)
-      go true x y = x
-      go false x y = y
+      go : (b : Bool) → Q (pick b)
+      go true = x
+      go false = y
+
+  -- groups stay
+  groups-stay : (n : ℕ) (rest : List Patch) (s : Walks) (k : ℕ) → InSome k (s .groups) → InSome k (walksFrom patches pairs n rest s .groups)
+  unfolding walksFrom addGroup
+  groups-stay n [] s k h = h
+  groups-stay n (p ∷ rest) s k h = either-way (λ w. InSome k (w .groups)) n p rest s (groups-stay (suc n) rest s k h) (groups-stay (suc n) rest (addGroup patches (s .groups) (begun n s)) k (some-append _ h))
 
   all-rows : (n : ℕ) (rest : List Patch) (s : Walks) → Coloured s → (j : ℕ) → j < length rest → 0 < length (patchAt rest j .indices) → InSome (n + j) (walksFrom patches pairs n rest s .groups)
   unfolding walksFrom begun patchAt addGroup
@@ -175,17 +180,11 @@ module _ (patches : List Patch) (pairs : List Pair) where
           added i = some-last (s .groups) _ i
       go false e false q = groups-stay (suc n) rest s n (c n (positive (getD (s .colours) n unvisited) (eqb-false (getD (s .colours) n unvisited) unvisited q)))
   all-rows n (p ∷ rest) s c (suc j) l t =
-      subst (λ (k : ℕ). InSome k (pick (eqb (length (p .indices)) 0 || not (eqb (getD (s .colours) n unvisited) unvisited)) .groups)) (omega arith)
-      (go (eqb (length (p .indices)) 0 || not (eqb (getD (s .colours) n unvisited) unvisited))
-      (all-rows (suc n) rest s c j (le-of-suc-le-suc l) t)
+      let e : suc n + j ≡ n + suc j = omega arith in
+      either-way (λ w. InSome (n + suc j) (w .groups)) n p rest s
+      (subst (λ (k : ℕ). InSome k (walksFrom patches pairs (suc n) rest s .groups)) e (all-rows (suc n) rest s c j (le-of-suc-le-suc l) t))
+      (subst (λ (k : ℕ). InSome k (walksFrom patches pairs (suc n) rest (addGroup patches (s .groups) (begun n s)) .groups)) e
       (all-rows (suc n) rest (addGroup patches (s .groups) (begun n s)) (add-coloured patches (s .groups) (s .colours) n (begun n s) c (begun-grown n s)) j (le-of-suc-le-suc l) t))
-    where
-      pick : Bool → Walks
-      pick b = elim b [ true ↦ walksFrom patches pairs (suc n) rest s | false ↦ walksFrom patches pairs (suc n) rest (addGroup patches (s .groups) (begun n s)) ]
-
-      go : (b : Bool) → InSome (suc n + j) (walksFrom patches pairs (suc n) rest s .groups) → InSome (suc n + j) (walksFrom patches pairs (suc n) rest (addGroup patches (s .groups) (begun n s)) .groups) → InSome (suc n + j) (pick b .groups)
-      go true x y = x
-      go false x y = y
 
 none-coloured : (m k : ℕ) → 0 < getD (replicate m unvisited) k unvisited → ⊥
 none-coloured zero k h = not-suc-le-zero h

@@ -12,10 +12,11 @@ use lib.Ieee.{Float, nan, inf, fin, binary32, up, down, fits}
 use lib.Ieee.Fits.{down-pos}
 use lib.Ieee.Exact.{HasValue}
 use lib.Ieee.Scale.{finite}
-use Rattle.rounding.specs.Near.{plus, less, Size}
+use Rattle.rounding.specs.Near.{plus, less}
 use Rattle.rounding.specs.Held.{held}
-use Rattle.rounding.specs.Approx.{Approx, turnP}
+use Rattle.rounding.specs.Approx.{turnP}
 use Rattle.rounding.specs.Tri.{Coord, Diff, sg, sz, point, times, minusD, plusD, triple, det, det64, det-approx, det-size, Fine, sixteenth}
+use Rattle.rounding.specs.Sum.{Determinant}
 use Rattle.geometry.specs.Geometry as G
 use Rattle.patch_volume.specs.Volume as Volume
 use Rattle.volume.specs.Exact.{wholeOf, isWhole, wholeAt, exactDet}
@@ -88,11 +89,11 @@ module _ (M : ℕ) (fine : Fine M) {a0 a1 a2 b0 b1 b2 c0 c1 c2 : Float} (A0 : Co
   abbrev Z : Diff
   Z = detD a0 a1 a2 b0 b1 b2 c0 c1 c2
 
-  pub det-near : Approx (det64 M fine a0 a1 a2 b0 b1 b2 c0 c1 c2) (16 * sixteenth * Z .p) (16 * sixteenth * Z .m) (359 * v)
-  det-near = subst (λ (z : Diff). Approx (det64 M fine a0 a1 a2 b0 b1 b2 c0 c1 c2) (16 * sixteenth * z .p) (16 * sixteenth * z .m) (359 * v)) det-is (det-approx M fine A0 A1 A2 B0 B1 B2 C0 C1 C2)
-
-  pub det-at-most : Size (16 * sixteenth * Z .p) (16 * sixteenth * Z .m) (96 * v)
-  det-at-most = subst (λ (z : Diff). Size (16 * sixteenth * z .p) (16 * sixteenth * z .m) (96 * v)) det-is (det-size M fine A0 A1 A2 B0 B1 B2 C0 C1 C2)
+  -- the determinant computed in f64 is near the exact one
+  pub det-near : Determinant v (det64 M fine a0 a1 a2 b0 b1 b2 c0 c1 c2) (16 * sixteenth * Z .p) (16 * sixteenth * Z .m)
+  det-near =
+      subst (λ (z : Diff). Determinant v (det64 M fine a0 a1 a2 b0 b1 b2 c0 c1 c2) (16 * sixteenth * z .p) (16 * sixteenth * z .m)) det-is
+      (record { near = det-approx M fine A0 A1 A2 B0 B1 B2 C0 C1 C2; exact = det-size M fine A0 A1 A2 B0 B1 B2 C0 C1 C2 })
 
 -- ---- the whole numbers of the rule
 -- a value that is a / 2 ^ k
@@ -172,9 +173,7 @@ whole-det ps a b c =
         (mulD (signed (getD ps i nan)) (crossD (getD ps j nan) (getD ps k nan) (getD ps l nan) (getD ps n nan)) .m)
     triple3 i j k l n = is-mul (wholeOf 149 (getD ps i nan)) _ (s i) (is-sub _ _ (is-mul _ _ (s j) (s k)) (is-mul _ _ (s l) (s n)))
 
-module _ (M : ℕ) (fine : Fine M) (ps : List Float) {a b c : ℕ} (A : Corner M ps a) (B : Corner M ps b) (C : Corner M ps c) where
-  pub corners-near : Approx (Volume.det (G.pointAt ps a) (G.pointAt ps b) (G.pointAt ps c)) (16 * sixteenth * cornersD ps a b c .p) (16 * sixteenth * cornersD ps a b c .m) (359 * (M * M * M * sixteenth))
-  corners-near = det-near M fine (A .x) (A .y) (A .z) (B .x) (B .y) (B .z) (C .x) (C .y) (C .z)
-
-  pub corners-size : Size (16 * sixteenth * cornersD ps a b c .p) (16 * sixteenth * cornersD ps a b c .m) (96 * (M * M * M * sixteenth))
-  corners-size = det-at-most M fine (A .x) (A .y) (A .z) (B .x) (B .y) (B .z) (C .x) (C .y) (C .z)
+-- and so is that of three corners
+pub corners-near : (M : ℕ) (fine : Fine M) (ps : List Float) {a b c : ℕ} → Corner M ps a → Corner M ps b → Corner M ps c
+    → Determinant (M * M * M * sixteenth) (Volume.det (G.pointAt ps a) (G.pointAt ps b) (G.pointAt ps c)) (16 * sixteenth * cornersD ps a b c .p) (16 * sixteenth * cornersD ps a b c .m)
+corners-near M fine ps A B C = det-near M fine (A .x) (A .y) (A .z) (B .x) (B .y) (B .z) (C .x) (C .y) (C .z)

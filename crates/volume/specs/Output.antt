@@ -13,10 +13,10 @@ use Rattle.points.specs.Rule.{Rule, names}
 use Rattle.join.specs.Join.{joined}
 use Rattle.body.specs.Body.{Row, Patch, rowsOf, patchesOf, allVertices, allIndices, firstFailing}
 use Rattle.checks.specs.BodyChecks.{bodyChecks}
+use Rattle.checks.specs.Accepted.{Clean}
 use Rattle.orient.specs.Orient.{AfterTurn, walksOf, turnBody, refuseTurn, turnOf}
 use Rattle.reversal.specs.Reversal.{swapped, turnedPatch, turnedBody}
 use Rattle.walk.specs.Walk.{coloured}
-use Rattle.volume.specs.Accepted.{Passed}
 
 length-swapped : (is : List ℕ) → length (swapped is) ≡ length is
 unfolding swapped
@@ -87,10 +87,10 @@ turn-is rule table ps ns is work h = ap (λ (k : ℕ). pick k) h
       | false ↦ refuseTurn n ns is work
     ]
 
-pub output-is : (rule : Rule) (table : List ℕ) (ps ns : List Float) (is work : List ℕ) → Passed table ps ns is → firstFailing (bodyChecks table ps ns is (length work)) ≡ 0
+pub output-is : (rule : Rule) (table : List ℕ) (ps ns : List Float) (is work : List ℕ) {words : ℕ} → Clean table ps ns is words → firstFailing (bodyChecks table ps ns is (length work)) ≡ 0
     → patchesOf (rowsOf table) ps (turnOf rule table ps ns is work .normals) (turnOf rule table ps ns is work .indices)
     ≡ turnedBody (walksOf (patchesOf (rowsOf table) ps ns is) (joined (names rule ps)) .colours) (patchesOf (rowsOf table) ps ns is)
 unfolding turnBody
 output-is rule table ps ns is work c h =
     ap (λ (t : AfterTurn). patchesOf (rowsOf table) ps (t .normals) (t .indices)) (turn-is rule table ps ns is work h)
-    ∙ turned-patches (walksOf (patchesOf (rowsOf table) ps ns is) (joined (names rule ps)) .colours) (rowsOf table) ps ns is (omega (arith, c .all-normals)) (omega (arith, c .all-indices))
+    ∙ turned-patches (walksOf (patchesOf (rowsOf table) ps ns is) (joined (names rule ps)) .colours) (rowsOf table) ps ns is (omega (arith, c .tabled .all-normals)) (omega (arith, c .tabled .all-indices))

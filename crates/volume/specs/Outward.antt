@@ -6,10 +6,12 @@ use Prim.Native.Nat.{ℕ, suc, _+_, _*_, _/_, _^_, _≤_, _<_}
 use native.Mathlib.Nat.{eq-zero-or-pos, zero-mul, zero-div}
 use native.Mathlib.Omega.{arith}
 use mathlib.Core.Bool.{Bool, true, false, not, _&&_, _||_}
-use lib.Dec.{T, leb, ltb, leb→le, nleb→lt, ltb→lt, lt→ltb, eqb-refl}
+use lib.Dec.{T, leb, ltb, leb→le, nleb→lt, eqb-refl}
+use borrow.Author.Tests.{lt-ltb, le-ltb}
 use lib.ListN.{getD}
 use lib.IntN.{ℤ, pos, negsuc, negℤ, natAbs, _-ℤ_, _*ℤ_}
 use lib.Ieee.{Float, nan, inf, fin, up, down, lt, ofBits}
+use lib.Ieee.Fits.{and-r}
 use Rattle.points.specs.Points.{sameℤ}
 use Rattle.body.specs.Body.{Patch}
 use Rattle.geometry.specs.Geometry.{zero64}
@@ -21,24 +23,6 @@ use Rattle.volume.specs.Exact.{wholeOf, isWhole, exactRows, exactVolume,
 use Rattle.volume.specs.Ints.{Is, above, below, is-pos, is-neg, is-sub, is-mul, is-same}
 use Rattle.volume.specs.Bound.{times-unit}
 use Rattle.volume.specs.Sign.{is-self, opposed, Settled, All, rows-left}
-
--- ---- tests as equations
-true-of : (b : Bool) → T b → b ≡ true
-true-of true h = refl
-true-of false h = absurd h
-
-less-true : (m n : ℕ) → m < n → ltb m n ≡ true
-less-true m n h = true-of (ltb m n) (lt→ltb m n h)
-
-less-false : (m n : ℕ) → n ≤ m → ltb m n ≡ false
-less-false m n h = go (ltb m n) (ltb→lt m n)
-  where
-    go : (b : Bool) → (T b → m < n) → b ≡ false
-    go false k = refl
-    go true k = absurd (no (k tt))
-      where
-        no : m < n → ⊥
-        no l = omega arith
 
 -- ---- the sign of a value
 some-of : (a k d : ℕ) → 0 < a * k / d → 0 < a
@@ -68,13 +52,13 @@ positive (fin true m e) h = absurd (no (m * up e * 2 ^ 1074 / down e) h)
     no q h = omega (arith, is-neg (pos q) (is-pos q) .eq)
 positive (fin false m e) h =
     let l : 0 < m * up e = some-of (m * up e) (2 ^ 1074) (down e) h in
-    record { no = less-false (m * up e * 1) (0 * 1 * down e) (omega arith); yes = less-true (0 * 1 * down e) (m * up e * 1) (omega arith) }
+    record { no = le-ltb (m * up e * 1) (0 * 1 * down e) (omega arith); yes = lt-ltb (0 * 1 * down e) (m * up e * 1) (omega arith) }
 
 pub negative : (x : Float) → above (wholeOf 1074 x) < below (wholeOf 1074 x) → lt x zero64 ≡ true
 unfolding wholeOf lt ofBits
 negative nan h = absurd (never h)
 negative (inf s) h = absurd (never h)
-negative (fin true m e) h = less-true _ _ (go (m * up e) (some-of (m * up e) (2 ^ 1074) (down e) (some (m * up e * 2 ^ 1074 / down e) h)))
+negative (fin true m e) h = lt-ltb _ _ (go (m * up e) (some-of (m * up e) (2 ^ 1074) (down e) (some (m * up e * 2 ^ 1074 / down e) h)))
   where
     some : (q : ℕ) → above (negℤ (pos q)) < below (negℤ (pos q)) → 0 < q
     some q h = omega (arith, is-neg (pos q) (is-pos q) .eq)
@@ -118,10 +102,6 @@ opposed-times : (f : Bool) (z : ℤ) (u : ℕ) → opposed f z *ℤ pos u ≡ op
 opposed-times false z u = refl
 opposed-times true z u = is-same (negℤ z *ℤ pos u) (negℤ (z *ℤ pos u)) (times-unit u (negℤ z) (is-neg z (is-self z))) (is-neg (z *ℤ pos u) (times-unit u z (is-self z)))
 
-second : (a b : Bool) → T (a && b) → T b
-second true b h = h
-second false b h = absurd h
-
 -- ---- a group
 pub left-outward : (patches : List Patch) (cols final : List ℕ) (rows : List ℕ) (x : Float)
     → T (withinBound patches (record { rows = rows; colours = map (λ n. getD cols n unvisited) rows; volume = x }))
@@ -135,4 +115,4 @@ left-outward patches cols final rows x h s =
     let flip = lt x zero64 || (not (lt zero64 x) && rest) in
     let e : exactLeft (turnedBody final patches) rows *ℤ pos (2 ^ 627) ≡ opposed flip (E *ℤ pos (2 ^ 627)) = ap (λ (z : ℤ). z *ℤ pos (2 ^ 627)) (rows-left patches cols final flip rows s) ∙ opposed-times flip E (2 ^ 627) in
     subst (λ (z : ℤ). T (leb (natAbs (E *ℤ pos (2 ^ 627))) (bound patches g) || sameℤ z (pos (natAbs (E *ℤ pos (2 ^ 627)))))) (sym e)
-    (outward x (E *ℤ pos (2 ^ 627)) (bound patches g) rest (leb→le _ _ (second (isWhole 1074 x) _ h)))
+    (outward x (E *ℤ pos (2 ^ 627)) (bound patches g) rest (leb→le _ _ (and-r (isWhole 1074 x) _ h)))

@@ -24,6 +24,11 @@ all-at [] d g k l = absurd (not-suc-le-zero l)
 all-at (x ∷ xs) d (All.more p g) zero l = p
 all-at (x ∷ xs) d (All.more p g) (suc k) l = all-at xs d g k (le-of-suc-le-suc l)
 
+-- and what holds of each item holds of all
+pub all-of : {A : Type 0} {P : A → Type 0} (xs : List A) (d : A) → ((k : ℕ) → k < length xs → P (getD xs k d)) → All P xs
+all-of [] d f = All.none
+all-of (x ∷ xs) d f = All.more (f 0 (omega arith)) (all-of xs d (λ k l. f (suc k) (omega arith)))
+
 pub all-map : {A : Type 0} {P Q : A → Type 0} {xs : List A} → ((x : A) → P x → Q x) → All P xs → All Q xs
 all-map f All.none = All.none
 all-map f (All.more {n = n} p g) = All.more (f n p) (all-map f g)

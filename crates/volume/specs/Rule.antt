@@ -4,16 +4,20 @@ use mathlib.Core.List.{List, [], _∷_, _++_, map}
 use Prim.Native.Nat.{ℕ, _*_, _%_, _^_, _≤_, _<_}
 use native.Mathlib.Nat.{le-trans, le-refl, le-max-left, le-max-right, max-le}
 use native.Mathlib.Omega.{arith}
-use mathlib.Core.Bool.{Bool, true, false, not, _&&_}
-use lib.Dec.{T, eqb, eqb→eq, lit≤}
+use mathlib.Core.Bool.{Bool, true, false, _&&_}
+use lib.Dec.{T, eqb, lit≤}
 use lib.ListN.{getD, length}
 use lib.Ieee.{Float}
-use Rattle.floats.specs.Floats as Floats
+use lib.Ieee.Fits.{and-i}
+use borrow.Author.Tests.{eqb-true, not-false}
 use Rattle.lists.specs.Lists.{any, all}
+use Rattle.lists.specs.Any.{any-none}
 use Rattle.points.specs.Rule.{names}
 use Rattle.join.specs.Join.{joined}
 use Rattle.body.specs.Body.{Patch, trianglesOf, rowsOf, patchesOf}
 use Rattle.patch_checks.specs.PatchChecks.{badIndices}
+use Rattle.patch_checks.specs.PatchTests.{partTriangle, notFinite}
+use Rattle.checks.specs.Accepted.{Clean, clean}
 use Rattle.geometry.specs.Geometry.{zero64}
 use Rattle.groups.specs.Groups.{Group}
 use Rattle.orient.specs.Orient.{walksOf}
@@ -22,12 +26,12 @@ use Rattle.reversal.specs.Reversal.{turnedBody}
 use Rattle.walk.specs.Walk.{unvisited}
 use Rattle.volume.specs.Exact.{trianglesIn, largestIn, withinBound, leftOutward, ruleHolds, F32s}
 use Rattle.volume.specs.VolumeRule.{VolumeRule}
-use Rattle.volume.specs.Sums.{Rows, end, next}
+use Rattle.volume.specs.Sums.{RowGood}
 use Rattle.volume.specs.Bound.{within}
 use Rattle.volume.specs.Sign as All
 use Rattle.volume.specs.Sign.{All}
 use Rattle.volume.specs.Outward.{left-outward}
-use Rattle.volume.specs.Accepted.{any-at, double, Passed, passed, accepted, patch-of, Vertex, vertices, corners, corners-under}
+use Rattle.volume.specs.Accepted.{accepted, patch-of, Vertex, vertices, corners, corners-under}
 use Rattle.volume.specs.Pairs.{all-map}
 use Rattle.volume.specs.Output.{output-is}
 use Rattle.volume.specs.Groups.{Taking, GroupOk, groups-ok}
@@ -53,28 +57,28 @@ triangles-few (a ∷ []) = omega arith
 triangles-few (a ∷ b ∷ []) = omega arith
 triangles-few (a ∷ b ∷ c ∷ is) = let h = triangles-few is in omega arith
 
-patch-good : (table : List ℕ) (ps ns : List Float) (is : List ℕ) → F32s ps → Passed table ps ns is
+patch-good : (table : List ℕ) (ps ns : List Float) (is : List ℕ) {words : ℕ} → F32s ps → Clean table ps ns is words
     → (n : ℕ) → n < length (patchesOf (rowsOf table) ps ns is) → PatchGood (patchAt (patchesOf (rowsOf table) ps ns is) n)
 unfolding patchAt
 patch-good table ps ns is f c n l =
     let patches = patchesOf (rowsOf table) ps ns is in
     let p = patchAt patches n in
-    let o = patch-of (rowsOf table) ps ns is 786432 f (omega (arith, c .all-positions)) (omega (arith, c .all-indices)) (c .indices) n l in
-    let e = eqb→eq (p .row .indices % 3) 0 (double (eqb (p .row .indices % 3) 0) (any-at (λ p. not (eqb (p .row .indices % 3) 0)) patches _ (c .threes) n l)) in
+    let o = patch-of (rowsOf table) ps ns is 786432 f (omega (arith, c .tabled .all-positions)) (omega (arith, c .tabled .all-indices)) (c .tabled .indices) n l in
+    let e = eqb-true (p .row .indices % 3) 0 (not-false (eqb (p .row .indices % 3) 0) (any-none (λ p. partTriangle (p .row)) patches _ (c .patched .threes) n l)) in
     record {
-      vertices = vertices 786432 p o (any-at badIndices patches _ (c .inside) n l) (any-at (λ p. any (λ x. not (Floats.finite x)) (p .positions ++ p .normals)) patches _ (c .finite) n l);
+      vertices = vertices 786432 p o (any-none badIndices patches _ (c .patched .inside) n l) (any-none (λ p. any notFinite (p .positions ++ p .normals)) patches _ (c .patched .numbers) n l);
       few = o .few;
       whole = triangles-some (p .indices) (ap (λ (k : ℕ). k % 3) (o .count) ∙ e);
     }
 
 -- ---- the rows of a group
 module _ (patches : List Patch) (good : (n : ℕ) → n < length patches → PatchGood (patchAt patches n)) where
-  rows-good : (M : ℕ) (rows : List ℕ) → All (Taking patches) rows → largestIn patches rows ≤ M → Rows M patches rows
+  rows-good : (M : ℕ) (rows : List ℕ) → All (Taking patches) rows → largestIn patches rows ≤ M → All (RowGood M patches) rows
   unfolding largestIn
-  rows-good M [] a l = end
+  rows-good M [] a l = All.none
   rows-good M (n ∷ ns) (All.more t a) l =
       let p = good n (t .row) in
-      next (corners M (patchAt patches n .positions) (patchAt patches n .indices) (p .vertices) (le-trans (le-max-left _ _) l)) (p .whole (t .some)) (rows-good M ns a (le-trans (le-max-right _ _) l))
+      All.more (record { corners = corners M (patchAt patches n .positions) (patchAt patches n .indices) (p .vertices) (le-trans (le-max-left _ _) l); some = p .whole (t .some) }) (rows-good M ns a (le-trans (le-max-right _ _) l))
 
   rows-under : (rows : List ℕ) → All (Taking patches) rows → largestIn patches rows ≤ 2 ^ 277
   unfolding largestIn
@@ -95,11 +99,7 @@ module _ (patches : List Patch) (good : (n : ℕ) → n < length patches → Pat
       let t = rows-few (o .rows) (o .taking) in
       let w = within patches (o .cols) (o .rows) (rows-good (largestIn patches (o .rows)) (o .rows) (o .taking) (le-refl _)) (rows-under (o .rows) (o .taking)) (omega (arith, o .few)) in
       subst (λ (z : Group). T (withinBound patches z && leftOutward patches (turnedBody final patches) z)) (sym (o .is))
-      (both (withinBound patches g') (leftOutward patches (turnedBody final patches) g') w (left-outward patches (o .cols) final (o .rows) x w (o .settled)))
-    where
-      both : (a b : Bool) → T a → T b → T (a && b)
-      both true b h k = k
-      both false b h k = absurd h
+      (and-i (withinBound patches g') (leftOutward patches (turnedBody final patches) g') w (left-outward patches (o .cols) final (o .rows) x w (o .settled)))
 
 all-pass : {A : Type 0} (f : A → Bool) (xs : List A) → All (λ x. T (f x)) xs → T (all f xs)
 unfolding all
@@ -120,8 +120,8 @@ volume-rule rule table ps ns is work f h =
     let patches = patchesOf (rowsOf table) ps ns is in
     let w = walksOf patches (joined (names rule ps)) in
     let z = accepted rule table ps ns is work h in
-    let c = passed table ps ns is (length work) z in
-    let l : length patches ≤ 4096 = subst (λ (k : ℕ). k ≤ 4096) (sym (length-patches (rowsOf table) ps ns is)) (c .rows) in
+    let c = clean table ps ns is (length work) z in
+    let l : length patches ≤ 4096 = subst (λ (k : ℕ). k ≤ 4096) (sym (length-patches (rowsOf table) ps ns is)) (c .tabled .rows .few) in
     subst (λ (after : List Patch). T (all (ruleHolds patches after) (w .groups))) (sym (output-is rule table ps ns is work c z))
     (all-pass (ruleHolds patches (turnedBody (w .colours) patches)) (w .groups)
     (all-map (group-rule patches (patch-good table ps ns is f c) (w .colours) l) (groups-ok patches (joined (names rule ps)) .groups)))

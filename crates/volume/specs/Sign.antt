@@ -8,7 +8,7 @@ use native.Mathlib.Omega.{arith}
 use mathlib.Core.Bool.{Bool, true, false, not, cond}
 use lib.Dec.{eqb}
 use lib.ListN.{getD, length}
-use lib.IntN.{ℤ, pos, negsuc, negℤ, _+ℤ_, _-ℤ_, _*ℤ_, *ℤ-comm}
+use lib.IntN.{ℤ, pos, negsuc, negℤ, _+ℤ_, _-ℤ_, _*ℤ_, *ℤ-comm, negℤ-+ℤ}
 use lib.Ieee.{Float, neg}
 use Rattle.body.specs.Body.{Patch, Triangle, trianglesOf}
 use Rattle.inversion.specs.Inversion.{patchAt}
@@ -34,9 +34,6 @@ neg-three x y z = is-same ((negℤ x -ℤ negℤ y) +ℤ negℤ z) (negℤ ((x -
     (is-add (negℤ x -ℤ negℤ y) (negℤ z) (is-sub (negℤ x) (negℤ y) (is-neg x (is-self x)) (is-neg y (is-self y))) (is-neg z (is-self z)))
     (is-neg ((x -ℤ y) +ℤ z) (is-add (x -ℤ y) z (is-sub x y (is-self x) (is-self y)) (is-self z)))
 
-pub neg-add : (x y : ℤ) → negℤ x +ℤ negℤ y ≡ negℤ (x +ℤ y)
-neg-add x y = is-same (negℤ x +ℤ negℤ y) (negℤ (x +ℤ y)) (is-add (negℤ x) (negℤ y) (is-neg x (is-self x)) (is-neg y (is-self y))) (is-neg (x +ℤ y) (is-add x y (is-self x) (is-self y)))
-
 -- ---- corners 1 and 2 swapped
 cross-swap : (p q r s : ℤ) → p *ℤ q -ℤ r *ℤ s ≡ negℤ (s *ℤ r -ℤ q *ℤ p)
 cross-swap p q r s = sub-swap (p *ℤ q) (r *ℤ s) ∙ (λ i. negℤ (*ℤ-comm r s i -ℤ *ℤ-comm p q i))
@@ -55,13 +52,13 @@ unfolding exactTriangles
 triangles-flip ps flip [] = refl
 triangles-flip ps true (t ∷ ts) =
     (λ i. twice i +ℤ triangles-flip ps true ts i)
-    ∙ neg-add (exactDet (wholeAt ps (t .a)) (wholeAt ps (t .c)) (wholeAt ps (t .b))) (exactTriangles ps true ts)
+    ∙ sym (negℤ-+ℤ (exactDet (wholeAt ps (t .a)) (wholeAt ps (t .c)) (wholeAt ps (t .b))) (exactTriangles ps true ts))
   where
     twice : exactDet (wholeAt ps (t .a)) (wholeAt ps (t .b)) (wholeAt ps (t .c)) ≡ negℤ (exactDet (wholeAt ps (t .a)) (wholeAt ps (t .c)) (wholeAt ps (t .b)))
     twice = det-swap (wholeAt ps (t .a)) (wholeAt ps (t .c)) (wholeAt ps (t .b))
 triangles-flip ps false (t ∷ ts) =
     (λ i. det-swap (wholeAt ps (t .a)) (wholeAt ps (t .b)) (wholeAt ps (t .c)) i +ℤ triangles-flip ps false ts i)
-    ∙ neg-add (exactDet (wholeAt ps (t .a)) (wholeAt ps (t .b)) (wholeAt ps (t .c))) (exactTriangles ps false ts)
+    ∙ sym (negℤ-+ℤ (exactDet (wholeAt ps (t .a)) (wholeAt ps (t .b)) (wholeAt ps (t .c))) (exactTriangles ps false ts))
 
 pub triangles-swapped : (ps : List Float) (is : List ℕ) → exactTriangles ps false (trianglesOf (swapped is)) ≡ exactTriangles ps true (trianglesOf is)
 unfolding exactTriangles trianglesOf swapped
@@ -121,7 +118,7 @@ module _ (patches : List Patch) (cols final : List ℕ) (flip : Bool) where
       go false = refl
 
   opposed-add : (f : Bool) (y z : ℤ) → opposed f y +ℤ opposed f z ≡ opposed f (y +ℤ z)
-  opposed-add true y z = neg-add y z
+  opposed-add true y z = sym (negℤ-+ℤ y z)
   opposed-add false y z = refl
 
   opposed-zero : (f : Bool) → pos 0 ≡ opposed f (pos 0)

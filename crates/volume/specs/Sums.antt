@@ -9,12 +9,10 @@ use mathlib.Core.Bool.{Bool, true, false, cond}
 use lib.Dec.{eqb}
 use lib.ListN.{getD, length}
 use lib.IntN.{ℤ, pos, _+ℤ_, +ℤ-assoc, +ℤ-idr, +ℤ-idl}
-use lib.Ieee.{Float, ofBits}
+use lib.Ieee.{Float, fin, ofBits}
 use lib.Ieee.Exact.{HasValue}
-use Rattle.rounding.specs.Near.{Size}
-use Rattle.rounding.specs.Approx.{Approx}
 use Rattle.rounding.specs.Tri.{sixteenth, Fine, v-big}
-use Rattle.rounding.specs.Sum.{Patch, Total, patch-zero, patch-more, patch-sixth, total-zero, total-more}
+use Rattle.rounding.specs.Sum.{Determinant, Patch, Part, Total, sum-zero, patch-more, patch-sixth, total-more}
 use Rattle.body.specs.Body as Body
 use Rattle.body.specs.Body.{Triangle, trianglesOf}
 use Rattle.geometry.specs.Geometry as G
@@ -24,42 +22,53 @@ use Rattle.inversion.specs.Inversion.{patchAt, volumeFrom}
 use Rattle.walk.specs.Walk.{coloured, unvisited}
 use Rattle.volume.specs.Exact.{wholeAt, exactDet, exactTriangles, exactRows, trianglesIn}
 use Rattle.volume.specs.Ints.{Is, is-pos, is-add}
-use Rattle.volume.specs.Det.{Corner, cornersD, whole-det, corners-near, corners-size}
+use Rattle.volume.specs.Sign as All
+use Rattle.volume.specs.Sign.{All}
+use Rattle.volume.specs.Det.{Corner, cornersD, whole-det, corners-near}
+
+-- x lies as near as S says to the whole number z, in units
+pub record At (S : Float → ℕ → ℕ → Type 0) (x : Float) (z : ℤ) : Type 0 where
+  pub p : ℕ
+  pub m : ℕ
+  pub is : Is z p m
+  pub near : S x (16 * sixteenth * p) (16 * sixteenth * m)
+
+-- what holds of +0 and nothing holds at the whole number 0
+at-none : {S : Float → ℕ → ℕ → Type 0} → S (fin false 0 (pos 0)) 0 0 → At S zero64 (pos 0)
+unfolding ofBits sixteenth
+at-none h = record { p = 0; m = 0; is = is-pos 0; near = h }
+
+-- n more than none are n, and w more than 0 is w
+pub from-none : (S : ℕ → Float → ℕ → ℕ → Type 0) {n : ℕ} {x : Float} {w : ℤ} → At (S (0 + n)) x (pos 0 +ℤ w) → At (S n) x w
+from-none S r = rw (zero-add, +ℤ-idl) at r
+
+-- what holds of the sum of two values holds at the sum of their whole numbers
+at-sum : {S R Q : Float → ℕ → ℕ → Type 0} {x y : Float} {z w : ℤ} → ((c d c' d' : ℕ) → S x c d → R y c' d' → Q (G.add x y) (c + c') (d + d')) → At S x z → At R y w → At Q (G.add x y) (z +ℤ w)
+at-sum {z = z} {w = w} f r t = record {
+  p = r .p + t .p;
+  m = r .m + t .m;
+  is = is-add z w (r .is) (t .is);
+  near = rw (mul-add (16 * sixteenth) (r .p) (t .p), mul-add (16 * sixteenth) (r .m) (t .m)) (f _ _ _ _ (r .near) (t .near));
+}
 
 -- the sum x of n determinants, whose exact sum is z
-pub record PatchAt (v n : ℕ) (x : Float) (z : ℤ) : Type 0 where
-  pub p : ℕ
-  pub m : ℕ
-  pub is : Is z p m
-  pub near : Patch v n x (16 * sixteenth * p) (16 * sixteenth * m)
+abbrev pub PatchAt : ℕ → ℕ → Float → ℤ → Type 0
+PatchAt v n = At (Patch v n)
 
 -- the sum x of sixths, of t determinants, whose exact sum is z
-pub record TotalAt (v t : ℕ) (x : Float) (z : ℤ) : Type 0 where
-  pub p : ℕ
-  pub m : ℕ
-  pub is : Is z p m
-  pub near : Total v t x (16 * sixteenth * p) (16 * sixteenth * m)
+abbrev pub TotalAt : ℕ → ℕ → Float → ℤ → Type 0
+TotalAt v t = At (Total v t)
 
 -- every index is of a good corner
-pub data Corners (M : ℕ) (ps : List Float) : List ℕ → Type 0 where
-  none : Corners M ps []
-  more : {i : ℕ} {is : List ℕ} → Corner M ps i → Corners M ps is → Corners M ps (i ∷ is)
+abbrev pub Corners : ℕ → List Float → List ℕ → Type 0
+Corners M ps = All (Corner M ps)
 
--- every row has triangles, all with good corners
-pub data Rows (M : ℕ) (patches : List Body.Patch) : List ℕ → Type 0 where
-  end : Rows M patches []
-  next : {n : ℕ} {ns : List ℕ} → Corners M (patchAt patches n .positions) (patchAt patches n .indices) → 0 < length (trianglesOf (patchAt patches n .indices)) → Rows M patches ns
-      → Rows M patches (n ∷ ns)
+-- a row has triangles, all with good corners
+pub record RowGood (M : ℕ) (patches : List Body.Patch) (n : ℕ) : Type 0 where
+  pub corners : Corners M (patchAt patches n .positions) (patchAt patches n .indices)
+  pub some : 0 < length (trianglesOf (patchAt patches n .indices))
 
 -- ---- one triangle
--- its determinant z: p, m with both facts
-record TriangleAt (v : ℕ) (x : Float) (z : ℤ) : Type 0 where
-  p : ℕ
-  m : ℕ
-  is : Is z p m
-  near : Approx x (16 * sixteenth * p) (16 * sixteenth * m) (359 * v)
-  size : Size (16 * sixteenth * p) (16 * sixteenth * m) (96 * v)
-
 -- what exactTriangles adds for a triangle
 abbrev pub exactTriangle : List Float → Bool → Triangle → ℤ
 exactTriangle ps flip t = let u = cond flip (reversed t) t in exactDet (wholeAt ps (u .a)) (wholeAt ps (u .b)) (wholeAt ps (u .c))
@@ -69,44 +78,26 @@ module _ (M : ℕ) (fine : Fine M) where
   v = M * M * M * sixteenth
 
   triangle : (ps : List Float) (flip : Bool) {a b c : ℕ} → Corner M ps a → Corner M ps b → Corner M ps c
-      → TriangleAt v (triangleVolume ps flip (record { a = a; b = b; c = c })) (exactTriangle ps flip (record { a = a; b = b; c = c }))
-  triangle ps true {a} {b} {c} A B C = record { p = cornersD ps a c b .p; m = cornersD ps a c b .m; is = whole-det ps a c b; near = corners-near M fine ps A C B; size = corners-size M fine ps A C B }
-  triangle ps false {a} {b} {c} A B C = record { p = cornersD ps a b c .p; m = cornersD ps a b c .m; is = whole-det ps a b c; near = corners-near M fine ps A B C; size = corners-size M fine ps A B C }
-
-  add-triangle : {n : ℕ} {x y : Float} {z w : ℤ} → PatchAt v n x z → TriangleAt v y w → n < 2 ^ 40 → PatchAt v (suc n) (G.add x y) (z +ℤ w)
-  add-triangle {n} {x} {y} {z} {w} r t l = record {
-    p = r .p + t .p;
-    m = r .m + t .m;
-    is = is-add z w (r .is) (t .is);
-    near = subst (λ (q : ℕ). Patch v (suc n) (G.add x y) q (16 * sixteenth * (r .m + t .m))) (sym (mul-add (16 * sixteenth) (r .p) (t .p)))
-        (subst (λ (q : ℕ). Patch v (suc n) (G.add x y) (16 * sixteenth * r .p + 16 * sixteenth * t .p) q) (sym (mul-add (16 * sixteenth) (r .m) (t .m)))
-        (patch-more v n (r .near) (t .near) (t .size) l (fine .three)));
-  }
+      → At (Determinant v) (triangleVolume ps flip (record { a = a; b = b; c = c })) (exactTriangle ps flip (record { a = a; b = b; c = c }))
+  triangle ps true {a} {b} {c} A B C = record { p = cornersD ps a c b .p; m = cornersD ps a c b .m; is = whole-det ps a c b; near = corners-near M fine ps A C B }
+  triangle ps false {a} {b} {c} A B C = record { p = cornersD ps a b c .p; m = cornersD ps a b c .m; is = whole-det ps a b c; near = corners-near M fine ps A B C }
 
   -- ---- a patch's triangles
   pub sum-near : (ps : List Float) (flip : Bool) (is : List ℕ) {n : ℕ} {x : Float} {z : ℤ} → Corners M ps is → PatchAt v n x z → n + length (trianglesOf is) ≤ 2 ^ 40
       → PatchAt v (n + length (trianglesOf is)) (sumVolumes ps flip x (trianglesOf is)) (z +ℤ exactTriangles ps flip (trianglesOf is))
   unfolding trianglesOf sumVolumes exactTriangles
-  sum-near ps flip [] {n} {x} {z} g r l = same r
-    where
-      same : PatchAt v n x z → PatchAt v (n + 0) x (z +ℤ pos 0)
-      same r = rw (add-zero, +ℤ-idr) r
+  sum-near ps flip [] {n} {x} {z} g r l = rw (add-zero, +ℤ-idr) r
   sum-near ps flip (a ∷ []) {n} {x} {z} g r l = rw (add-zero, +ℤ-idr) r
   sum-near ps flip (a ∷ b ∷ []) {n} {x} {z} g r l = rw (add-zero, +ℤ-idr) r
-  sum-near ps flip (a ∷ b ∷ c ∷ is) {n} {x} {z} (more A (more B (more C g))) r l =
+  sum-near ps flip (a ∷ b ∷ c ∷ is) {n} {x} {z} (All.more A (All.more B (All.more C g))) r l =
       let t : Triangle = record { a = a; b = b; c = c } in
-      let e : n + suc (length (trianglesOf is)) ≡ suc n + length (trianglesOf is) = omega arith in
-      let o = sum-near ps flip is g (add-triangle r (triangle ps flip A B C) (omega arith)) (omega arith) in
+      let e : n + suc (length (trianglesOf is)) ≡ n + 1 + length (trianglesOf is) = omega arith in
+      let o = sum-near ps flip is g (at-sum (λ c d c' d' p q. patch-more v n p q (omega arith) (fine .three)) r (triangle ps flip A B C)) (omega arith) in
       subst (λ (k : ℕ). PatchAt v k (sumVolumes ps flip (G.add x (triangleVolume ps flip t)) (trianglesOf is)) (z +ℤ (exactTriangle ps flip t +ℤ exactTriangles ps flip (trianglesOf is)))) (sym e)
-      (subst (λ (w : ℤ). PatchAt v (suc n + length (trianglesOf is)) (sumVolumes ps flip (G.add x (triangleVolume ps flip t)) (trianglesOf is)) w) (+ℤ-assoc z (exactTriangle ps flip t) (exactTriangles ps flip (trianglesOf is))) o)
-
-  pub patch-none : PatchAt v 0 zero64 (pos 0)
-  unfolding ofBits sixteenth
-  patch-none = record { p = 0; m = 0; is = is-pos 0; near = patch-zero v }
+      (subst (λ (w : ℤ). PatchAt v (n + 1 + length (trianglesOf is)) (sumVolumes ps flip (G.add x (triangleVolume ps flip t)) (trianglesOf is)) w) (+ℤ-assoc z (exactTriangle ps flip t) (exactTriangles ps flip (trianglesOf is))) o)
 
   pub total-none : TotalAt v 0 zero64 (pos 0)
-  unfolding ofBits sixteenth
-  total-none = record { p = 0; m = 0; is = is-pos 0; near = total-zero v }
+  total-none = at-none sum-zero
 
   six-value : HasValue six64 false 6 1
   unfolding ofBits
@@ -127,30 +118,21 @@ module _ (M : ℕ) (fine : Fine M) where
       let n = length (trianglesOf is) in
       let y = sumVolumes ps flip zero64 (trianglesOf is) in
       let w = exactTriangles ps flip (trianglesOf is) in
-      let o : PatchAt v n y w = first n y w (sum-near ps flip is g patch-none (omega arith)) in
-      record {
-        p = r .p + o .p;
-        m = r .m + o .m;
-        is = is-add z w (r .is) (o .is);
-        near = subst (λ (q : ℕ). Total v (t + n) (G.add x (G.div y six64)) q (16 * sixteenth * (r .m + o .m))) (sym (mul-add (16 * sixteenth) (r .p) (o .p)))
-            (subst (λ (q : ℕ). Total v (t + n) (G.add x (G.div y six64)) (16 * sixteenth * r .p + 16 * sixteenth * o .p) q) (sym (mul-add (16 * sixteenth) (r .m) (o .m)))
-            (total-more v t n (r .near) (patch-sixth v n six64 six-value (o .near) (omega arith) big (fine .three)) h l (fine .three)));
-      }
-    where
-      first : (n : ℕ) (y : Float) (w : ℤ) → PatchAt v (0 + n) y (pos 0 +ℤ w) → PatchAt v n y w
-      first n y w r = rw (zero-add, +ℤ-idl) at r
+      let o = from-none (Patch v) (sum-near ps flip is g (at-none sum-zero) (omega arith)) in
+      let q : At (Part v n) (G.div y six64) w = record { p = o .p; m = o .m; is = o .is; near = patch-sixth v n six64 six-value (o .near) (omega arith) big (fine .three) } in
+      at-sum (λ c d c' d' a b. total-more v t n a b h l (fine .three)) r q
 
-  pub rows-near : (patches : List Body.Patch) (colours : List ℕ) (rows : List ℕ) {t : ℕ} {x : Float} {z : ℤ} → Rows M patches rows → TotalAt v t x z → t + trianglesIn patches rows ≤ 2 ^ 40
+  pub rows-near : (patches : List Body.Patch) (colours : List ℕ) (rows : List ℕ) {t : ℕ} {x : Float} {z : ℤ} → All (RowGood M patches) rows → TotalAt v t x z → t + trianglesIn patches rows ≤ 2 ^ 40
       → TotalAt v (t + trianglesIn patches rows) (volumeFrom patches colours x rows) (z +ℤ exactRows patches rows (map (λ n. getD colours n unvisited) rows))
   unfolding trianglesIn volumeFrom exactRows
   rows-near patches colours [] {t} {x} {z} g r l = rw (add-zero, +ℤ-idr) r
-  rows-near patches colours (n ∷ ns) {t} {x} {z} (next c h g) r l =
+  rows-near patches colours (n ∷ ns) {t} {x} {z} (All.more w g) r l =
       let p = patchAt patches n in
       let flip = eqb (getD colours n unvisited) coloured in
       let k = length (trianglesOf (p .indices)) in
       let y = volumeFrom patches colours (G.add x (patchVolume (p .positions) (p .indices) flip)) ns in
       let a = exactTriangles (p .positions) flip (trianglesOf (p .indices)) in
       let b = exactRows patches ns (map (λ n. getD colours n unvisited) ns) in
-      let o = rows-near patches colours ns g (total-patch (p .positions) flip (p .indices) c h r (omega arith)) (omega arith) in
+      let o = rows-near patches colours ns g (total-patch (p .positions) flip (p .indices) (w .corners) (w .some) r (omega arith)) (omega arith) in
       subst (λ (j : ℕ). TotalAt v j y (z +ℤ (a +ℤ b))) (add-assoc t k (trianglesIn patches ns))
       (subst (λ (w : ℤ). TotalAt v (t + k + trianglesIn patches ns) y w) (+ℤ-assoc z a b) o)

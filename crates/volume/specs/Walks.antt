@@ -8,9 +8,9 @@ use native.Mathlib.Omega.{arith}
 use mathlib.Core.Bool.{Bool, true, false, cond}
 use lib.Dec.{T, eqb, ltb, ltb→lt, eqb→eq}
 use lib.ListN.{getD, length, set, length-set, length-append}
-use borrow.Author.Tests.{le-ltb}
 use lib.Seq.{getD-set-same, getD-set-other}
 use Rattle.walk.specs.Walk.{Pair, Walk, Neighbour, unvisited, plain, opposite, meet, neighbours, visit, walk, inverted}
+use Rattle.walk.specs.Steps.{walk-stop}
 use Rattle.volume.specs.Sign as All
 use Rattle.volume.specs.Sign.{All}
 use Rattle.volume.specs.Pairs.{all-append, all-at, all-map, Ends, neighbours-rows}
@@ -141,16 +141,11 @@ module _ (P : ℕ → Type 0) (N : ℕ) (bounded : (n : ℕ) → P n → n < N) 
       go true h k = k (h tt)
       go false h k = g
 
-  stops : (pairs : List Pair) (fuel done : ℕ) (w : Walk) → length (w .rows) ≤ done → walk pairs fuel done w ≡ w
-  unfolding walk
-  stops pairs zero done w l = refl
-  stops pairs (suc fuel) done w l = let t : ltb done (length (w .rows)) ≡ false = le-ltb done (length (w .rows)) l in rw (t, walk)
-
   -- A walk with fuel for as many rows as there are ends for want of rows: more fuel changes nothing.
   pub fuel-enough : (before : List ℕ) (pairs : List Pair) (fuel more done : ℕ) (w : Walk) → All (Ends P) pairs → Walking before w → fuel ≤ more → N ≤ fuel + done
       → walk pairs more done w ≡ walk pairs fuel done w
   unfolding walk
-  fuel-enough before pairs zero more done w e g l h = stops pairs more done w (omega (arith, g .count))
+  fuel-enough before pairs zero more done w e g l h = walk-stop pairs more done w (omega (arith, g .count))
   fuel-enough before pairs (suc fuel) zero done w e g l h = absurd (not-suc-le-zero l)
   fuel-enough before pairs (suc fuel) (suc more) done w e g l h =
       go (ltb done (length (w .rows))) (ltb→lt done (length (w .rows)))

@@ -1,6 +1,5 @@
--- `floats::round_f64` meets its contract. Assumes nothing.
-use mathlib.Core.Path.{sym, ap, _∙_, subst}
-use lib.Dec.{T}
+-- `integral::integral::round_f64` meets its contract. Assumes nothing.
+use mathlib.Core.Path.{ap, _∙_}
 use lib.Ieee.{binary64}
 use Rattle.floats.specs.Floats.{f64}
 use Rattle.integral.specs.Integral.{roundAway, roundBits}
@@ -22,7 +21,7 @@ f64-of-bits-requires c κs = search needs
 returns : tie.Need-returns
 returns c = let x = c .before .before .before .args .x in
     c .f64-of-bits .ensures ∙ ap f64 (c .before .round .ensures ∙ ap roundBits (c .before .before .bits-of-f64 .ensures))
-    ∙ through binary64 binary64 roundAway x (subst T (sym (c .before .before .before .good .0 .1)) tt) (λ y f. round-away-fits y)
+    ∙ through binary64 binary64 roundAway x (c .before .before .before .good .0 .1) (λ y f. round-away-fits y)
 
 pub round-f64-spec : {M : Type 1} → statement M
 round-f64-spec =

@@ -1,6 +1,5 @@
--- `floats::narrow_f64` meets its contract. Assumes nothing.
-use mathlib.Core.Path.{sym, ap, _∙_, subst}
-use lib.Dec.{T}
+-- `narrowing::narrowing::narrow_f64` meets its contract. Assumes nothing.
+use mathlib.Core.Path.{ap, _∙_}
 use lib.Ieee.{binary32, binary64}
 use Rattle.floats.specs.Floats.{f32}
 use Rattle.narrowing.specs.Narrow.{narrow, narrowBits}
@@ -22,7 +21,7 @@ f32-of-bits-requires c κs = search needs
 returns : tie.Need-returns
 returns c = let x = c .before .before .before .args .x in
     c .f32-of-bits .ensures ∙ ap f32 (c .before .narrow .ensures ∙ ap narrowBits (c .before .before .bits-of-f64 .ensures))
-    ∙ through binary64 binary32 narrow x (subst T (sym (c .before .before .before .good .0 .1)) tt) (λ y f. narrow-fits y)
+    ∙ through binary64 binary32 narrow x (c .before .before .before .good .0 .1) (λ y f. narrow-fits y)
 
 pub narrow-f64-spec : {M : Type 1} → statement M
 narrow-f64-spec =

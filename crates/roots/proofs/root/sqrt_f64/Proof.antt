@@ -1,6 +1,5 @@
--- `floats::sqrt_f64` meets its contract. Assumes nothing.
-use mathlib.Core.Path.{sym, ap, _∙_, subst}
-use lib.Dec.{T}
+-- `roots::root::sqrt_f64` meets its contract. Assumes nothing.
+use mathlib.Core.Path.{ap, _∙_}
 use lib.Ieee.{binary64}
 use Rattle.floats.specs.Floats.{f64}
 use Rattle.roots.specs.Roots.{sqrt, sqrtBits}
@@ -22,7 +21,7 @@ f64-of-bits-requires c κs = search needs
 returns : tie.Need-returns
 returns c = let x = c .before .before .before .args .x in
     c .f64-of-bits .ensures ∙ ap f64 (c .before .sqrt .ensures ∙ ap sqrtBits (c .before .before .bits-of-f64 .ensures))
-    ∙ through binary64 binary64 sqrt x (subst T (sym (c .before .before .before .good .0 .1)) tt) sqrt-fits
+    ∙ through binary64 binary64 sqrt x (c .before .before .before .good .0 .1) sqrt-fits
 
 pub sqrt-f64-spec : {M : Type 1} → statement M
 sqrt-f64-spec =
