@@ -1,7 +1,7 @@
 -- The slices that turn leaves, read as patches, are the turned body. Assumes nothing.
 use mathlib.Core.Path.{_≡_, refl, sym, ap, _∙_}
 use mathlib.Core.List.{List, [], _∷_, map, flatMap}
-use Prim.Native.Nat.{ℕ, suc, _*_, _≤_}
+use Prim.Native.Nat.{ℕ, _*_, _≤_}
 use native.Mathlib.Omega.{arith}
 use mathlib.Core.Bool.{Bool, true, false, cond}
 use lib.Dec.{eqb}
@@ -15,15 +15,8 @@ use Rattle.body.specs.Body.{Row, Patch, rowsOf, patchesOf, allVertices, allIndi
 use Rattle.checks.specs.BodyChecks.{bodyChecks}
 use Rattle.checks.specs.Accepted.{Clean}
 use Rattle.orient.specs.Orient.{AfterTurn, walksOf, turnBody, refuseTurn, turnOf}
-use Rattle.reversal.specs.Reversal.{swapped, turnedPatch, turnedBody}
+use Rattle.reversal.specs.Reversal.{swapped, length-swapped, turnedPatch, turnedBody}
 use Rattle.walk.specs.Walk.{coloured}
-
-length-swapped : (is : List ℕ) → length (swapped is) ≡ length is
-unfolding swapped
-length-swapped [] = refl
-length-swapped (a ∷ []) = refl
-length-swapped (a ∷ b ∷ []) = refl
-length-swapped (a ∷ b ∷ c ∷ is) = ap (λ (n : ℕ). suc (suc (suc n))) (length-swapped is)
 
 -- a patch that stands where p stood
 record Like (p q : Patch) : Type 0 where
