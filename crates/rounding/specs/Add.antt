@@ -1,4 +1,4 @@
--- The error of one sum and of one difference, over either format. Assumes nothing.
+-- The error of one sum, over either format, and the size of an opposite. Assumes nothing.
 use mathlib.Core.Path.{_≡_, refl, sym, ap, _∙_, subst}
 use Prim.Native.Nat.{ℕ, _+_, _-_, _*_, _^_, _≤_, _<_}
 use native.Mathlib.Nat.{mul-comm, mul-sub, mul-lt-mul-of-pos-right, lt-of-mul-lt-mul-right, mul-pos}
@@ -77,7 +77,7 @@ sum-same f s X t Y C a b c Z z p q =
     ∙ ap (λ (r : Bool). cond (Bool·beq s t) (round f s (a + b) c) (cond r (round f t (b - a) c) (round f (s && ltb Y X) (a - b) c))) (ltb-same X Y C a b c Z z p q)
     ∙ ap (λ (r : Bool). cond (Bool·beq s t) (round f s (a + b) c) (cond (ltb a b) (round f t (b - a) c) (round f (s && r) (a - b) c))) (ltb-same Y X C b a c Z z q p)
 
--- ---- the sum and the difference of two values that are whole numbers of units
+-- ---- the sum of two values that are whole numbers of units
 pub add-is : (f : Format) (x y : Float) (s : Bool) (a : ℕ) (t : Bool) (b : ℕ) → HasValue x s a (2 ^ low f) → HasValue y t b (2 ^ low f) → add f x y ≡ sum f s a t b (2 ^ low f)
 unfolding add
 add-is f nan y s a t b p q = absurd p

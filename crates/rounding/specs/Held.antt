@@ -87,14 +87,9 @@ mul-same f (fin u m e) (fin v n g) s a c t b d C D p q =
     (mul-mul-mul-comm (m * up e) (n * up g) c d ∙ ap (λ (z : ℕ). z * (n * up g * d)) (p .1) ∙ ap (λ (z : ℕ). a * down e * z) (q .1) ∙ mul-mul-mul-comm a (down e) b (down g))
 
 -- ---- two f32, as f64
-digits-below : (m n : ℕ) → m < 2 ^ 24 → n < 2 ^ 24 → m * n < 2 ^ 53
-digits-below m n h k = omega (arith, mul-le-mul h k)
-
-below : (a b : ℕ) → a < 2 ^ 277 → b < 2 ^ 277 → a * b < 2 ^ 554
-below a b h k = lt-of-lt-of-le (lt-mul a b (2 ^ 277) h k) (lit≤ tt)
-  where
-    lt-mul : (a b N : ℕ) → a < N → b < N → a * b < N * N
-    lt-mul a b N h k = omega (arith, mul-le-mul h k)
+-- the product of two numbers below N, where N * N is no more than K
+product-below : (a b N K : ℕ) → N * N ≤ K → a < N → b < N → a * b < K
+product-below a b N K l h k = omega (arith, mul-le-mul h k)
 
 pub mul-exact : (x y : Float) (hx : Held binary32 x) (hy : Held binary32 y)
     → HasValue (mul binary64 x y) (unlike (hx .sign) (hy .sign)) (hx .digits * 2 ^ hx .shift * (hy .digits * 2 ^ hy .shift)) (2 ^ 149 * 2 ^ 149)
@@ -109,6 +104,6 @@ mul-exact x y hx hy =
     let e : a * b ≡ m * n * 2 ^ (j + k) = mul-mul-mul-comm m (2 ^ j) n (2 ^ k) ∙ ap (λ (z : ℕ). m * n * z) (sym (pow-add 2 j k)) in
     let g : a * b * 2 ^ 776 ≡ m * n * 2 ^ (j + k + 776) = ap (λ (z : ℕ). z * 2 ^ 776) e ∙ mul-assoc (m * n) (2 ^ (j + k)) (2 ^ 776) ∙ ap (λ (z : ℕ). m * n * z) (sym (pow-add 2 (j + k) 776)) in
     subst (λ (z : Float). HasValue z r (a * b) (2 ^ 149 * 2 ^ 149)) (sym (mul-same binary64 x y (hx .sign) a (2 ^ 149) (hy .sign) b (2 ^ 149) (pow-pos 149) (pow-pos 149) (hx .is) (hy .is)))
-    (round-exact binary64 r (a * b) (2 ^ 149 * 2 ^ 149) (m * n) (j + k + 776) (mul-pos (pow-pos 149) (pow-pos 149)) (digits-below m n (hx .small) (hy .small))
-    (subst (λ (z : ℕ). z < 2 ^ 2098) g (lt-of-lt-of-le (mul-lt-mul-of-pos-right (below a b (hx .under) (hy .under)) (pow-pos 776)) (lit≤ tt)))
+    (round-exact binary64 r (a * b) (2 ^ 149 * 2 ^ 149) (m * n) (j + k + 776) (mul-pos (pow-pos 149) (pow-pos 149)) (product-below m n (2 ^ 24) (2 ^ 53) (lit≤ tt) (hx .small) (hy .small))
+    (subst (λ (z : ℕ). z < 2 ^ 2098) g (lt-of-lt-of-le (mul-lt-mul-of-pos-right (product-below a b (2 ^ 277) (2 ^ 554) (lit≤ tt) (hx .under) (hy .under)) (pow-pos 776)) (lit≤ tt)))
     (sym (mul-assoc (a * b) (2 ^ 776) (2 ^ 298)) ∙ ap (λ (z : ℕ). z * 2 ^ 298) g))

@@ -87,8 +87,9 @@ prod-approx M k U s t A B h = record { sign = unlike s t; size = A * B * (U * (1
     eq false true = omega arith
     eq false false = omega arith
 
-scale-size : (U p m b : ℕ) → Within p m b → Within (U * p) (U * m) (U * b)
-scale-size U p m b z = record { hi = omega (arith, mul-le-mul-left U (z .hi)); lo = omega (arith, mul-le-mul-left U (z .lo)) }
+-- a size times U
+scale-size : (U : ℕ) {p m b : ℕ} → Within p m b → Within (U * p) (U * m) (U * b)
+scale-size U z = record { hi = omega (arith, mul-le-mul-left U (z .hi)); lo = omega (arith, mul-le-mul-left U (z .lo)) }
 
 -- nothing overflows
 pub record Fine (M : ℕ) : Type 0 where
@@ -122,8 +123,8 @@ module _ (M : ℕ) (fine : Fine M) where
   cross-approx b c d e =
       let y = prod-approx M k unit32 (sg b) (sg c) (sz b) (sz c) (prod M b c) in
       let z = prod-approx M k unit32 (sg d) (sg e) (sz d) (sz e) (prod M d e) in
-      let h = size-le (16 * (unit32 * (M * M * k))) (unit32 * (16 * k * (M * M))) y (scale-size unit32 (16 * k * times b (point c) .p) (16 * k * times b (point c) .m) (16 * k * (M * M)) (scale-size (16 * k) (times b (point c) .p) (times b (point c) .m) (M * M) (one-size b c))) (omega arith) in
-      let l = size-le (16 * (unit32 * (M * M * k))) (unit32 * (16 * k * (M * M))) z (scale-size unit32 (16 * k * times d (point e) .p) (16 * k * times d (point e) .m) (16 * k * (M * M)) (scale-size (16 * k) (times d (point e) .p) (times d (point e) .m) (M * M) (one-size d e))) (omega arith) in
+      let h = size-le (16 * (unit32 * (M * M * k))) (unit32 * (16 * k * (M * M))) y (scale-size unit32 (scale-size (16 * k) (one-size b c))) (omega arith) in
+      let l = size-le (16 * (unit32 * (M * M * k))) (unit32 * (16 * k * (M * M))) z (scale-size unit32 (scale-size (16 * k) (one-size d e))) (omega arith) in
       recast (unit32 * (16 * k * cross b c d e .p)) (unit32 * (16 * k * cross b c d e .m)) (32 * (unit32 * (M * M * k))) (omega arith) (omega arith) (omega arith)
       (sub-approx (32 * (unit32 * (M * M * k))) (lit< tt) y z (omega arith) (omega (arith, fine .two)))
 
@@ -134,7 +135,7 @@ module _ (M : ℕ) (fine : Fine M) where
   triple-size : {xa xb xc xd xe : Float} (a : Coord M xa) (b : Coord M xb) (c : Coord M xc) (d : Coord M xd) (e : Coord M xe)
       → Within (16 * k * triple a b c d e .p) (16 * k * triple a b c d e .m) (32 * v)
   triple-size a b c d e =
-      let z = scale-size (16 * k) (triple a b c d e .p) (triple a b c d e .m) (M * (2 * (M * M))) (turn-size (sg a) (sz a) M (cross b c d e .p) (cross b c d e .m) (2 * (M * M)) (a .most) (cross-size b c d e)) in
+      let z = scale-size (16 * k) (turn-size (sg a) (sz a) M (cross b c d e .p) (cross b c d e .m) (2 * (M * M)) (a .most) (cross-size b c d e)) in
       record { hi = omega (arith, z .hi); lo = omega (arith, z .lo) }
 
   turn-scale : (s : Bool) (A K c d : ℕ) → turnP s (A * (K * c)) (A * (K * d)) ≡ K * turnP s (A * c) (A * d)
@@ -159,7 +160,7 @@ module _ (M : ℕ) (fine : Fine M) where
       → Approx 1 (mul binary64 xa (sub binary64 (mul binary64 xb xc) (mul binary64 xd xe))) (16 * k * triple a b c d e .p) (16 * k * triple a b c d e .m) (65 * v)
   term {xa} a b c d e =
       let r = cross-approx b c d e in
-      let h = size-le (33 * (unit32 * (M * M * k))) (unit32 * (16 * k * (2 * (M * M)))) r (scale-size unit32 (16 * k * cross b c d e .p) (16 * k * cross b c d e .m) (16 * k * (2 * (M * M))) (scale-size (16 * k) (cross b c d e .p) (cross b c d e .m) (2 * (M * M)) (cross-size b c d e))) (omega arith) in
+      let h = size-le (33 * (unit32 * (M * M * k))) (unit32 * (16 * k * (2 * (M * M)))) r (scale-size unit32 (scale-size (16 * k) (cross-size b c d e))) (omega arith) in
       let g = mul-le-mul (a .most) h in
       let g' : sz a * (32 * (unit32 * (M * M * k))) ≤ M * (32 * (unit32 * (M * M * k))) = mul-le-mul-right (32 * (unit32 * (M * M * k))) (a .most) in
       recast (16 * k * triple a b c d e .p) (16 * k * triple a b c d e .m) (65 * v)
