@@ -89,10 +89,6 @@ module _ (ns : List ℕ) where
   pub same-rep-name : (i j : ℕ) → i < length ns → j < length ns → firstIndex ns i ≡ firstIndex ns j → getD ns i 0 ≡ getD ns j 0
   same-rep-name i j li lj e = sym (rep-name i li) ∙ ap (λ (k : ℕ). getD ns k 0) e ∙ rep-name j lj
 
-  -- it is its own representative
-  pub rep-rep : (i : ℕ) → i < length ns → firstIndex ns (firstIndex ns i) ≡ firstIndex ns i
-  rep-rep i l = same-name-rep (firstIndex ns i) i (rep-name i l)
-
   -- no item before it has the item's name
   pub rep-first : (i : ℕ) → i < length ns → IsFirst ns i (firstIndex ns i)
   rep-first i l =
@@ -155,16 +151,3 @@ module _ {ns ms : List ℕ} (a : Alike ns ms) where
       (λ i l.
       let m : i < length ns = omega (arith, l, joined-length ns) in
       joined-at ns i m ∙ alike-rep i m ∙ sym (joined-at ms i (omega (arith, a .long))))
-
--- representatives as names join the same items
-pub joined-alike : (ns : List ℕ) → Alike ns (joined ns)
-joined-alike ns =
-    record {
-      long = sym (joined-length ns);
-      to = λ i j li lj e. joined-at ns i li ∙ same-name-rep ns i j e ∙ sym (joined-at ns j lj);
-      back = λ i j li lj e. same-rep-name ns i j li lj (sym (joined-at ns i li) ∙ e ∙ joined-at ns j lj);
-    }
-
--- joined again they stay
-pub joined-joined : (ns : List ℕ) → joined (joined ns) ≡ joined ns
-joined-joined ns = sym (alike-joined (joined-alike ns))

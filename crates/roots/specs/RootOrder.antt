@@ -12,7 +12,7 @@ use lib.Pow.{pow-pos}
 use lib.Ieee.{Float, nan, inf, fin, binary64, up, down, fits, lt, le}
 use lib.Ieee.Exact.{HasValue}
 use lib.Ieee.Fits.{down-pos, round-fits}
-use lib.Ieee.Order.{transfer, le-of-values}
+use lib.Ieee.Order.{transfer}
 use lib.Ieee.Positive.{positive, above, first-pos, values-of-le, through}
 use Rattle.floats.specs.Plus.{not-below-nan}
 use Rattle.roots.specs.Roots.{rootOf, sqrt}
@@ -48,14 +48,6 @@ roots-ordered x y p q h n m =
 
     units : 0 < 4 ^ 1074
     units = mul-pos (pow-pos 1074) (pow-pos 1074)
-
--- The root of the larger of two values above zero is no smaller.
-pub sqrt-monotone : (x y : Float) → T (fits binary64 x) → T (fits binary64 y) → T (positive x) → T (positive y) → T (le x y) → T (le (sqrt x) (sqrt y))
-sqrt-monotone x y f g p q h =
-    let n = sqrt-nearest x f p in
-    let m = sqrt-nearest y g q in
-    le-of-values (sqrt x) (sqrt y) (n .root) (2 ^ 1074) (m .root) (2 ^ 1074) (pow-pos 1074) (pow-pos 1074) (n .is) (m .is)
-    (mul-le-mul-right (2 ^ 1074) (roots-ordered x y p q h n m))
 
 -- ---- what is below the root of a value is below the roots of those above it
 
