@@ -1,10 +1,10 @@
--- `visiting::meet_row` meets its contract, by its two tests. Assumes nothing.
-use Rattle.visiting.proofs.Meeting.{meet-new, meet-same, meet-against}
+-- `meeting::meet_row` meets its contract, by its two tests. Assumes nothing.
+use Rattle.meeting.proofs.Meeting.{meet-new, meet-same, meet-against}
 use lib.ListN.{length-set}
 use native.Mathlib.Omega.{arith}
 use borrow.Author.Needs.{needs}
-use Rattle.visiting.proofs.meet_row.Statement.{statement}
-use Rattle.visiting.proofs.meet_row.Tie as tie
+use Rattle.meeting.proofs.meet_row.Statement.{statement}
+use Rattle.meeting.proofs.meet_row.Tie as tie
 
 mul-queue : tie.Need-mul-queue
 mul-queue c = search needs

@@ -1,8 +1,8 @@
--- `visiting::next_link` meets its contract, by its test. Assumes nothing.
+-- `neighbours::next_link` meets its contract, by its test. Assumes nothing.
 use Rattle.walk.specs.Links.{next-own, next-far}
 use borrow.Author.Needs.{needs}
-use Rattle.visiting.proofs.next_link.Statement.{statement}
-use Rattle.visiting.proofs.next_link.Tie as tie
+use Rattle.neighbours.proofs.next_link.Statement.{statement}
+use Rattle.neighbours.proofs.next_link.Tie as tie
 
 sub-i : tie.Need-sub-i
 sub-i c = search needs

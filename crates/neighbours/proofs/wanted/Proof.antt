@@ -1,9 +1,9 @@
--- `visiting::wanted` meets its contract, by its test. Assumes nothing.
-use Rattle.visiting.proofs.Visiting.{run-index, want-not, want-yes}
+-- `neighbours::wanted` meets its contract, by its test. Assumes nothing.
+use Rattle.neighbours.proofs.Across.{run-index, want-not, want-yes}
 use native.Mathlib.Omega.{arith}
 use borrow.Author.Needs.{needs}
-use Rattle.visiting.proofs.wanted.Statement.{statement}
-use Rattle.visiting.proofs.wanted.Tie as tie
+use Rattle.neighbours.proofs.wanted.Statement.{statement}
+use Rattle.neighbours.proofs.wanted.Tie as tie
 
 mul-runs : tie.Need-mul-runs
 mul-runs c = search needs

@@ -1,8 +1,8 @@
--- `visiting::other_row` meets its contract, by its test. Assumes nothing.
-use Rattle.visiting.proofs.Visiting.{other-far, other-own}
+-- `neighbours::other_row` meets its contract, by its test. Assumes nothing.
+use Rattle.neighbours.proofs.Across.{other-far, other-own}
 use borrow.Author.Needs.{needs}
-use Rattle.visiting.proofs.other_row.Statement.{statement}
-use Rattle.visiting.proofs.other_row.Tie as tie
+use Rattle.neighbours.proofs.other_row.Statement.{statement}
+use Rattle.neighbours.proofs.other_row.Tie as tie
 
 add-a : tie.Need-add-a
 add-a c = search needs

@@ -1,10 +1,10 @@
--- `visiting::start_group` meets its contract: an empty queue with one row more. Assumes nothing.
-use Rattle.visiting.proofs.Meeting.{started}
+-- `meeting::start_group` meets its contract: an empty queue with one row more. Assumes nothing.
+use Rattle.meeting.proofs.Meeting.{started}
 use lib.ListN.{length-set}
 use native.Mathlib.Omega.{arith}
 use borrow.Author.Needs.{needs}
-use Rattle.visiting.proofs.start_group.Statement.{statement}
-use Rattle.visiting.proofs.start_group.Tie as tie
+use Rattle.meeting.proofs.start_group.Statement.{statement}
+use Rattle.meeting.proofs.start_group.Tie as tie
 
 mul-queue : tie.Need-mul-queue
 mul-queue c = search needs
