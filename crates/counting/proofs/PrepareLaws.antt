@@ -9,7 +9,7 @@ use Rattle.lists.specs.Stretches.{front-less, rest-less}
 use Rattle.points.specs.Rule.{names}
 use Rattle.points.specs.Points.{key}
 use Rattle.body.specs.Body.{rowsOf}
-use Rattle.projection.specs.Beyond.{Beyond}
+use Rattle.sag.specs.Beyond.{Beyond}
 use Rattle.loose.specs.Listed.{bodyVertices, Gathered}
 use Rattle.loose.specs.Open.{Marked, bodyUses, flagOf}
 use Rattle.counting.specs.Prepared.{Prepared}

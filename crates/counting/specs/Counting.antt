@@ -10,7 +10,7 @@ use lib.Ieee.{Float}
 use Rattle.lists.specs.Lists.{sumOf}
 use Rattle.body.specs.Body.{trianglesOf, rowsOf, allVertices, allIndices}
 use Rattle.body.specs.Rows.{WholeRows, rowAt, indicesBefore}
-use Rattle.projection.specs.Beyond.{Beyond}
+use Rattle.sag.specs.Beyond.{Beyond}
 use Rattle.loose.specs.Listed.{Listed, CornerAt}
 use Rattle.splits.specs.declared.sides.Sides.{Sides}
 use Rattle.splits.specs.Entries.{entriesIn}

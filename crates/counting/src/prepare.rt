@@ -20,7 +20,7 @@ pub fn prepare(
     let n = indices.len();
     let list = 4 * v + 4 * m;
     let flags = list + 3 * n;
-    let beyond = projection::beyond_of(sag);
+    let beyond = sag::beyond_of(sag);
     open_edges::mark_open(rows, positions, indices, w, v, m);
     let count = gathering::gather_loose(rows, indices, w, v, list, flags);
     Finder {

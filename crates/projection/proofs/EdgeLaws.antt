@@ -1,19 +1,10 @@
--- An edge and where a point projects into it, as the code makes them. Assumes nothing.
-use mathlib.Core.Path.{_≡_, refl, sym, ap, _∙_}
-use mathlib.Core.Bool.{Bool, true, false, not, _&&_, cond}
-use mathlib.Core.Option.{Option, none, some}
-use lib.Ieee.{Float, lt, eq}
+-- An edge as the code makes it. Assumes nothing.
+use mathlib.Core.Path.{_≡_, ap, _∙_}
+use lib.Ieee.{Float}
 use Rattle.geometry.specs.declared.Vec3.{Vec3}
-use Rattle.geometry.specs.Geometry.{div, subV, scale, dot, lengthV, zero64}
+use Rattle.geometry.specs.Geometry.{subV, dot}
 use Rattle.projection.specs.declared.Edge.{Edge}
-use Rattle.projection.specs.declared.Hit.{Hit}
-use Rattle.projection.specs.declared.feet.Foot.{Foot}
-use Rattle.projection.specs.declared.feet.Footing.{Footing}
-use Rattle.projection.specs.declared.feet.Footing.the-variants as Footing
-use Rattle.projection.specs.declared.feet.Projection.{Projection}
-use Rattle.projection.specs.declared.feet.Projection.the-variants as Projection
-use Rattle.projection.specs.Projection.{near-end, far-end, edgeOf, project}
-use Rattle.projection.specs.Answers.{footing, projected}
+use Rattle.projection.specs.Projection.{edgeOf}
 
 -- the edge from p along d
 abbrev edgeAlong : Vec3 → Vec3 → Float → Edge
@@ -23,76 +14,3 @@ edgeAlong p d e = record { start = p; along = d; squared = e }
 pub edge-is : (p q : Vec3) {d : Vec3} {e : Float} → d ≡ subV q p → e ≡ dot d d → edgeAlong p d e ≡ edgeOf p q
 unfolding edgeOf
 edge-is p q {d} f g = ap (edgeAlong p d) g ∙ ap (λ (d : Vec3). edgeAlong p d (dot d d)) f
-
--- the test of a parameter
-abbrev between : Edge → Float → Bool
-between s t = not (eq (s .squared) zero64) && lt near-end t && lt t far-end
-
--- the foot for a way w from the start whose product with the edge is d
-abbrev footTo : Edge → Vec3 → Float → Foot
-footTo s w d = let t = div d (s .squared) in record { t = t; off = subV w (scale (s .along) t) }
-
--- the footing there
-abbrev footAt : Edge → Vec3 → Float → Footing
-footAt s w d = cond (between s (div d (s .squared))) (Footing.Inside (footTo s w d)) Footing.Outside
-
-module _ (s : Edge) (r : Vec3) where
-  -- an edge without length has no footing
-  pub foot-none : eq (s .squared) zero64 ≡ true → Footing.Outside ≡ footing s r
-  unfolding footing
-  foot-none h = rw h
-
-  module _ (h : eq (s .squared) zero64 ≡ false) {w : Vec3} {d : Float} (e : w ≡ subV r (s .start)) (f : d ≡ dot w (s .along)) where
-    -- the footing of the way and the product that the code makes
-    foot-at : footAt s w d ≡ footing s r
-    unfolding footing
-    foot-at = ap (footAt s w) f ∙ ap (λ (w : Vec3). footAt s w (dot w (s .along))) e
-
-    -- the parameter isn't above 1e-6
-    pub foot-near : lt near-end (div d (s .squared)) ≡ false → Footing.Outside ≡ footing s r
-    foot-near k = (rw (h, k)) ∙ foot-at
-
-    -- the parameter isn't below 1 − 1e-6
-    pub foot-far : lt near-end (div d (s .squared)) ≡ true → lt (div d (s .squared)) far-end ≡ false → Footing.Outside ≡ footing s r
-    foot-far k l = (rw (h, k, l)) ∙ foot-at
-
-    -- the parameter is between them
-    pub foot-inside : {u o : Vec3} → lt near-end (div d (s .squared)) ≡ true → lt (div d (s .squared)) far-end ≡ true → u ≡ scale (s .along) (div d (s .squared)) → o ≡ subV w u
-        → Footing.Inside (record { t = div d (s .squared); off = o }) ≡ footing s r
-    foot-inside k l p q = ap (inside (div d (s .squared))) (q ∙ ap (subV w) p) ∙ (rw (h, k, l)) ∙ foot-at
-      where
-        inside : Float → Vec3 → Footing
-        inside t o = Footing.Inside (record { t = t; off = o })
-
--- ---- the hit at a footing
-
--- the hit at a footing, if there is one
-abbrev pub hitOf : Footing → Option Hit
-hitOf Footing.Outside = none
-hitOf (Footing.Inside f) = some (record { t = f .t; distance = lengthV (f .off) })
-
-module _ (s : Edge) (r : Vec3) where
-  -- the definition's hit is that at the footing
-  pub hit-foot : hitOf (footing s r) ≡ project s r
-  unfolding footing project
-  hit-foot =
-      let w = subV r (s .start) in
-      let d = dot w (s .along) in
-      go (footTo s w d) (between s (div d (s .squared)))
-    where
-      go : (f : Foot) (b : Bool) → hitOf (cond b (Footing.Inside f) Footing.Outside) ≡ cond b (some (record { t = f .t; distance = lengthV (f .off) })) none
-      go f true = refl
-      go f false = refl
-
-  module _ {o : Footing} (e : o ≡ footing s r) where
-    -- the answer is that at the footing
-    answer-foot : projected (hitOf o) ≡ projected (project s r)
-    answer-foot = ap (λ (o : Footing). projected (hitOf o)) e ∙ ap projected hit-foot
-
-    -- no footing has no hit
-    pub project-outside : o ≡ Footing.Outside → Projection.Outside ≡ projected (project s r)
-    project-outside f = ap (λ (o : Footing). projected (hitOf o)) (sym f) ∙ answer-foot
-
-    -- a footing's hit has the length of the way from the projection
-    pub project-inside : (f : Foot) {d : Float} → o ≡ Footing.Inside f → d ≡ lengthV (f .off) → Projection.Inside (record { t = f .t; distance = d }) ≡ projected (project s r)
-    project-inside f g h = ap (λ (d : Float). Projection.Inside (record { t = f .t; distance = d })) h ∙ ap (λ (o : Footing). projected (hitOf o)) (sym g) ∙ answer-foot

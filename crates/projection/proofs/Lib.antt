@@ -1,5 +1,2 @@
--- Laws that the proofs of this crate cite.
-mod EdgeLaws
-mod SignLaws
-mod SagLaws
-mod MixLaws
+-- The laws that the proofs of this crate cite, by subject.
+pub mod EdgeLaws

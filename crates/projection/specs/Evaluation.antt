@@ -3,9 +3,8 @@ use Prim.Native.Nat.{ℕ}
 use Rattle.narrowing.specs.Evaluation as Narrowing
 use Rattle.geometry.specs.Evaluation as Geometry
 use Rattle.projection.specs.Projection.{near-end, far-end, edgeOf, project, withinSag, least-length, mixed}
-use Rattle.projection.specs.Answers.{footing}
 
 -- every definition that computes
 unfoldable pub evaluation : ℕ
-unfolding Narrowing.evaluation Geometry.evaluation near-end far-end edgeOf project withinSag least-length mixed footing
+unfolding Narrowing.evaluation Geometry.evaluation near-end far-end edgeOf project withinSag least-length mixed
 evaluation = 0

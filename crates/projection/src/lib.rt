@@ -1,17 +1,6 @@
-// Where a point projects on an edge, whether it is near enough to split it, and the normal mixed there.
+// Edges and hits on them, and an edge made; where a point projects, when it is within the sag and how normals are mixed is defined in specs/.
 
-mod feet;
-mod mixing;
-mod sag;
-
-pub use feet::Projection;
-pub use feet::project;
 use geometry::Vec3;
-pub use mixing::Normal;
-pub use mixing::mixed_normal;
-pub use sag::beyond_of;
-pub use sag::may_hit;
-pub use sag::within_sag;
 ghost use mathlib.Core.Path.{_≡_};
 ghost use Rattle.projection.specs.Projection.{edgeOf};
 

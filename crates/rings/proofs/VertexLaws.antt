@@ -11,8 +11,8 @@ use Rattle.floats.specs.Floats.{f64}
 use Rattle.geometry.specs.declared.Vec3.{Vec3}
 use Rattle.geometry.specs.Geometry.{vertexAt, pointAt}
 use Rattle.patch_volume.specs.Volume.{Corners}
-use Rattle.projection.specs.declared.mixing.Normal.{Normal}
-use Rattle.projection.specs.Answers.{normalOf}
+use Rattle.mixing.specs.declared.Normal.{Normal}
+use Rattle.mixing.specs.Answers.{normalOf}
 use Rattle.projection.specs.Projection.{mixed}
 use Rattle.splits.specs.Entries.{Entry, entriesIn, entriesOf, entryAt, entries-more}
 use Rattle.rings.specs.Rings.{coordinatesAt, newPositions, newNormals, startOf, endOf}

@@ -8,9 +8,9 @@ use lib.Ieee.{lt}
 use Rattle.geometry.specs.declared.Vec3.{Vec3}
 use Rattle.projection.specs.declared.Edge.{Edge}
 use Rattle.projection.specs.declared.Hit.{Hit}
-use Rattle.projection.specs.declared.feet.Projection.{Projection}
-use Rattle.projection.specs.declared.feet.Projection.the-variants.{Outside, Inside}
-use Rattle.projection.specs.Answers.{projected}
+use Rattle.feet.specs.declared.Projection.{Projection}
+use Rattle.feet.specs.declared.Projection.the-variants.{Outside, Inside}
+use Rattle.feet.specs.Answers.{projected}
 use Rattle.projection.specs.Projection.{project}
 use Rattle.splitting.specs.declared.placing.Placing.{Placing}
 use Rattle.splitting.specs.declared.placing.Place.{Place}

@@ -15,7 +15,7 @@ use Rattle.geometry.specs.Geometry.{vertexAt, pointAt}
 use Rattle.projection.specs.declared.Hit.{Hit}
 use Rattle.projection.specs.declared.Edge.{Edge}
 use Rattle.projection.specs.Projection.{project, withinSag}
-use Rattle.projection.specs.Beyond.{Ruled}
+use Rattle.sag.specs.Beyond.{Ruled}
 use Rattle.loose.specs.Listed.{NameAt, listed-kept}
 use Rattle.splitting.specs.declared.placing.Placing.{Placing}
 use Rattle.splitting.specs.declared.placing.Place.{Place}

@@ -8,7 +8,7 @@ use Prim.Native.Nat.{ℕ, _+_, _*_, _<_, _≤_}
 use lib.ListN.{length, getD, take, drop}
 use lib.Ieee.{Float}
 use Rattle.geometry.specs.Geometry.{pointAt}
-use Rattle.projection.specs.Beyond.{Beyond}
+use Rattle.sag.specs.Beyond.{Beyond}
 use Rattle.loose.specs.Listed.{Listed}
 use Rattle.splits.specs.declared.sides.Sides.{Sides}
 use Rattle.splits.specs.Entries.{entriesIn}

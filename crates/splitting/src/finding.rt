@@ -4,7 +4,7 @@ use geometry::Vec3;
 use splits::Sides;
 use splits::TriangleEdge;
 ghost use mathlib.Core.Path.{_≡_};
-ghost use Rattle.projection.specs.Beyond.{Beyond};
+ghost use Rattle.sag.specs.Beyond.{Beyond};
 ghost use Rattle.splits.specs.Found.{counts, foundOnly};
 ghost use Rattle.splitting.specs.Finding.{FindReady};
 
@@ -15,7 +15,7 @@ fn counts_for(s: TriangleEdge, name: u64, r: Vec3, sag: f64, beyond: f64) -> boo
 {
     let apart = s.opens & (name != s.start) & (name != s.end);
     if apart {
-        return projection::within_sag(s.edge, r, sag, beyond);
+        return sag::within_sag(s.edge, r, sag, beyond);
     }
     false
 }

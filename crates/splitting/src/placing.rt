@@ -1,8 +1,8 @@
 // A point placed on the nearest of a triangle's edges that it projects into.
 
+use feet::Projection;
 use geometry::Vec3;
 use projection::Hit;
-use projection::Projection;
 use splits::Sides;
 ghost use mathlib.Core.Path.{_≡_};
 ghost use mathlib.Core.Option.{some};
@@ -47,7 +47,7 @@ fn nearer_hit(best: Place, e: u64, h: Hit) -> Place
 fn nearer(best: Place, e: u64, edge: projection::Edge, r: Vec3) -> Place
     ensures { λ o. ⌜ o ≡ placeAs (nearerSpot (spotAs best) e (project edge r)) ⌝ }
 {
-    match projection::project(edge, r) {
+    match feet::project(edge, r) {
         Projection::Outside => best,
         Projection::Inside(h) => nearer_hit(best, e, h),
     }

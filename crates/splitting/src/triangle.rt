@@ -13,7 +13,7 @@ ghost use mathlib.Core.Path.{_≡_};
 ghost use Prim.Native.Nat.{_+_};
 ghost use lib.ListN.{getD};
 ghost use Rattle.geometry.specs.Geometry.{pointAt};
-ghost use Rattle.projection.specs.Beyond.{Ruled};
+ghost use Rattle.sag.specs.Beyond.{Ruled};
 ghost use Rattle.loose.specs.Listed.{NameAt};
 ghost use Rattle.splitting.specs.Triangle.{PointReady, TryReady, Tried, FindOn, FoundAll, Splittable, Split};
 
@@ -38,7 +38,7 @@ fn may_split(positions: &[f32], w: &[u64], s: Edge, f: Finder, j: usize) -> bool
 {
     let g = listed(w, f.v, f.list, f.count, j);
     let r = geometry::vertex(positions, 3 * g);
-    projection::may_hit(s, r, f.beyond)
+    sag::may_hit(s, r, f.beyond)
 }
 
 // Vertex j of the list is tried on edge e: if it is found there it is counted, and if it is placed it goes among the entries.

@@ -1,0 +1,2 @@
+-- The answer of this crate as a value of the code.
+pub mod Answers

@@ -1,0 +1,2 @@
+-- What a squared distance beyond the sag rules out.
+pub mod Beyond
