@@ -12,10 +12,10 @@ use Rattle.geometry.specs.declared.Aabb.{Aabb}
 use Rattle.alone.specs.declared.alone.Measured.the-variants as Measure
 use Rattle.alone.specs.declared.alone.Judged.the-variants as Judge
 use Rattle.alone.specs.Answers.{answerOr, measuredOf, judgedOf}
-use Rattle.patch_volume.specs.Volume.{Within, patchVolume}
+use Rattle.measures.specs.Volume.{Within, patchVolume}
 use Rattle.geometry.specs.Geometry.{zero64}
 use Rattle.alone.specs.Alone.{alone, volumeAlone, farthestAlone, escapesAlone}
-use Rattle.reach.specs.Reach.{farthest, escapesBody}
+use Rattle.measures.specs.Reach.{farthest, escapesBody}
 
 module _ (ps ns : List Float) (is : List ℕ) {n : ℕ} (e : n ≡ firstFailing (loneChecks ps ns is)) where
   -- the checks have passed: each index is of a vertex

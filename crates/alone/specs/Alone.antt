@@ -8,8 +8,8 @@ use Rattle.body.specs.Body.{firstFailing}
 use Rattle.checks.specs.BodyChecks.{loneChecks}
 use Rattle.geometry.specs.declared.Aabb.{Aabb}
 use Rattle.geometry.specs.Geometry.{zero64}
-use Rattle.patch_volume.specs.Volume.{patchVolume}
-use Rattle.reach.specs.Reach.{farthest, escapesBody}
+use Rattle.measures.specs.Volume.{patchVolume}
+use Rattle.measures.specs.Reach.{farthest, escapesBody}
 
 -- the refusal's number or 0, and the answer
 pub record Alone (A : Type 0) : Type 0 where

@@ -1,11 +1,10 @@
 -- A claim that says `unfolding evaluation` has every definition of this crate and of those below it computed. Assumes nothing.
 use Prim.Native.Nat.{ℕ}
+use Rattle.measures.specs.Evaluation as Measures
 use Rattle.checks.specs.Evaluation as Checks
-use Rattle.patch_volume.specs.Evaluation as Volume
-use Rattle.reach.specs.Evaluation as Reach
 use Rattle.alone.specs.Alone.{alone, volumeAlone, farthestAlone, escapesAlone}
 
 -- every definition that computes
 unfoldable pub evaluation : ℕ
-unfolding Checks.evaluation Volume.evaluation Reach.evaluation alone volumeAlone farthestAlone escapesAlone
+unfolding Checks.evaluation Measures.evaluation alone volumeAlone farthestAlone escapesAlone
 evaluation = 0

@@ -16,8 +16,8 @@ use Rattle.alone.specs.declared.alone.Measured.the-variants as Measure
 use Rattle.alone.specs.declared.alone.Judged.the-variants as Judge
 use Rattle.geometry.specs.Geometry.{zero64}
 use Rattle.alone.specs.Alone.{Alone, alone, volumeAlone, farthestAlone, escapesAlone}
-use Rattle.patch_volume.specs.Volume.{patchVolume}
-use Rattle.reach.specs.Reach.{farthest, escapesBody}
+use Rattle.measures.specs.Volume.{patchVolume}
+use Rattle.measures.specs.Reach.{farthest, escapesBody}
 use Rattle.alone.specs.Answers.{answerOr, measuredOf, judgedOf, measuredAs, judgedAs}
 use Rattle.cad_answers.specs.declared.patch.CadMeasured.{CadMeasured}
 use Rattle.cad_answers.specs.declared.patch.CadJudged.{CadJudged}

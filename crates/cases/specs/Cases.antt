@@ -15,8 +15,8 @@ use Rattle.points.specs.Points.{cell, pattern}
 use Rattle.body.specs.Body.{rowsOf, patchesOf}
 use Rattle.body.specs.Given.{Given, givenTable, givenPositions, givenIndices, K6, K6-reversed, K7, K8}
 use Rattle.geometry.specs.Geometry.{zero64}
-use Rattle.patch_volume.specs.Volume.{patchVolume}
-use Rattle.reach.specs.Reach.{escapesBody}
+use Rattle.measures.specs.Volume.{patchVolume}
+use Rattle.measures.specs.Reach.{escapesBody}
 use Rattle.geometry.specs.Given.{box68, onePoint, vertex}
 use Rattle.orient.specs.Claims.{turnGiven}
 use Rattle.stitch.specs.Claims.{roomy, stitchGiven}

@@ -10,7 +10,7 @@ use lib.Ieee.{Float, lt}
 use Rattle.lists.specs.Lists.{sumOf}
 use Rattle.body.specs.Body.{Row, Patch, patchesOf}
 use Rattle.geometry.specs.Geometry.{add, zero64}
-use Rattle.patch_volume.specs.Volume.{patchVolume}
+use Rattle.measures.specs.Volume.{patchVolume}
 use Rattle.walk.specs.Walk.{Pair, unvisited, plain, coloured, Walk, walk, inverted}
 use Rattle.groups.specs.Groups.{Group, Walks, addGroup, walksFrom}
 use Rattle.inversion.specs.Inversion.{patchAt, volumeFrom, indicesOn, inverts}

@@ -13,7 +13,7 @@ use Rattle.body.specs.Patches.{shapes}
 use Rattle.lists.specs.Lists.{sumOf}
 use Rattle.body.specs.Body.{Patch, rowsOf}
 use Rattle.body.specs.Rows.{rowAt, verticesBefore, indicesBefore}
-use Rattle.patch_volume.specs.Volume.{Within, patchVolume}
+use Rattle.measures.specs.Volume.{Within, patchVolume}
 use Rattle.geometry.specs.Geometry.{add, zero64}
 use Rattle.walk.specs.Walk.{unvisited}
 use Rattle.walk.specs.Group.{queueOf, Queue}

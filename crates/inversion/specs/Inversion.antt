@@ -8,7 +8,7 @@ use lib.Ieee.{Float, lt}
 use Rattle.lists.specs.Lists.{sumOf}
 use Rattle.body.specs.Body.{Patch}
 use Rattle.geometry.specs.Geometry.{add, zero64}
-use Rattle.patch_volume.specs.Volume.{patchVolume}
+use Rattle.measures.specs.Volume.{patchVolume}
 use Rattle.walk.specs.Walk.{unvisited, plain, coloured}
 
 -- the patch of row n

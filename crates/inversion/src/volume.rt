@@ -3,7 +3,7 @@
 ghost use mathlib.Core.Path.{_≡_};
 ghost use Rattle.body.specs.Patches.{shapes};
 ghost use Rattle.lists.specs.Lists.{sumOf};
-ghost use Rattle.patch_volume.specs.Volume.{patchVolume};
+ghost use Rattle.measures.specs.Volume.{patchVolume};
 ghost use Rattle.geometry.specs.Geometry.{zero64};
 ghost use Rattle.walk.specs.Group.{queueOf, coloursOf};
 ghost use Rattle.inversion.specs.Inversion.{patchAt, volumeFrom, inverts};

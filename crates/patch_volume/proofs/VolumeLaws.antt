@@ -10,7 +10,7 @@ use lib.Seq.{drop-cons}
 use lib.Ieee.{Float}
 use Rattle.geometry.specs.declared.Vec3.{Vec3}
 use Rattle.body.specs.Body.{trianglesOf}
-use Rattle.patch_volume.specs.Volume.{det, triangleVolume, sumVolumes, patchVolume, Within, Corners}
+use Rattle.measures.specs.Volume.{det, triangleVolume, sumVolumes, patchVolume, Within, Corners}
 use Rattle.geometry.specs.Geometry.{pointAt, add, div, zero64, six64}
 
 -- the triangle at k, and those behind it

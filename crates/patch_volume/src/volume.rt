@@ -4,7 +4,7 @@ use geometry::Vec3;
 use geometry::point;
 ghost use mathlib.Core.Path.{_≡_};
 ghost use Prim.Native.Nat.{_+_, _*_};
-ghost use Rattle.patch_volume.specs.Volume.{Corners, Within, det, patchVolume, triangleVolume};
+ghost use Rattle.measures.specs.Volume.{Corners, Within, det, patchVolume, triangleVolume};
 ghost use Rattle.geometry.specs.Geometry.{pointAt};
 
 // The determinant of three points, left to right.

@@ -17,7 +17,7 @@ use Rattle.roots.specs.RootLarger.{root-larger}
 use Rattle.geometry.specs.declared.Vec3.{Vec3}
 use Rattle.geometry.specs.declared.Aabb.{Aabb}
 use Rattle.geometry.specs.Geometry.{add, mul, zero64, zeroV, pickV, subV, dot, lengthV, vertexAt, isEmpty, centre, centreOf, diagonal}
-use Rattle.reach.specs.Reach.{squareAt, reachFrom, farthest, escapesBody}
+use Rattle.measures.specs.Reach.{squareAt, reachFrom, farthest, escapesBody}
 
 -- the square of a vertex's distance from its difference
 pub square-is : (ps : List Float) (k : ℕ) (c : Vec3) {p d : Vec3} {r : Float} → p ≡ vertexAt ps k → d ≡ subV p c → r ≡ dot d d → r ≡ squareAt ps k c

@@ -6,7 +6,7 @@ use geometry::vertex;
 ghost use mathlib.Core.Path.{_≡_};
 ghost use Prim.Native.Nat.{_+_, _<_};
 ghost use lib.ListN.{length};
-ghost use Rattle.reach.specs.Reach.{escapesBody, farthest, reachFrom, squareAt};
+ghost use Rattle.measures.specs.Reach.{escapesBody, farthest, reachFrom, squareAt};
 ghost use Rattle.geometry.specs.Geometry.{zero64};
 
 // The square of how far the vertex whose coordinates start at k is from c.

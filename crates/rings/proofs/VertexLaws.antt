@@ -10,7 +10,7 @@ use Rattle.lists.specs.Sets.{sets-append}
 use Rattle.floats.specs.Floats.{f64}
 use Rattle.geometry.specs.declared.Vec3.{Vec3}
 use Rattle.geometry.specs.Geometry.{vertexAt, pointAt}
-use Rattle.patch_volume.specs.Volume.{Corners}
+use Rattle.measures.specs.Volume.{Corners}
 use Rattle.mixing.specs.declared.Normal.{Normal}
 use Rattle.mixing.specs.Answers.{normalOf}
 use Rattle.projection.specs.Projection.{mixed}

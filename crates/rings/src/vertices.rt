@@ -11,7 +11,7 @@ ghost use Prim.Native.Nat.{_+_, _%_, _<_, _≤_};
 ghost use lib.ListN.{length, getD};
 ghost use lib.Seq.{sets};
 ghost use Rattle.geometry.specs.Geometry.{pointAt};
-ghost use Rattle.patch_volume.specs.Volume.{Corners};
+ghost use Rattle.measures.specs.Volume.{Corners};
 ghost use Rattle.projection.specs.Projection.{mixed};
 ghost use Rattle.mixing.specs.Answers.{normalOf};
 ghost use Rattle.splits.specs.Entries.{entriesIn};

@@ -9,7 +9,7 @@ use lib.ListN.{length}
 use lib.Ieee.{Float, lt}
 use Rattle.geometry.specs.declared.Aabb.{Aabb}
 use Rattle.geometry.specs.Geometry.{isEmpty, diagonal, zero64}
-use Rattle.reach.specs.Reach.{farthest, escapesBody}
+use Rattle.measures.specs.Reach.{farthest, escapesBody}
 use Rattle.verdicts.specs.declared.Failure.{Failure}
 use Rattle.verdicts.specs.declared.Failure.the-variants.{Empty, Upstream, Escape}
 use Rattle.verdicts.specs.Failures.{escapeOf, failureBy}

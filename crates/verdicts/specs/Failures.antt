@@ -8,7 +8,7 @@ use lib.Dec.{eqb}
 use lib.Ieee.{Float}
 use Rattle.body.specs.Body.{Patch}
 use Rattle.geometry.specs.declared.Aabb.{Aabb}
-use Rattle.reach.specs.Reach.{farthest, escapesBody}
+use Rattle.measures.specs.Reach.{farthest, escapesBody}
 use Rattle.geometry.specs.Geometry.{diagonal}
 use Rattle.verdicts.specs.declared.Failure.{Failure}
 use Rattle.verdicts.specs.declared.Failure.the-variants.{Empty, Upstream, Escape}

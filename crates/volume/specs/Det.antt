@@ -18,7 +18,7 @@ use Rattle.rounding.specs.Approx.{turnP}
 use Rattle.rounding.specs.Tri.{Coord, Diff, sg, sz, point, times, minusD, plusD, triple, det, det64, det-approx, det-size, Fine, sixteenth}
 use Rattle.rounding.specs.Sum.{Determinant}
 use Rattle.geometry.specs.Geometry as G
-use Rattle.patch_volume.specs.Volume as Volume
+use Rattle.measures.specs.Volume as Volume
 use Rattle.volume.specs.Exact.{wholeOf, isWhole, wholeAt, exactDet}
 use Rattle.volume.specs.Ints.{Is, is-pos, is-neg, is-add, is-sub, is-mul}
 

@@ -8,7 +8,7 @@ use lib.Dec.{T, leb, eqb}
 use lib.Ieee.{Float, nan, inf, fin, up, down, fits, binary32}
 use Rattle.points.specs.Points.{sameℤ}
 use Rattle.body.specs.Body.{Patch, Triangle, trianglesOf}
-use Rattle.patch_volume.specs.Volume.{reversed}
+use Rattle.measures.specs.Volume.{reversed}
 use Rattle.groups.specs.Groups.{Group}
 use Rattle.inversion.specs.Inversion.{patchAt}
 use Rattle.walk.specs.Walk.{coloured}

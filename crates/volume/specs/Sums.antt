@@ -16,7 +16,7 @@ use Rattle.rounding.specs.Sum.{Determinant, Patch, Part, Total, sum-zero, patch
 use Rattle.body.specs.Body as Body
 use Rattle.body.specs.Body.{Triangle, trianglesOf}
 use Rattle.geometry.specs.Geometry as G
-use Rattle.patch_volume.specs.Volume.{sumVolumes, patchVolume, triangleVolume, reversed}
+use Rattle.measures.specs.Volume.{sumVolumes, patchVolume, triangleVolume, reversed}
 use Rattle.geometry.specs.Geometry.{zero64, six64}
 use Rattle.inversion.specs.Inversion.{patchAt, volumeFrom}
 use Rattle.walk.specs.Walk.{coloured, unvisited}

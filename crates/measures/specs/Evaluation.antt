@@ -2,9 +2,10 @@
 use Prim.Native.Nat.{ℕ}
 use Rattle.body.specs.Evaluation as Body
 use Rattle.geometry.specs.Evaluation as Geometry
-use Rattle.patch_volume.specs.Volume.{sumVolumes, patchVolume}
+use Rattle.measures.specs.Volume.{sumVolumes, patchVolume}
+use Rattle.measures.specs.Reach.{reachFrom, farthest, escapesBody}
 
 -- every definition that computes
 unfoldable pub evaluation : ℕ
-unfolding Body.evaluation Geometry.evaluation sumVolumes patchVolume
+unfolding Body.evaluation Geometry.evaluation sumVolumes patchVolume reachFrom farthest escapesBody
 evaluation = 0
