@@ -6,7 +6,7 @@ use Prim.Native.Nat.{ℕ}
 use lib.Ieee.{Float}
 use borrow.Author.Tests.{ne-eqb}
 use Rattle.body.specs.Body.{firstFailing}
-use Rattle.checks.specs.BodyChecks.{loneChecks}
+use Rattle.refusals.specs.BodyChecks.{loneChecks}
 use Rattle.checks.specs.Accepted.{passed-alone}
 use Rattle.geometry.specs.declared.Aabb.{Aabb}
 use Rattle.alone.specs.declared.alone.Measured.the-variants as Measure

@@ -5,7 +5,7 @@ use Prim.Native.Nat.{ℕ}
 use lib.Dec.{eqb}
 use lib.Ieee.{Float}
 use Rattle.body.specs.Body.{firstFailing}
-use Rattle.checks.specs.BodyChecks.{loneChecks}
+use Rattle.refusals.specs.BodyChecks.{loneChecks}
 use Rattle.geometry.specs.declared.Aabb.{Aabb}
 use Rattle.geometry.specs.Geometry.{zero64}
 use Rattle.measures.specs.Volume.{patchVolume}

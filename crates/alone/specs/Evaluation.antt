@@ -1,7 +1,7 @@
 -- A claim that says `unfolding evaluation` has every definition of this crate and of those below it computed. Assumes nothing.
 use Prim.Native.Nat.{ℕ}
 use Rattle.measures.specs.Evaluation as Measures
-use Rattle.checks.specs.Evaluation as Checks
+use Rattle.refusals.specs.Evaluation as Checks
 use Rattle.alone.specs.Alone.{alone, volumeAlone, farthestAlone, escapesAlone}
 
 -- every definition that computes

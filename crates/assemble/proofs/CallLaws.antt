@@ -16,7 +16,7 @@ use Rattle.lists.specs.Stretches.{stretch-sets, stretch-at, rest-less}
 use Rattle.points.specs.Points.{bits}
 use Rattle.body.specs.Body.{Row, Patch, rowsOf, patchesOf, allVertices, workNeeded, firstFailing}
 use Rattle.checks.specs.Cleared.{cleared-is}
-use Rattle.checks.specs.BodyChecks.{bodyChecks}
+use Rattle.refusals.specs.BodyChecks.{bodyChecks}
 use Rattle.body.specs.Rows.{Total}
 use Rattle.body.specs.Patches.{noPatch, length-patches, shapes}
 use Rattle.checks.specs.Accepted.{Passed, passed-rows}

@@ -8,7 +8,7 @@ use lib.Ieee.{Float}
 use Rattle.lists.specs.Lists.{written}
 use Rattle.points.specs.Points.{bits}
 use Rattle.body.specs.Body.{Row, rowsOf, patchesOf, firstFailing, cleared}
-use Rattle.checks.specs.BodyChecks.{bodyChecks}
+use Rattle.refusals.specs.BodyChecks.{bodyChecks}
 use Rattle.geometry.specs.declared.Aabb.{Aabb}
 use Rattle.counts.specs.Counts.{Counts, countsOf, closedBy}
 use Rattle.acceptance.specs.Acceptance.{Acceptance, acceptance, acceptedVertices, acceptedIndices, failureNumbers}

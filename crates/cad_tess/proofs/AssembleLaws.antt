@@ -7,7 +7,7 @@ use lib.Dec.{eqb}
 use lib.ListN.{length}
 use lib.Ieee.{Float}
 use Rattle.body.specs.Body.{Row, rowsOf, patchesOf, firstFailing}
-use Rattle.checks.specs.BodyChecks.{bodyChecks}
+use Rattle.refusals.specs.BodyChecks.{bodyChecks}
 use Rattle.geometry.specs.declared.Aabb.{Aabb}
 use Rattle.acceptance.specs.Acceptance.{Acceptance, acceptance}
 use Rattle.assemble.specs.declared.assembling.Assembled.{Assembled}

@@ -8,7 +8,7 @@ use lib.Dec.{eqb}
 use lib.Ieee.{Float}
 use borrow.Author.Tests.{ne-eqb}
 use Rattle.body.specs.Body.{firstFailing}
-use Rattle.checks.specs.BodyChecks.{loneChecks}
+use Rattle.refusals.specs.BodyChecks.{loneChecks}
 use Rattle.geometry.specs.declared.Aabb.{Aabb}
 use Rattle.alone.specs.declared.alone.Measured.{Measured}
 use Rattle.alone.specs.declared.alone.Judged.{Judged}

@@ -8,7 +8,7 @@ use lib.ListN.{length}
 use lib.Ieee.{Float}
 use Rattle.points.specs.Rule.{Rule, names}
 use Rattle.body.specs.Body.{rowsOf, patchesOf, firstFailing}
-use Rattle.checks.specs.BodyChecks.{bodyChecks}
+use Rattle.refusals.specs.BodyChecks.{bodyChecks}
 use Rattle.results.specs.declared.answer.Stitched.{Stitched}
 use Rattle.results.specs.declared.answer.Stitched.the-variants.{Done, Refused}
 use Rattle.results.specs.Slices.{StitchSlices, AfterStitch, stitchChecks, writeBody, refuseStitch, clearedSlices, stitchOrRefuse}

@@ -13,9 +13,9 @@ use Rattle.lists.specs.Any.{any-one}
 use Rattle.table_checks.specs.Tabled.{Tabled, tabled}
 use Rattle.checks.specs.Accepted.{lone-vertices, lone-indices, lone-inside}
 use Rattle.body.specs.Body.{Row, Patch, check, rowsOf, patchesOf, allVertices, allIndices, firstFailing, workNeeded}
-use Rattle.table_checks.specs.TableChecks.{badRow, tooLarge, tableChecks}
-use Rattle.patch_checks.specs.PatchChecks.{badIndices, patchChecks}
-use Rattle.checks.specs.BodyChecks.{bodyChecks, loneTable, loneChecks}
+use Rattle.refusals.specs.TableChecks.{badRow, tooLarge, tableChecks}
+use Rattle.refusals.specs.PatchChecks.{badIndices, patchChecks}
+use Rattle.refusals.specs.BodyChecks.{bodyChecks, loneTable, loneChecks}
 use Rattle.table_checks.specs.TableTests.{notWhole}
 use Rattle.patch_checks.specs.PatchTests.{partTriangle, notFinite, any-indices}
 use Rattle.body.specs.Checks.{numbered, first-here, first-next, first-none, first-stop, first-on}

@@ -14,9 +14,9 @@ use Rattle.floats.specs.Floats.{finite}
 use Rattle.lists.specs.Lists.{any, sumOf}
 use Rattle.lists.specs.Any.{any-none, any-one}
 use Rattle.body.specs.Body.{Row, rowsOf, patchesOf, allVertices, allIndices, firstFailing, workNeeded}
-use Rattle.table_checks.specs.TableChecks.{badRow, tableChecks}
-use Rattle.patch_checks.specs.PatchChecks.{badIndices, patchChecks}
-use Rattle.checks.specs.BodyChecks.{bodyChecks, loneTable, loneChecks}
+use Rattle.refusals.specs.TableChecks.{badRow, tableChecks}
+use Rattle.refusals.specs.PatchChecks.{badIndices, patchChecks}
+use Rattle.refusals.specs.BodyChecks.{bodyChecks, loneTable, loneChecks}
 use Rattle.body.specs.Rows.{rowAt, noRow, indicesBefore, verticesBefore, WholeRows}
 use Rattle.body.specs.Patches.{noPatch, patchFrom, patch-at, length-patches, indices-room, any-row, any-number}
 use Rattle.patch_checks.specs.PatchTests.{partTriangle, notFinite}

@@ -1,6 +1,3 @@
--- The checks of a body and of a patch alone, what a body has once they have passed, its work area cleared, the definitions computed, and bodies at their edges.
-pub mod BodyChecks
+-- What a body has once its checks have passed, and its work area cleared.
 pub mod Accepted
 pub mod Cleared
-pub mod Evaluation
-pub mod Claims

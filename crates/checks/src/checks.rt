@@ -4,7 +4,7 @@ use body::work_needed;
 use patch_checks::patch_failing;
 use table_checks::table_failing;
 ghost use mathlib.Core.Path.{_≡_};
-ghost use Rattle.checks.specs.BodyChecks.{bodyChecks};
+ghost use Rattle.refusals.specs.BodyChecks.{bodyChecks};
 ghost use Rattle.body.specs.Body.{firstFailing};
 
 // The number of the first of the checks 11 to 23 and 31 that fails for a work area of so many words, or 0.

@@ -6,9 +6,9 @@ use table_checks::too_many;
 ghost use mathlib.Core.Path.{_≡_};
 ghost use Rattle.table_checks.specs.Tabled.{Tabled};
 ghost use Rattle.body.specs.Body.{firstFailing, patchesOf, rowsOf};
-ghost use Rattle.checks.specs.BodyChecks.{loneChecks, loneTable};
-ghost use Rattle.patch_checks.specs.PatchChecks.{patchChecks};
-ghost use Rattle.table_checks.specs.TableChecks.{tableChecks};
+ghost use Rattle.refusals.specs.BodyChecks.{loneChecks, loneTable};
+ghost use Rattle.refusals.specs.PatchChecks.{patchChecks};
+ghost use Rattle.refusals.specs.TableChecks.{tableChecks};
 
 // The number of the first of the checks 11 to 14 that fails, or 0: the table is one row of a patch.
 fn lone_table_failing(positions: &[f32], normals: &[f32], indices: &[u32]) -> u32

@@ -18,7 +18,7 @@ use Rattle.points.specs.Points.{key}
 use Rattle.join.specs.Join.{joined}
 use Rattle.body.specs.Body.{rowsOf, patchesOf, allVertices, workNeeded, cleared, firstFailing}
 use Rattle.checks.specs.Cleared.{words-are, cleared-is}
-use Rattle.checks.specs.BodyChecks.{bodyChecks}
+use Rattle.refusals.specs.BodyChecks.{bodyChecks}
 use Rattle.body.specs.Rows.{Total}
 use Rattle.checks.specs.Accepted.{Passed, passed, passed-rows}
 use Rattle.walk.specs.Walk.{coloured}

@@ -1,7 +1,7 @@
 -- A claim that says `unfolding evaluation` has every definition of this crate and of those below it computed. Assumes nothing.
 use Prim.Native.Nat.{ℕ}
 use Rattle.points.specs.Evaluation as Points
-use Rattle.checks.specs.Evaluation as Checks
+use Rattle.refusals.specs.Evaluation as Checks
 use Rattle.pairs.specs.Evaluation as Pairs
 use Rattle.groups.specs.Evaluation as Groups
 use Rattle.reversal.specs.Evaluation as Reversal

@@ -11,7 +11,7 @@ use Rattle.lists.specs.Lists.{countIf}
 use Rattle.points.specs.Rule.{Rule, names}
 use Rattle.join.specs.Join.{joined}
 use Rattle.body.specs.Body.{Row, Patch, rowsOf, patchesOf, firstFailing, cleared}
-use Rattle.checks.specs.BodyChecks.{bodyChecks}
+use Rattle.refusals.specs.BodyChecks.{bodyChecks}
 use Rattle.edges.specs.Edges.{usesFrom}
 use Rattle.pairs.specs.Pairs.{pairsOf}
 use Rattle.walk.specs.Walk.{unvisited, coloured}

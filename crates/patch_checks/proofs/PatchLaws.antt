@@ -13,7 +13,7 @@ use Rattle.lists.specs.Lists.{any}
 use Rattle.lists.specs.Any.{Searched, searched-none, searched-more, searched-hit, searched-all}
 use Rattle.table_checks.specs.Tabled.{Tabled}
 use Rattle.body.specs.Body.{rowsOf, patchesOf}
-use Rattle.patch_checks.specs.PatchChecks.{badIndices}
+use Rattle.refusals.specs.PatchChecks.{badIndices}
 use Rattle.body.specs.Patches.{noPatch, IndicesFit, IndicesOfRow, patch-at, length-patches, indices-first, indices-next, indices-room}
 use Rattle.body.specs.Rows.{rowAt, indicesBefore}
 

@@ -7,7 +7,7 @@ use lib.Ieee.{Float}
 use Rattle.lists.specs.Lists.{any}
 use Rattle.table_checks.specs.Tabled.{Tabled}
 use Rattle.body.specs.Body.{rowsOf, patchesOf, firstFailing}
-use Rattle.patch_checks.specs.PatchChecks.{badIndices, patchChecks}
+use Rattle.refusals.specs.PatchChecks.{badIndices, patchChecks}
 use Rattle.patch_checks.specs.PatchTests.{partTriangle, notFinite, any-indices}
 use Rattle.body.specs.Checks.{first-here, first-next, first-none}
 use Rattle.body.specs.Patches.{any-row, any-number}

@@ -9,7 +9,7 @@ use lib.Dec.{leb, eqb}
 use lib.Ieee.{Float}
 use Rattle.lists.specs.Lists.{any}
 use Rattle.body.specs.Body.{Row, patchesOf}
-use Rattle.patch_checks.specs.PatchChecks.{badIndices}
+use Rattle.refusals.specs.PatchChecks.{badIndices}
 
 -- 21: an index count isn't a multiple of 3
 abbrev pub partTriangle : Row → Bool

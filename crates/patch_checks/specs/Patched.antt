@@ -4,7 +4,7 @@ use mathlib.Core.Bool.{false}
 use mathlib.Core.List.{List, _++_}
 use Rattle.lists.specs.Lists.{any}
 use Rattle.body.specs.Body.{Patch, firstFailing}
-use Rattle.patch_checks.specs.PatchChecks.{badIndices, patchChecks}
+use Rattle.refusals.specs.PatchChecks.{badIndices, patchChecks}
 use Rattle.patch_checks.specs.PatchTests.{partTriangle, notFinite}
 use Rattle.body.specs.Checks.{clear-first}
 

@@ -11,7 +11,7 @@ ghost use lib.ListN.{take, drop};
 ghost use lib.Dec.{leb};
 ghost use Rattle.lists.specs.Lists.{any};
 ghost use Rattle.table_checks.specs.Tabled.{Tabled};
-ghost use Rattle.patch_checks.specs.PatchChecks.{badIndices, patchChecks};
+ghost use Rattle.refusals.specs.PatchChecks.{badIndices, patchChecks};
 ghost use Rattle.body.specs.Body.{firstFailing, patchesOf, rowsOf};
 ghost use Rattle.patch_checks.specs.PatchTests.{notFinite, partTriangle};
 ghost use Rattle.body.specs.Patches.{IndicesFit, IndicesOfRow};

@@ -5,7 +5,7 @@ use mathlib.Core.List.{[]}
 use Prim.Native.Nat.{ℕ, _*_, _≤_, _<_}
 use lib.Dec.{ltb}
 use borrow.Author.Tests.{lt-ltb, le-ltb}
-use Rattle.table_checks.specs.TableChecks.{tooLarge}
+use Rattle.refusals.specs.TableChecks.{tooLarge}
 use Rattle.body.specs.Body.{firstFailing}
 use Rattle.body.specs.Checks.{first-here, first-next, first-none}
 use Rattle.results.specs.Results.{tooShort, resultChecks}

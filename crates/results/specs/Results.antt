@@ -7,7 +7,7 @@ use lib.ListN.{length}
 use lib.Dec.{ltb}
 use borrow.Author.Tests.{ltb-false}
 use Rattle.body.specs.Body.{Row, Check, check, firstFailing, allVertices, allIndices}
-use Rattle.table_checks.specs.TableChecks.{tooLarge}
+use Rattle.refusals.specs.TableChecks.{tooLarge}
 use Rattle.body.specs.Checks.{clear-first}
 use Rattle.lists.specs.Both.{or-left, or-right}
 use Rattle.results.specs.Slices.{StitchSlices, stitchChecks}

@@ -7,7 +7,7 @@ use lib.Dec.{ltb, eqb}
 use lib.Ieee.{Float}
 use Rattle.lists.specs.Lists.{written}
 use Rattle.body.specs.Body.{rowWidth, Row, Check, check, tableOf, firstFailing, allVertices, allIndices, cleared}
-use Rattle.table_checks.specs.TableChecks.{tooLarge}
+use Rattle.refusals.specs.TableChecks.{tooLarge}
 use Rattle.stitched.specs.StitchedBody.{StitchedBody}
 
 -- the slices that stitch is lent

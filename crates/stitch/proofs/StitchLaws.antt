@@ -9,7 +9,7 @@ use borrow.Author.Tests.{eq-eqb, ne-eqb}
 use Rattle.points.specs.Rule.{names}
 use Rattle.points.specs.Points.{key}
 use Rattle.body.specs.Body.{Patch, rowsOf, patchesOf, allVertices, cleared, firstFailing}
-use Rattle.checks.specs.BodyChecks.{bodyChecks}
+use Rattle.refusals.specs.BodyChecks.{bodyChecks}
 use Rattle.body.specs.Rows.{Total}
 use Rattle.checks.specs.Accepted.{Passed}
 use Rattle.checks.specs.Cleared.{cleared-is}

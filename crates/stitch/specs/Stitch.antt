@@ -7,7 +7,7 @@ use lib.Dec.{eqb}
 use lib.Ieee.{Float, lt}
 use Rattle.points.specs.Rule.{Rule, names}
 use Rattle.body.specs.Body.{Patch, rowsOf, patchesOf, firstFailing}
-use Rattle.checks.specs.BodyChecks.{bodyChecks}
+use Rattle.refusals.specs.BodyChecks.{bodyChecks}
 use Rattle.geometry.specs.Geometry.{zero64}
 use Rattle.points.specs.Points.{key}
 use Rattle.stitched.specs.StitchedBody.{StitchedBody, stitchedBody}

@@ -7,7 +7,7 @@ use lib.ListN.{length}
 use lib.Dec.{ltb, eqb}
 use borrow.Author.Tests.{eq-eqb, ne-eqb, lt-ltb, le-ltb}
 use Rattle.body.specs.Body.{Row, rowsOf}
-use Rattle.table_checks.specs.TableChecks.{badRow, tooLarge}
+use Rattle.refusals.specs.TableChecks.{badRow, tooLarge}
 use Rattle.table_checks.specs.TableTests.{notWhole}
 use Rattle.body.specs.Rows.{Total}
 

@@ -9,7 +9,7 @@ use lib.Ieee.{Float}
 use borrow.Author.Tests.{eq-eqb, ne-eqb}
 use Rattle.lists.specs.Lists.{any}
 use Rattle.body.specs.Body.{Row, rowsOf, allVertices, allIndices, firstFailing}
-use Rattle.table_checks.specs.TableChecks.{badRow, tooLarge, tableChecks}
+use Rattle.refusals.specs.TableChecks.{badRow, tooLarge, tableChecks}
 use Rattle.table_checks.specs.TableTests.{notWhole, wrongLengths, whole-rows}
 use Rattle.body.specs.Checks.{first-here, first-next, first-none}
 use Rattle.body.specs.Rows.{Total, WholeRows}

@@ -9,7 +9,7 @@ use lib.Dec.{ltb, eqb}
 use lib.Ieee.{Float}
 use borrow.Author.Tests.{ltb-false, eqb-true, not-false}
 use Rattle.body.specs.Body.{Row, rowsOf, allVertices, allIndices, rowWidth}
-use Rattle.table_checks.specs.TableChecks.{mostRows}
+use Rattle.refusals.specs.TableChecks.{mostRows}
 use Rattle.body.specs.Rows.{WholeRows, length-rows}
 use Rattle.lists.specs.Both.{or-left, or-right}
 

@@ -9,7 +9,7 @@ use lib.Ieee.{Float}
 use borrow.Author.Tests.{ltb-false, eqb-true, not-false}
 use Rattle.lists.specs.Lists.{any}
 use Rattle.body.specs.Body.{rowsOf, allVertices, allIndices, firstFailing}
-use Rattle.table_checks.specs.TableChecks.{badRow, tooLarge, tableChecks}
+use Rattle.refusals.specs.TableChecks.{badRow, tooLarge, tableChecks}
 use Rattle.body.specs.Rows.{WholeRows}
 use Rattle.table_checks.specs.TableTests.{notWhole, wrongLengths, whole-rows}
 use Rattle.body.specs.Checks.{clear-first}

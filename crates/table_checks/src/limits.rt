@@ -1,7 +1,7 @@
 // The sizes that a body may have.
 
 ghost use mathlib.Core.Path.{_≡_};
-ghost use Rattle.table_checks.specs.TableChecks.{tooLarge};
+ghost use Rattle.refusals.specs.TableChecks.{tooLarge};
 
 // The most rows.
 pub const MOST_ROWS: usize = 4096;

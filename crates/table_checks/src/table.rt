@@ -14,7 +14,7 @@ ghost use Prim.Native.Nat.{_<_};
 ghost use lib.ListN.{length};
 ghost use Rattle.lists.specs.Lists.{any};
 ghost use Rattle.body.specs.Body.{allIndices, allVertices, firstFailing, rowsOf};
-ghost use Rattle.table_checks.specs.TableChecks.{badRow, tableChecks, tooLarge};
+ghost use Rattle.refusals.specs.TableChecks.{badRow, tableChecks, tooLarge};
 ghost use Rattle.table_checks.specs.TableTests.{notWhole, wrongLengths};
 ghost use Rattle.body.specs.Rows.{WholeRows, rowAt};
 

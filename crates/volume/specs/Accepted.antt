@@ -17,9 +17,9 @@ use Rattle.floats.specs.Patterns.{test-holds}
 use Rattle.lists.specs.Lists.{any, sumOf}
 use Rattle.lists.specs.Any.{any-none}
 use Rattle.body.specs.Body.{Row, Patch, rowsOf, patchesOf, allVertices, allIndices, firstFailing}
-use Rattle.patch_checks.specs.PatchChecks.{badIndices}
+use Rattle.refusals.specs.PatchChecks.{badIndices}
 use Rattle.patch_checks.specs.PatchTests.{notFinite}
-use Rattle.checks.specs.BodyChecks.{bodyChecks}
+use Rattle.refusals.specs.BodyChecks.{bodyChecks}
 use Rattle.inversion.specs.Inversion.{patchAt}
 use Rattle.orient.specs.Orient.{AfterTurn, refuseTurn, turnOf, turnBody, walksOf}
 use Rattle.points.specs.Rule.{Rule, names}

@@ -12,7 +12,7 @@ use Rattle.lists.specs.Lists.{sumOf}
 use Rattle.points.specs.Rule.{Rule, names}
 use Rattle.join.specs.Join.{joined}
 use Rattle.body.specs.Body.{Row, Patch, rowsOf, patchesOf, allVertices, allIndices, firstFailing}
-use Rattle.checks.specs.BodyChecks.{bodyChecks}
+use Rattle.refusals.specs.BodyChecks.{bodyChecks}
 use Rattle.checks.specs.Accepted.{Clean}
 use Rattle.orient.specs.Orient.{AfterTurn, walksOf, turnBody, refuseTurn, turnOf}
 use Rattle.reversal.specs.Reversal.{swapped, length-swapped, turnedPatch, turnedBody}

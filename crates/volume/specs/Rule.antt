@@ -15,7 +15,7 @@ use Rattle.lists.specs.Any.{any-none}
 use Rattle.points.specs.Rule.{names}
 use Rattle.join.specs.Join.{joined}
 use Rattle.body.specs.Body.{Patch, trianglesOf, rowsOf, patchesOf}
-use Rattle.patch_checks.specs.PatchChecks.{badIndices}
+use Rattle.refusals.specs.PatchChecks.{badIndices}
 use Rattle.patch_checks.specs.PatchTests.{partTriangle, notFinite}
 use Rattle.checks.specs.Accepted.{Clean, clean}
 use Rattle.geometry.specs.Geometry.{zero64}

@@ -3,7 +3,7 @@ use Prim.Native.Nat.{_-_}
 use native.Mathlib.Omega.{arith}
 use mathlib.Core.Path.{sym, _∙_}
 use Rattle.lists.specs.Any.{Searched, searched-none, searched-more, searched-hit, searched-all}
-use Rattle.table_checks.specs.TableChecks.{badRow}
+use Rattle.refusals.specs.TableChecks.{badRow}
 use Rattle.body.specs.Body.{rowsOf}
 use Rattle.body.specs.Rows.{noRow, rowAt}
 use Rattle.table_checks.proofs.table.any_bad_row.Statement.{statement}

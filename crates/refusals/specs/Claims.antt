@@ -7,9 +7,9 @@ use lib.Ieee.{Float, nan}
 use Rattle.lists.specs.Lists.{all}
 use Rattle.lists.specs.Table.{Case, case, agrees}
 use Rattle.body.specs.Body.{firstFailing}
-use Rattle.checks.specs.BodyChecks.{bodyChecks}
+use Rattle.refusals.specs.BodyChecks.{bodyChecks}
 use Rattle.body.specs.Given.{Given, at, triangle, givenTable, givenPositions, givenIndices}
-use Rattle.checks.specs.Evaluation.{evaluation}
+use Rattle.refusals.specs.Evaluation.{evaluation}
 
 -- the refusal of a body with so many words of work area
 refusal : List ℕ → List Float → List Float → List ℕ → ℕ → ℕ

@@ -5,8 +5,8 @@ use lib.ListN.{length}
 use lib.Dec.{ltb}
 use lib.Ieee.{Float}
 use Rattle.body.specs.Body.{rowsOf, patchesOf, Check, check, workNeeded}
-use Rattle.table_checks.specs.TableChecks.{tableChecks}
-use Rattle.patch_checks.specs.PatchChecks.{patchChecks}
+use Rattle.refusals.specs.TableChecks.{tableChecks}
+use Rattle.refusals.specs.PatchChecks.{patchChecks}
 
 -- the checks that all three calls begin with: 11 to 23, and 31 for a work area of so many words
 unfoldable pub bodyChecks : List ℕ → List Float → List Float → List ℕ → ℕ → List Check
