@@ -4,7 +4,7 @@ use Prim.Native.Nat.{ℕ}
 use lib.Ieee.{Float}
 use Rattle.orient.specs.declared.turning.Turned.{Turned}
 use Rattle.orient.specs.declared.turning.Turned.the-variants.{Done, Refused}
-use Rattle.orient.specs.Orient.{AfterTurn}
+use Rattle.turning.specs.Orient.{AfterTurn}
 use Rattle.cad_answers.specs.declared.turning.CadTurned.{CadTurned}
 
 -- 01's number and values for each answer

@@ -12,7 +12,7 @@ use Rattle.body.specs.Body.{rowsOf, patchesOf, firstFailing}
 use Rattle.refusals.specs.BodyChecks.{bodyChecks}
 use Rattle.orient.specs.declared.turning.Turned.{Turned}
 use Rattle.orient.specs.declared.turning.Turned.the-variants.{Done, Refused}
-use Rattle.orient.specs.Orient.{AfterTurn, walksOf, turnBody, refuseTurn, turnOf}
+use Rattle.turning.specs.Orient.{AfterTurn, walksOf, turnBody, refuseTurn, turnOf}
 use Rattle.orient.specs.Turned.{Left, left, answered}
 use Rattle.cad_answers.specs.declared.turning.CadTurned.{CadTurned}
 use Rattle.cad_answers.specs.Turning.{cadTurned, leftAfterTurn}

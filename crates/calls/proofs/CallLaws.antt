@@ -13,7 +13,7 @@ use Rattle.geometry.specs.Geometry.{zero64}
 use Rattle.orient.specs.declared.turning.Counts.{Counts}
 use Rattle.orient.specs.declared.turning.Turned.{Turned}
 use Rattle.orient.specs.declared.turning.Turned.the-variants as TurnCase
-use Rattle.orient.specs.Orient.{AfterTurn, turnOf}
+use Rattle.turning.specs.Orient.{AfterTurn, turnOf}
 use Rattle.orient.specs.Turned.{Left, left, answered}
 use Rattle.results.specs.declared.answer.Sizes.{Sizes}
 use Rattle.results.specs.declared.answer.Stitched.{Stitched}

@@ -13,7 +13,7 @@ use Rattle.points.specs.Points.{key}
 use Rattle.geometry.specs.declared.Aabb.{Aabb}
 use Rattle.orient.specs.declared.turning.Counts.{Counts}
 use Rattle.orient.specs.declared.turning.Turned.{Turned}
-use Rattle.orient.specs.Orient.{AfterTurn, turnOf}
+use Rattle.turning.specs.Orient.{AfterTurn, turnOf}
 use Rattle.orient.specs.Turned.{left, answered}
 use Rattle.results.specs.declared.answer.Stitched.{Stitched}
 use Rattle.results.specs.Slices.{AfterStitch}

@@ -1,6 +1,6 @@
 -- A claim that says `unfolding evaluation` has every definition of this crate and of those below it computed. Assumes nothing.
 use Prim.Native.Nat.{ℕ}
-use Rattle.orient.specs.Evaluation as Orient
+use Rattle.turning.specs.Evaluation as Turning
 use Rattle.stitch.specs.Evaluation as Stitch
 use Rattle.assemble.specs.Evaluation as Assemble
 use Rattle.finish.specs.Finish.{benchRoom, area, stitchSlices, meshSlices, assembleNext, stitchNext, finishIn, finish}
@@ -8,5 +8,5 @@ use Rattle.finish.specs.Parts.{turnNumbers, sheetPatches, sheetFacets, p
 
 -- every definition that computes
 unfoldable pub evaluation : ℕ
-unfolding Orient.evaluation Stitch.evaluation Assemble.evaluation benchRoom area stitchSlices meshSlices assembleNext stitchNext finishIn finish turnNumbers sheetPatches sheetFacets placedNumbers splitNumbers splitsAt placedAt placedOf withSplits allWithSplits finishFrom
+unfolding Turning.evaluation Stitch.evaluation Assemble.evaluation benchRoom area stitchSlices meshSlices assembleNext stitchNext finishIn finish turnNumbers sheetPatches sheetFacets placedNumbers splitNumbers splitsAt placedAt placedOf withSplits allWithSplits finishFrom
 evaluation = 0

@@ -1,6 +1,4 @@
--- The definitions of the groups of a body, a group settled, all groups settled, walks without normals, and the definitions computed.
-pub mod Groups
+-- A group settled, all groups settled, and walks without normals.
 pub mod Settled
 pub mod Walked
 pub mod Bare
-pub mod Evaluation

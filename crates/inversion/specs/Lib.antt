@@ -1,5 +1,3 @@
--- The definitions of a group's volume and of inverting, what measuring asks, the patch of a row, and the definitions computed.
-pub mod Inversion
+-- What measuring a group asks, and the patch of a row.
 pub mod Measured
 pub mod RowPatch
-pub mod Evaluation

@@ -29,9 +29,9 @@ use Rattle.edges.specs.Area.{usesEnd, AreaReady}
 use Rattle.pairs.specs.Laid.{usesAt, Laid}
 use Rattle.orient.specs.declared.turning.Counts.{Counts}
 use Rattle.orient.specs.declared.turning.Turned.the-variants.{Done, Refused}
-use Rattle.groups.specs.Groups.{Walks}
-use Rattle.orient.specs.Orient.{walksOf, turnBody, refuseTurn, turnOf}
-use Rattle.reversal.specs.Reversal.{swapped}
+use Rattle.turning.specs.Groups.{Walks}
+use Rattle.turning.specs.Orient.{walksOf, turnBody, refuseTurn, turnOf}
+use Rattle.turning.specs.Reversal.{swapped}
 use Rattle.reversal.specs.Reversed.{Reversible, Reversed, changedRows, coordinates, indexCount, normals-turned, indices-turned}
 use Rattle.groups.specs.Walked.{walksOver, Walkable, GroupsWalked}
 use Rattle.orient.specs.Normals.{walks-any-normals}

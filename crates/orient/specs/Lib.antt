@@ -1,6 +1,3 @@
--- The definitions of turning, walks without normals, what the code leaves, and the definitions computed.
-pub mod Orient
+-- Walks without normals, and what the code leaves.
 pub mod Normals
 pub mod Turned
-pub mod Evaluation
-pub mod Claims

@@ -14,7 +14,7 @@ use Rattle.body.specs.Body.{rowsOf, patchesOf}
 use Rattle.orient.specs.declared.turning.Counts.{Counts}
 use Rattle.orient.specs.declared.turning.Turned.{Turned}
 use Rattle.orient.specs.declared.turning.Turned.the-variants.{Done, Refused}
-use Rattle.orient.specs.Orient.{AfterTurn, walksOf, turnBody}
+use Rattle.turning.specs.Orient.{AfterTurn, walksOf, turnBody}
 
 -- ---- the colours
 

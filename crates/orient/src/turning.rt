@@ -4,7 +4,7 @@ ghost use mathlib.Core.Path.{_≡_};
 ghost use lib.ListN.{length};
 ghost use Rattle.points.specs.Points.{key};
 ghost use Rattle.checks.specs.Accepted.{Passed};
-ghost use Rattle.orient.specs.Orient.{turnOf};
+ghost use Rattle.turning.specs.Orient.{turnOf};
 ghost use Rattle.orient.specs.Turned.{Coloured, left, leftDone, answered, turnDone};
 ghost use Rattle.edges.specs.Area.{AreaReady};
 

@@ -1,5 +1,3 @@
--- The definition of pairs, the uses laid out for the walk, that their pairs are the definition's, and the definitions computed.
-pub mod Pairs
+-- The uses laid out for the walk, and that their pairs are the definition's.
 pub mod PairLaws
 pub mod Laid
-pub mod Evaluation

@@ -1,4 +1,2 @@
--- The definitions of a reversed row and body, the body in the flat slices, and the definitions computed.
-pub mod Reversal
+-- A turned body in the flat slices.
 pub mod Reversed
-pub mod Evaluation

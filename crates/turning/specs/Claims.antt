@@ -8,8 +8,8 @@ use Rattle.lists.specs.Table.{Case, case, agrees}
 use Rattle.floats.specs.Floats.{bits32}
 use Rattle.points.specs.Points.{key}
 use Rattle.body.specs.Given.{Given, at, below, row, triangle, triangleIn, givenTable, givenPositions, givenIndices, K6-reversed, K7}
-use Rattle.orient.specs.Orient.{AfterTurn, turnOf}
-use Rattle.orient.specs.Evaluation.{evaluation}
+use Rattle.turning.specs.Orient.{AfterTurn, turnOf}
+use Rattle.turning.specs.Evaluation.{evaluation}
 
 -- a body turned, its normals being its positions once more
 unfoldable pub turnGiven : List Given → AfterTurn
@@ -42,9 +42,9 @@ möbius =
     ∷ triangle 4 (at 0 3 0) (at 0 0 0) (at 4 0 0)
     ∷ []
 
--- two flat rows that run the same way along an edge, in one shell and in two
-flat : ℕ → List Given
-flat s = triangleIn 0 0 (at 0 0 0) (at 2 0 0) (at 0 2 0) ∷ triangleIn s 1 (at 0 0 0) (at 2 0 0) (below 0 2 0) ∷ []
+-- two flat rows that run the same way along an edge, in one shell or in two
+flat : ℕ → ℕ → List Given
+flat r s = triangleIn r 0 (at 0 0 0) (at 2 0 0) (at 0 2 0) ∷ triangleIn s 1 (at 0 0 0) (at 2 0 0) (below 0 2 0) ∷ []
 
 -- two flat rows that agree
 agreeing : List Given
@@ -73,11 +73,12 @@ claims =
     ∷ case 7 (turned K7) (0 ∷ 2 ∷ 0 ∷ 1 ∷ 2 ∷ 0 ∷ 1 ∷ 2 ∷ 3 ∷ 4 ∷ 5 ∷ [])
     ∷ case 11 (turned pinwheel) (1 ∷ 0 ∷ 0 ∷ 2 ∷ 1 ∷ 0 ∷ 1 ∷ 2 ∷ 0 ∷ 1 ∷ 2 ∷ 0 ∷ 1 ∷ 2 ∷ [])
     ∷ case 12 (turned möbius) (2 ∷ 2 ∷ 0 ∷ 1 ∷ 2 ∷ 0 ∷ 2 ∷ 1 ∷ 0 ∷ 1 ∷ 2 ∷ 0 ∷ 1 ∷ 2 ∷ 0 ∷ 2 ∷ 1 ∷ [])
-    ∷ case 13 (turned (flat 0)) (1 ∷ 0 ∷ 0 ∷ 1 ∷ 2 ∷ 0 ∷ 2 ∷ 1 ∷ [])
-    ∷ case 14 (turned (flat 1)) (0 ∷ 0 ∷ 0 ∷ 1 ∷ 2 ∷ 0 ∷ 1 ∷ 2 ∷ [])
+    ∷ case 13 (turned (flat 0 0)) (1 ∷ 0 ∷ 0 ∷ 1 ∷ 2 ∷ 0 ∷ 2 ∷ 1 ∷ [])
+    ∷ case 14 (turned (flat 0 1)) (0 ∷ 0 ∷ 0 ∷ 1 ∷ 2 ∷ 0 ∷ 1 ∷ 2 ∷ [])
     ∷ case 15 (turned agreeing) (0 ∷ 0 ∷ 0 ∷ 1 ∷ 2 ∷ 0 ∷ 1 ∷ 2 ∷ [])
     ∷ case 16 (turned weighed) (2 ∷ 0 ∷ 0 ∷ 1 ∷ 2 ∷ 0 ∷ 2 ∷ 3 ∷ 0 ∷ 2 ∷ 1 ∷ 0 ∷ 2 ∷ 1 ∷ [])
     ∷ case 17 (take 2 (turned apart)) (1 ∷ 0 ∷ [])
+    ∷ case 18 (turned (flat 1 1)) (1 ∷ 0 ∷ 0 ∷ 1 ∷ 2 ∷ 0 ∷ 2 ∷ 1 ∷ [])
     ∷ []
 
 -- The definitions yield each.
