@@ -1,5 +1,6 @@
 // One group after another: walked, measured, inverted if its volume says so.
 
+use meeting::Tally;
 ghost use Rattle.groups.specs.Settled.{Judgeable, Judged, Settleable, Settled};
 ghost use Rattle.groups.specs.Walked.{RootReady, RootSettled, GroupsReady, GroupsWalked, BasesReady, BasesLaid, Walkable};
 
@@ -37,7 +38,7 @@ fn settle_group(
     requires { ⌜ Settleable (now rows) (now positions) (now indices) (now w) n m root against ⌝ }
     ensures { λ r. ⌜ Settled (now (rows .entry)) (now (positions .entry)) (now (indices .entry)) n m root against (now (w .entry)) (now (w .exit)) r ⌝ }
 {
-    let r = visiting::walk_group(w, n, m, root, against);
+    let r: Tally = visiting::walk_group(w, n, m, root, against);
     let t = r.found;
     invert_if(rows, positions, indices, w, n, m, t);
     r.against
