@@ -10,10 +10,10 @@ use Rattle.points.specs.Rule.{Rule, names}
 use Rattle.join.specs.Join.{joined}
 use Rattle.body.specs.Body.{rowsOf, patchesOf, firstFailing}
 use Rattle.refusals.specs.BodyChecks.{bodyChecks}
-use Rattle.orient.specs.declared.turning.Turned.{Turned}
-use Rattle.orient.specs.declared.turning.Turned.the-variants.{Done, Refused}
-use Rattle.turning.specs.Orient.{AfterTurn, walksOf, turnBody, refuseTurn, turnOf}
-use Rattle.orient.specs.Turned.{Left, left, answered}
+use Rattle.orientation.specs.declared.Turned.{Turned}
+use Rattle.orientation.specs.declared.Turned.the-variants.{Done, Refused}
+use Rattle.orientation.specs.Orient.{AfterTurn, walksOf, turnBody, refuseTurn, turnOf}
+use Rattle.orientation.specs.Answers.{Left, left, answered}
 use Rattle.cad_answers.specs.declared.turning.CadTurned.{CadTurned}
 use Rattle.cad_answers.specs.Turning.{cadTurned, leftAfterTurn}
 use Rattle.cad_tess.proofs.Told.{either}

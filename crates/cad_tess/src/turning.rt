@@ -4,7 +4,7 @@ use cad_answers::CadTurned;
 use cad_answers::turned_answer;
 ghost use mathlib.Core.Path.{_≡_};
 ghost use Rattle.points.specs.Points as Points;
-ghost use Rattle.turning.specs.Orient.{turnOf};
+ghost use Rattle.orientation.specs.Orient.{turnOf};
 ghost use Rattle.cad_answers.specs.Turning.{leftAfterTurn};
 
 // The rows of a body are turned to agree where they stand; the work area needs 16 words an index and a row and 4 a vertex, which come back zero.

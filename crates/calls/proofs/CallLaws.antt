@@ -10,11 +10,11 @@ use Rattle.points.specs.Points.{key}
 use Rattle.floats.specs.Floats.{f32}
 use Rattle.geometry.specs.declared.Aabb.{Aabb}
 use Rattle.geometry.specs.Geometry.{zero64}
-use Rattle.orient.specs.declared.turning.Counts.{Counts}
-use Rattle.orient.specs.declared.turning.Turned.{Turned}
-use Rattle.orient.specs.declared.turning.Turned.the-variants as TurnCase
-use Rattle.turning.specs.Orient.{AfterTurn, turnOf}
-use Rattle.orient.specs.Turned.{Left, left, answered}
+use Rattle.orientation.specs.declared.Counts.{Counts}
+use Rattle.orientation.specs.declared.Turned.{Turned}
+use Rattle.orientation.specs.declared.Turned.the-variants as TurnCase
+use Rattle.orientation.specs.Orient.{AfterTurn, turnOf}
+use Rattle.orientation.specs.Answers.{Left, left, answered}
 use Rattle.results.specs.declared.answer.Sizes.{Sizes}
 use Rattle.results.specs.declared.answer.Stitched.{Stitched}
 use Rattle.results.specs.declared.answer.Stitched.the-variants as StitchCase

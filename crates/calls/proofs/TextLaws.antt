@@ -19,7 +19,7 @@ use Rattle.geometry.specs.declared.Aabb.{Aabb}
 use Rattle.geometry.specs.Geometry.{zero64}
 use Rattle.finish.specs.Finish.{benchRoom, area, meshSlices}
 use Rattle.assemble.specs.Assembled.{LeftMesh, leftMesh, slicesOf, assembleAnswered, countsAnswered}
-use Rattle.orient.specs.declared.turning.Counts.{Counts}
+use Rattle.orientation.specs.declared.Counts.{Counts}
 use Rattle.calls.proofs.CaseLaws.{Cases, told-done, told-refused}
 use Rattle.calls.specs.Told.{Told}
 use Rattle.calls.specs.Texts.{MeshSaid, assembledText, sizedFrom, talliedFrom, meshPrinted}

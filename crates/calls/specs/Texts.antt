@@ -11,10 +11,10 @@ use Rattle.answer.specs.declared.Tallies.{Tallies}
 use Rattle.answer.specs.Answer.{meshText, countText, refusalLine}
 use Rattle.points.specs.Points.{key}
 use Rattle.geometry.specs.declared.Aabb.{Aabb}
-use Rattle.orient.specs.declared.turning.Counts.{Counts}
-use Rattle.orient.specs.declared.turning.Turned.{Turned}
-use Rattle.turning.specs.Orient.{AfterTurn, turnOf}
-use Rattle.orient.specs.Turned.{left, answered}
+use Rattle.orientation.specs.declared.Counts.{Counts}
+use Rattle.orientation.specs.declared.Turned.{Turned}
+use Rattle.orientation.specs.Orient.{AfterTurn, turnOf}
+use Rattle.orientation.specs.Answers.{left, answered}
 use Rattle.results.specs.declared.answer.Stitched.{Stitched}
 use Rattle.results.specs.Slices.{AfterStitch}
 use Rattle.stitch.specs.Stitch.{stitchOf}

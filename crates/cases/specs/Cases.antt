@@ -18,7 +18,7 @@ use Rattle.geometry.specs.Geometry.{zero64}
 use Rattle.measures.specs.Volume.{patchVolume}
 use Rattle.measures.specs.Reach.{escapesBody}
 use Rattle.geometry.specs.Given.{box68, onePoint, vertex}
-use Rattle.turning.specs.Claims.{turnGiven}
+use Rattle.orientation.specs.Claims.{turnGiven}
 use Rattle.stitch.specs.Claims.{roomy, stitchGiven}
 use Rattle.finish.specs.Evaluation.{evaluation}
 use Rattle.finish.specs.Finish.{Sheet, Outcome, Refused, Finished, finish}

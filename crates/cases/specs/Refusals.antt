@@ -13,7 +13,7 @@ use Rattle.body.specs.Body.{firstFailing}
 use Rattle.geometry.specs.declared.Aabb.{Aabb}
 use Rattle.alone.specs.Alone.{volumeAlone}
 use Rattle.geometry.specs.Geometry.{zero64, one64}
-use Rattle.turning.specs.Orient.{turnOf}
+use Rattle.orientation.specs.Orient.{turnOf}
 use Rattle.results.specs.Slices.{StitchSlices, AfterStitch, stitchChecks}
 use Rattle.stitch.specs.Stitch.{stitchOf}
 use Rattle.room.specs.Slices.{MeshSlices}

@@ -1,6 +1,6 @@
 -- A claim that says `unfolding evaluation` has every definition of this crate and of those below it computed. Assumes nothing.
 use Prim.Native.Nat.{ℕ}
-use Rattle.turning.specs.Evaluation as Turning
+use Rattle.orientation.specs.Evaluation as Turning
 use Rattle.stitch.specs.Evaluation as Stitch
 use Rattle.assemble.specs.Evaluation as Assemble
 use Rattle.finish.specs.Finish.{benchRoom, area, stitchSlices, meshSlices, assembleNext, stitchNext, finishIn, finish}

@@ -10,7 +10,7 @@ use Rattle.points.specs.Points.{key}
 use Rattle.body.specs.Body.{rowWidth}
 use Rattle.geometry.specs.declared.Aabb.{Aabb}
 use Rattle.geometry.specs.Geometry.{zero64}
-use Rattle.turning.specs.Orient.{AfterTurn, turnOf}
+use Rattle.orientation.specs.Orient.{AfterTurn, turnOf}
 use Rattle.results.specs.Slices.{StitchSlices, AfterStitch}
 use Rattle.stitch.specs.Stitch.{stitchOf}
 use Rattle.acceptance.specs.Acceptance.{failureWidth}

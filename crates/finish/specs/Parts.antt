@@ -10,7 +10,7 @@ use Rattle.points.specs.Rule.{names}
 use Rattle.points.specs.Points.{key}
 use Rattle.body.specs.Body.{Patch, rowsOf, patchesOf}
 use Rattle.geometry.specs.Geometry.{zero64}
-use Rattle.turning.specs.Orient.{turnOf}
+use Rattle.orientation.specs.Orient.{turnOf}
 use Rattle.loose.specs.Loose.{Facet, facetsIn, looseIn}
 use Rattle.splits.specs.Splits.{Side, Placed, SplitTriangle, sidesOf, splitTriangle}
 use Rattle.results.specs.Slices.{stitchOrRefuse, clearedSlices}

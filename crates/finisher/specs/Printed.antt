@@ -8,7 +8,7 @@ use lib.ListN.{length, take}
 use Rattle.floats.specs.Floats.{f32}
 use Rattle.answer.specs.Answer.{refusalLine}
 use Rattle.points.specs.Points.{key}
-use Rattle.turning.specs.Orient.{AfterTurn, turnOf}
+use Rattle.orientation.specs.Orient.{AfterTurn, turnOf}
 use Rattle.results.specs.Slices.{AfterStitch}
 use Rattle.stitch.specs.Stitch.{stitchOf}
 use Rattle.assemble.specs.Assemble.{assembleOf}

@@ -13,8 +13,8 @@ use Rattle.walk.specs.Walk.{inverted}
 use Rattle.walk.specs.Area.{coloursAt, areaEnd}
 use Rattle.walk.specs.Frames.{within-none, within-more, within-wide}
 use Rattle.walk.specs.Group.{queueOf, coloursOf, GroupWalked, GroupInverted, walkFrom}
-use Rattle.turning.specs.Inversion.{volumeFrom, inverts}
-use Rattle.turning.specs.Groups.{addGroup}
+use Rattle.orientation.specs.Inversion.{volumeFrom, inverts}
+use Rattle.orientation.specs.Groups.{addGroup}
 use Rattle.inversion.specs.Measured.{vertexBasesAt, indexBasesAt, Measurable}
 use Rattle.groups.specs.Settled.{Judgeable, Judged, Settleable, Settled}
 

@@ -23,8 +23,8 @@ use Rattle.walk.specs.Group.{coloursOf, Colours, Uncoloured, begun, walkFrom}
 use Rattle.walk.specs.Frames.{within-none}
 use Rattle.walk.specs.Links.{pairs-uses, paired-of, paired-kept}
 use Rattle.walk.specs.Kept.{colour-at, colours-kept, paired-uncoloured, uses-uncoloured}
-use Rattle.turning.specs.Groups.{Group, Walks, addGroup, walksFrom}
-use Rattle.turning.specs.Inversion.{patchAt}
+use Rattle.orientation.specs.Groups.{Group, Walks, addGroup, walksFrom}
+use Rattle.orientation.specs.Inversion.{patchAt}
 use Rattle.inversion.specs.Measured.{vertexBasesAt, indexBasesAt, basesEnd, Measurable}
 use Rattle.groups.specs.Settled.{Settleable, Settled}
 use Rattle.groups.specs.Walked.{walksOver, RootReady, RootSettled, GroupsReady, BasesReady, BasesLaid, Walkable, GroupsWalked}

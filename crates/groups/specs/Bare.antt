@@ -12,8 +12,8 @@ use Rattle.body.specs.Body.{Row, Patch, patchesOf}
 use Rattle.geometry.specs.Geometry.{add, zero64}
 use Rattle.measures.specs.Volume.{patchVolume}
 use Rattle.walk.specs.Walk.{Pair, unvisited, plain, coloured, Walk, walk, inverted}
-use Rattle.turning.specs.Groups.{Group, Walks, addGroup, walksFrom}
-use Rattle.turning.specs.Inversion.{patchAt, volumeFrom, indicesOn, inverts}
+use Rattle.orientation.specs.Groups.{Group, Walks, addGroup, walksFrom}
+use Rattle.orientation.specs.Inversion.{patchAt, volumeFrom, indicesOn, inverts}
 
 -- a patch without its normals
 abbrev pub bare : Patch → Patch

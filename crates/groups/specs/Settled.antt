@@ -9,8 +9,8 @@ use Rattle.geometry.specs.Geometry.{zero64}
 use Rattle.walk.specs.Walk.{inverted}
 use Rattle.walk.specs.Area.{queueAt, coloursAt, areaEnd, Within}
 use Rattle.walk.specs.Group.{queueOf, coloursOf, Colours, Rooted, walkFrom}
-use Rattle.turning.specs.Inversion.{volumeFrom, inverts}
-use Rattle.turning.specs.Groups.{addGroup}
+use Rattle.orientation.specs.Inversion.{volumeFrom, inverts}
+use Rattle.orientation.specs.Groups.{addGroup}
 use Rattle.inversion.specs.Measured.{Measurable, GroupMeasurable}
 
 -- what judging the group in the queue asks

@@ -12,7 +12,7 @@ use Rattle.walk.specs.Uses.{pairsBy}
 use Rattle.walk.specs.Area.{queueAt, areaEnd, Within, usesOf, Sound}
 use Rattle.walk.specs.Chains.{Paired}
 use Rattle.walk.specs.Group.{coloursOf, Colours, countable}
-use Rattle.turning.specs.Groups.{Group, Walks, walksFrom}
+use Rattle.orientation.specs.Groups.{Group, Walks, walksFrom}
 use Rattle.inversion.specs.Measured.{vertexBasesAt, indexBasesAt, basesEnd, Measurable}
 
 -- the walks of a body over some pairs

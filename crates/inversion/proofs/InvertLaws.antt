@@ -14,7 +14,7 @@ use Rattle.body.specs.Body.{Patch}
 use Rattle.geometry.specs.Geometry.{zero64}
 use Rattle.walk.specs.Walk.{unvisited, plain, coloured}
 use Rattle.walk.specs.Group.{queueOf, coloursOf}
-use Rattle.turning.specs.Inversion.{patchAt, indicesOn, inverts}
+use Rattle.orientation.specs.Inversion.{patchAt, indicesOn, inverts}
 use Rattle.inversion.specs.Measured.{GroupMeasurable, weightOf}
 use Rattle.inversion.specs.RowPatch.{patch-length}
 

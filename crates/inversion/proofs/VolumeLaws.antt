@@ -17,7 +17,7 @@ use Rattle.measures.specs.Volume.{Within, patchVolume}
 use Rattle.geometry.specs.Geometry.{add, zero64}
 use Rattle.walk.specs.Walk.{unvisited}
 use Rattle.walk.specs.Group.{queueOf, Queue}
-use Rattle.turning.specs.Inversion.{patchAt, volumeFrom}
+use Rattle.orientation.specs.Inversion.{patchAt, volumeFrom}
 use Rattle.inversion.specs.Measured.{vertexBasesAt, indexBasesAt, RowMeasurable, weightOf}
 use Rattle.inversion.specs.RowPatch.{row-in, v-is, i-is, v-room, patch-is}
 

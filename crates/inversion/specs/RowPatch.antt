@@ -9,7 +9,7 @@ use lib.Ieee.{Float}
 use Rattle.body.specs.Body.{Patch, rowsOf}
 use Rattle.body.specs.Rows.{rowAt, verticesBefore, indicesBefore}
 use Rattle.body.specs.Patches.{patchFrom, patch-at, indices-room, vertices-room, shapes}
-use Rattle.turning.specs.Inversion.{patchAt}
+use Rattle.orientation.specs.Inversion.{patchAt}
 use Rattle.inversion.specs.Measured.{vertexBasesAt, indexBasesAt, RowMeasurable}
 
 module _ {table : List ℕ} {ps : List Float} {is W : List ℕ} {n m x : ℕ} (r : RowMeasurable table ps is W n m x) where

@@ -6,7 +6,7 @@ ghost use Rattle.lists.specs.Lists.{sumOf};
 ghost use Rattle.measures.specs.Volume.{patchVolume};
 ghost use Rattle.geometry.specs.Geometry.{zero64};
 ghost use Rattle.walk.specs.Group.{queueOf, coloursOf};
-ghost use Rattle.turning.specs.Inversion.{patchAt, volumeFrom, inverts};
+ghost use Rattle.orientation.specs.Inversion.{patchAt, volumeFrom, inverts};
 ghost use Rattle.inversion.specs.Measured.{RowMeasurable, GroupMeasurable, weightOf, RowWeighable, GroupWeighable};
 
 // The volume of row x's patch, reversed where flip says so.

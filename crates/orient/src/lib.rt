@@ -1,7 +1,27 @@
-// Turning: the groups of a body coloured, and coloured rows reversed.
+// turn: the rows of a body turned to agree, where they stand.
 
-mod turning;
+use orientation::Turned;
+use turned::turn_accepted;
+ghost use mathlib.Core.Path.{_≡_};
+ghost use Rattle.points.specs.Points.{key};
+ghost use Rattle.orientation.specs.Orient.{turnOf};
+ghost use Rattle.orientation.specs.Answers.{left, answered};
 
-pub use turning::Counts;
-pub use turning::Turned;
-pub use turning::turn;
+// The rows of a body are turned to agree: coloured rows have corners 1 and 2 of each triangle swapped and their normals negated.
+// A body that fails a check is refused with the check's number, and nothing is changed.
+pub fn turn(
+    rows: &[u32],
+    positions: &[f32],
+    normals: &mut [f32],
+    indices: &mut [u32],
+    work: &mut [u64],
+) -> Turned
+    ensures { λ r. ⌜ left r (now (normals .exit)) (now (indices .exit)) (now (work .exit))
+        ≡ answered (turnOf key (now (rows .entry)) (now (positions .entry)) (now (normals .entry)) (now (indices .entry)) (now (work .entry))) ⌝ }
+{
+    let refusal = checks::first_failing(rows, positions, normals, indices, work.len());
+    if refusal == 0 {
+        return Turned::Done(turn_accepted(rows, positions, normals, indices, work));
+    }
+    Turned::Refused(refusal)
+}

@@ -18,7 +18,7 @@ use Rattle.edges.specs.FirstUsers.{usesIn}
 use Rattle.edges.specs.Area.{namesAt, usesEnd}
 use Rattle.walk.specs.Uses.{pairsBy}
 use Rattle.walk.specs.Area.{usesOf, Sound}
-use Rattle.turning.specs.Pairs.{pairsOf}
+use Rattle.orientation.specs.Pairs.{pairsOf}
 
 -- where the rows are joined by shell
 abbrev pub shellsAt : ℕ → ℕ

@@ -20,7 +20,7 @@ use Rattle.edges.specs.NameLaws.{SameEnds, ends-same, run-equal, run-apart}
 use Rattle.edges.specs.UseLaws.{noUse, nameBy, Apart, apart-tells, first-at, getD-map, length-named}
 use Rattle.walk.specs.Walk.{Pair}
 use Rattle.walk.specs.Uses.{Uses, own, far, records, agrees, pairAt, pairsBy, records-skip, records-same, records-yes, agrees-yes, agrees-not, pairs-match}
-use Rattle.turning.specs.Pairs.{pairOf, pairsOf}
+use Rattle.orientation.specs.Pairs.{pairOf, pairsOf}
 
 -- uses listed by first use, row and run; their names have g's number for the shell
 abbrev pub listed : (ℕ → ℕ) → List Use → Uses

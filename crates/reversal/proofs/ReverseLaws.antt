@@ -9,7 +9,7 @@ use borrow.Author.Tests.{eq-eqb, ne-eqb}
 use lib.Ieee.{Float, nan, neg}
 use Rattle.lists.specs.Sets.{getD-sets-beyond, sets-append, three-stored}
 use Rattle.lists.specs.Stretches.{stretch-more}
-use Rattle.turning.specs.Reversal.{swapped, length-swapped}
+use Rattle.orientation.specs.Reversal.{swapped, length-swapped}
 use Rattle.reversal.specs.Reversed.{Triangles, Stretch, RowStretches, RowReversed}
 
 -- the stretch from `from` up to k, and the item at k

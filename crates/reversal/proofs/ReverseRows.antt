@@ -14,7 +14,7 @@ use Rattle.body.specs.Body.{Row, rowsOf, allVertices, allIndices}
 use Rattle.body.specs.Rows.{noRow, rowAt, verticesBefore, indicesBefore}
 use Rattle.body.specs.Patches.{vertices-next, indices-next}
 use Rattle.walk.specs.Walk.{coloured}
-use Rattle.turning.specs.Reversal.{swapped, length-swapped}
+use Rattle.orientation.specs.Reversal.{swapped, length-swapped}
 use Rattle.reversal.specs.Reversed.{changed, changedRows, coordinates, indexCount, RowStretches, RowReversed, Reversible, Reversed}
 
 -- ---- one slice, whatever its items

@@ -12,7 +12,7 @@ use Rattle.lists.specs.Lists.{sumOf, countIf}
 use Rattle.body.specs.Body.{Row, Patch, rowsOf, patchesOf, allVertices, allIndices}
 use Rattle.body.specs.Rows.{WholeRows, rowAt}
 use Rattle.walk.specs.Walk.{coloured}
-use Rattle.turning.specs.Reversal.{swapped, turnedPatch, turnedBody}
+use Rattle.orientation.specs.Reversal.{swapped, turnedPatch, turnedBody}
 
 -- a stretch, changed where the row is coloured
 abbrev pub changed : {A : Type 0} → (List A → List A) → ℕ → List A → List A

@@ -7,7 +7,7 @@ ghost use lib.ListN.{length, take, drop};
 ghost use lib.Seq.{sets};
 ghost use lib.Ieee.{neg};
 ghost use Rattle.body.specs.Body.{rowsOf};
-ghost use Rattle.turning.specs.Reversal.{swapped};
+ghost use Rattle.orientation.specs.Reversal.{swapped};
 ghost use Rattle.reversal.specs.Reversed.{Triangles, Stretch, RowStretches, RowReversed, Reversible, Reversed};
 
 // Corners 1 and 2 of the triangles from index `from` up to `to` are swapped.

@@ -4,7 +4,7 @@ use Prim.Native.Nat.{ℕ}
 use Rattle.answer.specs.declared.Sizes.{Sizes}
 use Rattle.answer.specs.declared.Tallies.{Tallies}
 use Rattle.answer.specs.Answer.{countText, meshText}
-use Rattle.turning.specs.Orient.{AfterTurn}
+use Rattle.orientation.specs.Orient.{AfterTurn}
 use Rattle.results.specs.Slices.{AfterStitch}
 use Rattle.assemble.specs.Assemble.{AfterAssemble}
 

@@ -20,8 +20,8 @@ use Rattle.body.specs.Body.{Row, Patch, rowsOf, patchesOf, allVertices, allIndi
 use Rattle.refusals.specs.PatchChecks.{badIndices}
 use Rattle.patch_checks.specs.PatchTests.{notFinite}
 use Rattle.refusals.specs.BodyChecks.{bodyChecks}
-use Rattle.turning.specs.Inversion.{patchAt}
-use Rattle.turning.specs.Orient.{AfterTurn, refuseTurn, turnOf, turnBody, walksOf}
+use Rattle.orientation.specs.Inversion.{patchAt}
+use Rattle.orientation.specs.Orient.{AfterTurn, refuseTurn, turnOf, turnBody, walksOf}
 use Rattle.points.specs.Rule.{Rule, names}
 use Rattle.join.specs.Join.{joined}
 use Rattle.volume.specs.Exact.{wholeOf, wholeAt, largest, largestOf}

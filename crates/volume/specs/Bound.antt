@@ -15,7 +15,7 @@ use Rattle.rounding.specs.Sum.{Total, total-bound}
 use Rattle.rounding.specs.Whole.{fine-of}
 use Rattle.body.specs.Body.{Patch}
 use Rattle.geometry.specs.Geometry.{zero64}
-use Rattle.turning.specs.Inversion.{volumeFrom}
+use Rattle.orientation.specs.Inversion.{volumeFrom}
 use Rattle.walk.specs.Walk.{unvisited}
 use Rattle.volume.specs.Exact.{wholeOf, isWhole, exactRows, trianglesIn, largestIn, exactVolume, bound, volumeOf, withinBound}
 use Rattle.volume.specs.Ints.{Is, is-pos, is-sub, is-mul, is-cast, abs-le}

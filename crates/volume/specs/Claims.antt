@@ -12,9 +12,9 @@ use Rattle.join.specs.Join.{joined}
 use Rattle.points.specs.Points.{key}
 use Rattle.body.specs.Body.{Patch, rowsOf, patchesOf}
 use Rattle.body.specs.Given.{Given, at, row, triangle, givenTable, givenPositions, givenIndices, K6-reversed}
-use Rattle.turning.specs.Groups.{Group}
-use Rattle.turning.specs.Orient.{walksOf}
-use Rattle.turning.specs.Claims.{turnGiven}
+use Rattle.orientation.specs.Groups.{Group}
+use Rattle.orientation.specs.Orient.{walksOf}
+use Rattle.orientation.specs.Claims.{turnGiven}
 use Rattle.volume.specs.Exact.{exactRows, trianglesIn, largestIn, bound, volumeLeft, ruleHolds}
 use Rattle.volume.specs.Evaluation.{evaluation}
 

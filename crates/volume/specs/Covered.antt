@@ -12,9 +12,9 @@ use lib.Seq.{getD-set-other}
 use borrow.Author.Tests.{eqb-true, eqb-false}
 use Rattle.body.specs.Body.{Patch}
 use Rattle.geometry.specs.Geometry.{zero64}
-use Rattle.turning.specs.Groups.{Walks, Group, addGroup, walksFrom}
-use Rattle.turning.specs.Inversion.{patchAt, volumeFrom, inverts}
-use Rattle.turning.specs.Orient.{walksOf}
+use Rattle.orientation.specs.Groups.{Walks, Group, addGroup, walksFrom}
+use Rattle.orientation.specs.Inversion.{patchAt, volumeFrom, inverts}
+use Rattle.orientation.specs.Orient.{walksOf}
 use Rattle.walk.specs.Walk.{Pair, Neighbour, Walk, unvisited, plain, opposite, neighbours, meet, visit, walk, inverted}
 use Rattle.volume.specs.Sign as All
 use Rattle.volume.specs.Sign.{All}

@@ -1,6 +1,6 @@
 -- A claim that says `unfolding evaluation` has every definition of this crate and of those below it computed. Assumes nothing.
 use Prim.Native.Nat.{ℕ}
-use Rattle.turning.specs.Evaluation as Turning
+use Rattle.orientation.specs.Evaluation as Turning
 use Rattle.volume.specs.Exact.{wholeOf, isWhole, wholeAt, exactDet, exactTriangles, exactRows, largest, largestOf, trianglesIn, largestIn, exactVolume, bound, volumeOf, withinBound, exactLeft, volumeLeft, leftOutward, ruleHolds}
 
 -- every definition that computes

@@ -9,8 +9,8 @@ use lib.Ieee.{Float, nan, inf, fin, up, down, fits, binary32}
 use Rattle.points.specs.Points.{sameℤ}
 use Rattle.body.specs.Body.{Patch, Triangle, trianglesOf}
 use Rattle.measures.specs.Volume.{reversed}
-use Rattle.turning.specs.Groups.{Group}
-use Rattle.turning.specs.Inversion.{patchAt}
+use Rattle.orientation.specs.Groups.{Group}
+use Rattle.orientation.specs.Inversion.{patchAt}
 use Rattle.walk.specs.Walk.{coloured}
 
 -- a finite value as a whole number of 2 ^ -k, where it is one

@@ -14,8 +14,8 @@ use Rattle.join.specs.Join.{joined}
 use Rattle.body.specs.Body.{Row, Patch, rowsOf, patchesOf, allVertices, allIndices, firstFailing}
 use Rattle.refusals.specs.BodyChecks.{bodyChecks}
 use Rattle.checks.specs.Accepted.{Clean}
-use Rattle.turning.specs.Orient.{AfterTurn, walksOf, turnBody, refuseTurn, turnOf}
-use Rattle.turning.specs.Reversal.{swapped, length-swapped, turnedPatch, turnedBody}
+use Rattle.orientation.specs.Orient.{AfterTurn, walksOf, turnBody, refuseTurn, turnOf}
+use Rattle.orientation.specs.Reversal.{swapped, length-swapped, turnedPatch, turnedBody}
 use Rattle.walk.specs.Walk.{coloured}
 
 -- a patch that stands where p stood

@@ -15,9 +15,9 @@ use lib.Ieee.Fits.{and-r}
 use Rattle.points.specs.Points.{sameℤ}
 use Rattle.body.specs.Body.{Patch}
 use Rattle.geometry.specs.Geometry.{zero64}
-use Rattle.turning.specs.Groups.{Group}
-use Rattle.turning.specs.Inversion.{indicesOn, inverts}
-use Rattle.turning.specs.Reversal.{turnedBody}
+use Rattle.orientation.specs.Groups.{Group}
+use Rattle.orientation.specs.Inversion.{indicesOn, inverts}
+use Rattle.orientation.specs.Reversal.{turnedBody}
 use Rattle.walk.specs.Walk.{coloured, plain, unvisited}
 use Rattle.volume.specs.Exact.{wholeOf, isWhole, exactRows, exactVolume, bound, volumeOf, withinBound, exactLeft, volumeLeft, leftOutward}
 use Rattle.volume.specs.Ints.{Is, above, below, is-pos, is-neg, is-sub, is-mul, is-same}

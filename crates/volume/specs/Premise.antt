@@ -12,7 +12,7 @@ use Rattle.points.specs.Rule.{Rule, names}
 use Rattle.join.specs.Join.{joined}
 use Rattle.points.specs.Points.{key}
 use Rattle.body.specs.Body.{rowsOf, patchesOf}
-use Rattle.turning.specs.Orient.{walksOf, turnOf}
+use Rattle.orientation.specs.Orient.{walksOf, turnOf}
 use Rattle.volume.specs.Exact.{ruleHolds}
 use Rattle.volume.specs.Evaluation.{evaluation}
 

@@ -19,10 +19,10 @@ use Rattle.refusals.specs.PatchChecks.{badIndices}
 use Rattle.patch_checks.specs.PatchTests.{partTriangle, notFinite}
 use Rattle.checks.specs.Accepted.{Clean, clean}
 use Rattle.geometry.specs.Geometry.{zero64}
-use Rattle.turning.specs.Groups.{Group}
-use Rattle.turning.specs.Orient.{walksOf}
-use Rattle.turning.specs.Inversion.{patchAt, volumeFrom}
-use Rattle.turning.specs.Reversal.{turnedBody}
+use Rattle.orientation.specs.Groups.{Group}
+use Rattle.orientation.specs.Orient.{walksOf}
+use Rattle.orientation.specs.Inversion.{patchAt, volumeFrom}
+use Rattle.orientation.specs.Reversal.{turnedBody}
 use Rattle.walk.specs.Walk.{unvisited}
 use Rattle.volume.specs.Exact.{trianglesIn, largestIn, withinBound, leftOutward, ruleHolds, F32s}
 use Rattle.volume.specs.VolumeRule.{VolumeRule}

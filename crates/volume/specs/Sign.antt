@@ -11,8 +11,8 @@ use lib.ListN.{getD, length}
 use lib.IntN.{ℤ, pos, negsuc, negℤ, _+ℤ_, _-ℤ_, _*ℤ_, *ℤ-comm, negℤ-+ℤ}
 use lib.Ieee.{Float, neg}
 use Rattle.body.specs.Body.{Patch, Triangle, trianglesOf}
-use Rattle.turning.specs.Inversion.{patchAt}
-use Rattle.turning.specs.Reversal.{swapped, turnedPatch, turnedBody}
+use Rattle.orientation.specs.Inversion.{patchAt}
+use Rattle.orientation.specs.Reversal.{swapped, turnedPatch, turnedBody}
 use Rattle.walk.specs.Walk.{coloured, unvisited, opposite}
 use Rattle.volume.specs.Exact.{Whole, wholeAt, exactDet, exactTriangles, exactRows, exactLeft}
 use Rattle.volume.specs.Ints.{Is, above, below, is-neg, is-add, is-sub, is-mul, is-same, is-cast}

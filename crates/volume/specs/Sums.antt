@@ -18,7 +18,7 @@ use Rattle.body.specs.Body.{Triangle, trianglesOf}
 use Rattle.geometry.specs.Geometry as G
 use Rattle.measures.specs.Volume.{sumVolumes, patchVolume, triangleVolume, reversed}
 use Rattle.geometry.specs.Geometry.{zero64, six64}
-use Rattle.turning.specs.Inversion.{patchAt, volumeFrom}
+use Rattle.orientation.specs.Inversion.{patchAt, volumeFrom}
 use Rattle.walk.specs.Walk.{coloured, unvisited}
 use Rattle.volume.specs.Exact.{wholeAt, exactDet, exactTriangles, exactRows, trianglesIn}
 use Rattle.volume.specs.Ints.{Is, is-pos, is-add}

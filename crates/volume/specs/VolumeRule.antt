@@ -19,9 +19,9 @@ use Rattle.lists.specs.Lists.{all}
 use Rattle.points.specs.Rule.{Rule, names}
 use Rattle.join.specs.Join.{joined}
 use Rattle.body.specs.Body.{Patch, rowsOf, patchesOf}
-use Rattle.turning.specs.Groups.{Group}
-use Rattle.turning.specs.Orient.{walksOf, turnOf}
-use Rattle.turning.specs.Inversion.{patchAt}
+use Rattle.orientation.specs.Groups.{Group}
+use Rattle.orientation.specs.Orient.{walksOf, turnOf}
+use Rattle.orientation.specs.Inversion.{patchAt}
 use Rattle.volume.specs.Exact.{F32s, ruleHolds}
 
 -- In every body that turn accepts, whatever the joining rule, for every group: V lies within the bound of E, and if E is further from zero than the

@@ -4,6 +4,7 @@ use crate::table::put_counts;
 use append::append_stretch;
 use counting::find_splits;
 use splits::Finder;
+use splitting::Tally;
 ghost use Rattle.writing.specs.Writing.{TriangleWritable, TriangleWritten, RowWritable, RowWritten, BodyWritable, BodyWritten};
 
 // Where the written vertices and indices end.
@@ -38,7 +39,7 @@ fn write_triangle(
     let a = gathering::corner(indices, base, f.v, k);
     let b = gathering::corner(indices, base, f.v, k + 1);
     let c = gathering::corner(indices, base, f.v, k + 2);
-    let r = find_splits(positions, indices, w, f, n, base, k);
+    let r: Tally = find_splits(positions, indices, w, f, n, base, k);
     let kept = r.placed;
     rings::append_positions(positions, w, f.at, f.ts, kept, out_positions, 3 * vo);
     rings::append_normals(normals, a, b, c, w, f.at, f.ts, kept, out_normals, 3 * vo);

@@ -2,8 +2,8 @@
 use Rattle.orient.proofs.TurnLaws.{body-passed, call-done, call-refused}
 use denote.Ref.{now}
 use borrow.Author.Needs.{needs}
-use Rattle.orient.proofs.turning.turn.Statement.{statement}
-use Rattle.orient.proofs.turning.turn.Tie as tie
+use Rattle.orient.proofs.turn.Statement.{statement}
+use Rattle.orient.proofs.turn.Tie as tie
 
 first-failing-requires : tie.Need-first-failing-requires
 first-failing-requires c κs = search needs

@@ -5,11 +5,11 @@ use Rattle.refusals.specs.Evaluation as Refusals
 use Rattle.measures.specs.Evaluation as Measures
 use Rattle.edges.specs.Evaluation as Edges
 use Rattle.walk.specs.Evaluation as Walk
-use Rattle.turning.specs.Pairs.{pairOf, pairsOf}
-use Rattle.turning.specs.Inversion.{patchAt, volumeFrom, indicesOn, inverts}
-use Rattle.turning.specs.Groups.{addGroup, walksFrom}
-use Rattle.turning.specs.Reversal.{swapped, turnedPatch, turnedBody}
-use Rattle.turning.specs.Orient.{walksOf, turnBody, refuseTurn, turnOf}
+use Rattle.orientation.specs.Pairs.{pairOf, pairsOf}
+use Rattle.orientation.specs.Inversion.{patchAt, volumeFrom, indicesOn, inverts}
+use Rattle.orientation.specs.Groups.{addGroup, walksFrom}
+use Rattle.orientation.specs.Reversal.{swapped, turnedPatch, turnedBody}
+use Rattle.orientation.specs.Orient.{walksOf, turnBody, refuseTurn, turnOf}
 
 -- every definition that computes
 unfoldable pub evaluation : ℕ

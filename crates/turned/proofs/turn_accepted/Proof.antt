@@ -1,11 +1,11 @@
 -- `turn_accepted` meets its contract. Assumes nothing.
 use Rattle.checks.specs.Cleared.{clearable}
-use Rattle.orient.proofs.TurnLaws.{colourable, reversible, accepted-turned}
+use Rattle.turned.proofs.AcceptedLaws.{colourable, reversible, accepted-turned}
 use mathlib.Core.Path.{refl}
 use native.Mathlib.Omega.{arith}
 use borrow.Author.Needs.{needs}
-use Rattle.orient.proofs.turning.turn_accepted.Statement.{statement}
-use Rattle.orient.proofs.turning.turn_accepted.Tie as tie
+use Rattle.turned.proofs.turn_accepted.Statement.{statement}
+use Rattle.turned.proofs.turn_accepted.Tie as tie
 
 total-vertices-requires : tie.Need-total-vertices-requires
 total-vertices-requires c κs = search needs

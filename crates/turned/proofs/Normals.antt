@@ -7,9 +7,9 @@ use lib.Ieee.{Float}
 use Rattle.body.specs.Body.{Row, Patch, trianglesOf, patchesOf}
 use Rattle.edges.specs.Edges.{Use, triangleUses, usesFrom}
 use Rattle.walk.specs.Walk.{unvisited}
-use Rattle.turning.specs.Pairs.{pairsOf}
-use Rattle.turning.specs.Groups.{walksFrom}
-use Rattle.turning.specs.Orient.{walksOf}
+use Rattle.orientation.specs.Pairs.{pairsOf}
+use Rattle.orientation.specs.Groups.{walksFrom}
+use Rattle.orientation.specs.Orient.{walksOf}
 use Rattle.groups.specs.Bare.{bare, bodies-bare, walks-bare}
 
 -- the uses

@@ -8,7 +8,7 @@ use lib.Ieee.{Float}
 use Rattle.body.specs.Body.{Patch}
 use Rattle.geometry.specs.Geometry.{zero64}
 use Rattle.walk.specs.Walk.{Pair, unvisited, plain, Walk, walk, inverted}
-use Rattle.turning.specs.Inversion.{volumeFrom, inverts}
+use Rattle.orientation.specs.Inversion.{volumeFrom, inverts}
 
 -- a group: the rows of one walk, with the colours that they got, before any inverting, and V
 pub record Group : Type 0 where

@@ -1,10 +1,10 @@
 -- `colour_rows` meets its contract. Assumes nothing.
-use Rattle.orient.proofs.TurnLaws.{part-walkable, rows-coloured}
+use Rattle.colouring.proofs.ColourLaws.{part-walkable, rows-coloured}
 use mathlib.Core.Path.{refl}
 use native.Mathlib.Omega.{arith}
 use borrow.Author.Needs.{needs}
-use Rattle.orient.proofs.turning.colour_rows.Statement.{statement}
-use Rattle.orient.proofs.turning.colour_rows.Tie as tie
+use Rattle.colouring.proofs.colour_rows.Statement.{statement}
+use Rattle.colouring.proofs.colour_rows.Tie as tie
 
 mul-at : tie.Need-mul-at
 mul-at c = search needs

@@ -8,8 +8,8 @@ use Rattle.lists.specs.Table.{Case, case, agrees}
 use Rattle.floats.specs.Floats.{bits32}
 use Rattle.points.specs.Points.{key}
 use Rattle.body.specs.Given.{Given, at, below, row, triangle, triangleIn, givenTable, givenPositions, givenIndices, K6-reversed, K7}
-use Rattle.turning.specs.Orient.{AfterTurn, turnOf}
-use Rattle.turning.specs.Evaluation.{evaluation}
+use Rattle.orientation.specs.Orient.{AfterTurn, turnOf}
+use Rattle.orientation.specs.Evaluation.{evaluation}
 
 -- a body turned, its normals being its positions once more
 unfoldable pub turnGiven : List Given → AfterTurn

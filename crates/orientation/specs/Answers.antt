@@ -1,32 +1,17 @@
--- What turn's code asks and leaves: the colours in the work area, the body turned, and its answer as an enum. Assumes nothing.
-use mathlib.Core.Path.{_≡_}
+-- Turn's answer as an enum, with what the lent slices hold; an accepted body turned. Assumes nothing.
 use mathlib.Core.Bool.{true, false}
 use mathlib.Core.List.{List}
-use Prim.Native.Nat.{ℕ, _+_, _*_}
-use lib.ListN.{length, take, drop}
+use Prim.Native.Nat.{ℕ}
 use lib.Dec.{eqb}
 use lib.Ieee.{Float}
-use Rattle.body.specs.Patches.{shapes}
 use Rattle.points.specs.Rule.{names}
 use Rattle.points.specs.Points.{key}
 use Rattle.join.specs.Join.{joined}
 use Rattle.body.specs.Body.{rowsOf, patchesOf}
-use Rattle.orient.specs.declared.turning.Counts.{Counts}
-use Rattle.orient.specs.declared.turning.Turned.{Turned}
-use Rattle.orient.specs.declared.turning.Turned.the-variants.{Done, Refused}
-use Rattle.turning.specs.Orient.{AfterTurn, walksOf, turnBody}
-
--- ---- the colours
-
--- where the colours stand in the work area of a body of v vertices, m rows and n indices
-abbrev pub rowColoursAt : ℕ → ℕ → ℕ → ℕ
-rowColoursAt v m n = 4 * v + 6 * m + 6 * n
-
--- what colouring the rows leaves: the definition's colours and contradictions, and all behind the words that 31 counts as it was
-pub record Coloured (table : List ℕ) (ps : List Float) (is : List ℕ) (v m : ℕ) (W E : List ℕ) (against : ℕ) : Type 0 where
-  pub colours : take m (drop (rowColoursAt v m (length is)) E) ≡ walksOf (shapes table ps is) (joined (names key ps)) .colours
-  pub total : against ≡ walksOf (shapes table ps is) (joined (names key ps)) .against
-  pub rest : drop (16 * length is + 16 * m + 4 * v) E ≡ drop (16 * length is + 16 * m + 4 * v) W
+use Rattle.orientation.specs.declared.Counts.{Counts}
+use Rattle.orientation.specs.declared.Turned.{Turned}
+use Rattle.orientation.specs.declared.Turned.the-variants.{Done, Refused}
+use Rattle.orientation.specs.Orient.{AfterTurn, walksOf, turnBody}
 
 -- ---- an accepted body
 

@@ -13,10 +13,10 @@ use Rattle.join.specs.Join.{joined}
 use Rattle.body.specs.Body.{Row, Patch, rowsOf, patchesOf, firstFailing, cleared}
 use Rattle.refusals.specs.BodyChecks.{bodyChecks}
 use Rattle.edges.specs.Edges.{usesFrom}
-use Rattle.turning.specs.Pairs.{pairsOf}
+use Rattle.orientation.specs.Pairs.{pairsOf}
 use Rattle.walk.specs.Walk.{unvisited, coloured}
-use Rattle.turning.specs.Groups.{Walks, walksFrom}
-use Rattle.turning.specs.Reversal.{turnedBody}
+use Rattle.orientation.specs.Groups.{Walks, walksFrom}
+use Rattle.orientation.specs.Reversal.{turnedBody}
 
 -- the walks of a body whose vertices stand for the `points`
 unfoldable pub walksOf : List Patch → List ℕ → Walks

@@ -1,0 +1,2 @@
+-- What colouring leaves.
+pub mod Coloured
