@@ -19,10 +19,10 @@ use Rattle.acceptance.specs.Totals.{Totalled}
 use Rattle.mesh.specs.Mesh.{materialsOf, runsOf, partOf, rangesFrom}
 use Rattle.mesh.specs.JudgedRows.{judgedIn, numbersBy}
 use Rattle.mesh.specs.Parts.{laidIn}
-use Rattle.counts.specs.declared.tally.EdgeCounts.{EdgeCounts}
+use Rattle.tally.specs.declared.EdgeCounts.{EdgeCounts}
 use Rattle.counts.specs.Counts.{Counts, countsOf, closedBy}
-use Rattle.counts.specs.Tally.{countsIn}
-use Rattle.counts.specs.Mesh.{MeshReady}
+use Rattle.tally.specs.Tally.{countsIn}
+use Rattle.mesh_edges.specs.Mesh.{MeshReady}
 use Rattle.meshing.specs.declared.written.MeshCounts.{MeshCounts}
 use Rattle.meshing.specs.declared.written.Tables.{Tables}
 

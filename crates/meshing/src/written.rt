@@ -58,12 +58,12 @@ fn count_mesh(
     w: &mut [u64],
     vertices: usize,
     indices: usize,
-) -> counts::EdgeCounts
+) -> tally::EdgeCounts
     requires { ⌜ CountReady (now «mesh_positions») (now «mesh_indices») (now w) vertices indices ⌝ }
     ensures { λ r. ⌜ Counted (now («mesh_positions» .entry)) (now («mesh_indices» .entry)) (now (w .entry)) (now (w .exit)) vertices indices r ⌝ }
 {
     let end = 3 * vertices;
-    counts::count_edges(
+    mesh_edges::count_edges(
         &mesh_positions[..end],
         &mesh_indices[..indices],
         w,

@@ -24,10 +24,10 @@ use Rattle.edges.specs.Counted.{CountReady, Counted}
 use Rattle.edges.specs.RowUses.{uses-agree, uses-count}
 use Rattle.edges.specs.AreaLaws.{count-ready}
 use Rattle.edges.specs.UseLaws.{Apart, low-triangles, getD-map, length-named}
-use Rattle.counts.specs.declared.tally.EdgeCounts.{EdgeCounts}
+use Rattle.tally.specs.declared.EdgeCounts.{EdgeCounts}
 use Rattle.counts.specs.Counts.{countsOf}
-use Rattle.counts.specs.Tally.{countsIn, UseWords, CountsOver, Tallied}
-use Rattle.counts.specs.Mesh.{MeshReady, MeshCounted, meshUses, EdgesNamed, FirstsCounted}
+use Rattle.tally.specs.Tally.{countsIn, UseWords, CountsOver, Tallied}
+use Rattle.mesh_edges.specs.Mesh.{MeshReady, MeshCounted, meshUses, EdgesNamed, FirstsCounted}
 
 -- ---- names joined and counted
 

@@ -1,9 +1,9 @@
 -- `with_use` meets its contract. Assumes nothing.
-use Rattle.counts.proofs.TallyLaws.{use-equal, use-first, use-later}
+use Rattle.tally.proofs.TallyLaws.{use-equal, use-first, use-later}
 use mathlib.Core.Path.{sym, _∙_}
 use borrow.Author.Needs.{needs}
-use Rattle.counts.proofs.tally.with_use.Statement.{statement}
-use Rattle.counts.proofs.tally.with_use.Tie as tie
+use Rattle.tally.proofs.with_use.Statement.{statement}
+use Rattle.tally.proofs.with_use.Tie as tie
 
 mul-if1 : tie.Need-mul-if1
 mul-if1 c = search needs

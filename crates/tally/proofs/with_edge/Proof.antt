@@ -1,8 +1,8 @@
 -- `with_edge` meets its contract. Assumes nothing.
-use Rattle.counts.proofs.TallyLaws.{edge-open, edge-over, edge-other}
+use Rattle.tally.proofs.TallyLaws.{edge-open, edge-over, edge-other}
 use borrow.Author.Needs.{needs}
-use Rattle.counts.proofs.tally.with_edge.Statement.{statement}
-use Rattle.counts.proofs.tally.with_edge.Tie as tie
+use Rattle.tally.proofs.with_edge.Statement.{statement}
+use Rattle.tally.proofs.with_edge.Tie as tie
 
 add-t4 : tie.Need-add-t4
 add-t4 c = search needs

@@ -1,9 +1,9 @@
 -- `tally` meets its contract. Assumes nothing.
-use Rattle.counts.proofs.TallyLaws.{Tallying, tallying-none, use-ready, tallying-more, tallying-all}
+use Rattle.tally.proofs.TallyLaws.{Tallying, tallying-none, use-ready, tallying-more, tallying-all}
 use Prim.Native.Nat.{_-_}
 use borrow.Author.Needs.{needs}
-use Rattle.counts.proofs.tally.tally.Statement.{statement}
-use Rattle.counts.proofs.tally.tally.Tie as tie
+use Rattle.tally.proofs.tally.Statement.{statement}
+use Rattle.tally.proofs.tally.Tie as tie
 
 abbrev Inv-loop : tie.InvT-loop
 Inv-loop w at n c₀ i₀ c i = Tallying w at n i c

@@ -1,7 +1,7 @@
-// The edges counted from the words of their uses.
+// The edges of a mesh counted from the words of their uses.
 
 ghost use mathlib.Core.Path.{_≡_};
-ghost use Rattle.counts.specs.Tally.{Few, UseReady, TallyReady, Tallied, countsIn, withEdge, withUse};
+ghost use Rattle.tally.specs.Tally.{Few, UseReady, TallyReady, Tallied, countsIn, withEdge, withUse};
 
 // How many edges there are, how many of them are open (one use), and how many are over (more than two).
 pub struct EdgeCounts {

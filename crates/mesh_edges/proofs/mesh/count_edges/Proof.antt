@@ -1,9 +1,9 @@
 -- `count_edges` meets its contract. Assumes nothing.
-use Rattle.counts.proofs.MeshLaws.{runs-ready, mesh-counted}
+use Rattle.mesh_edges.proofs.MeshLaws.{runs-ready, mesh-counted}
 use native.Mathlib.Omega.{arith}
 use borrow.Author.Needs.{needs}
-use Rattle.counts.proofs.mesh.count_edges.Statement.{statement}
-use Rattle.counts.proofs.mesh.count_edges.Tie as tie
+use Rattle.mesh_edges.proofs.mesh.count_edges.Statement.{statement}
+use Rattle.mesh_edges.proofs.mesh.count_edges.Tie as tie
 
 name-edges-requires : tie.Need-name-edges-requires
 name-edges-requires c κs = search needs

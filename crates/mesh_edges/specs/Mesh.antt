@@ -12,9 +12,9 @@ use Rattle.join.specs.Join.{joined}
 use Rattle.body.specs.Body.{trianglesOf}
 use Rattle.edges.specs.Edges.{Use, triangleUses}
 use Rattle.edges.specs.Named.{useName}
-use Rattle.counts.specs.declared.tally.EdgeCounts.{EdgeCounts}
+use Rattle.tally.specs.declared.EdgeCounts.{EdgeCounts}
 use Rattle.counts.specs.Counts.{countsOf}
-use Rattle.counts.specs.Tally.{countsIn}
+use Rattle.tally.specs.Tally.{countsIn}
 
 -- what counting the edges of a mesh of v vertices asks: 01's limits, whole triangles, each index of a vertex, and room
 pub record MeshReady (ps : List Float) (is : List ℕ) (v : ℕ) (W : List ℕ) : Type 0 where

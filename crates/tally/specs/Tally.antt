@@ -10,8 +10,8 @@ use Rattle.join.specs.Join.{joined, firstIndex}
 use Rattle.edges.specs.Edges.{Use, usesOf, firstUses}
 use Rattle.edges.specs.Named.{useName, useRun}
 use Rattle.edges.specs.UseLaws.{noUse, Apart}
-use Rattle.counts.specs.declared.tally.EdgeCounts.{EdgeCounts}
+use Rattle.tally.specs.declared.EdgeCounts.{EdgeCounts}
 use Rattle.counts.specs.Counts.{Counts}
 
 -- the counts that an answer holds
 abbrev pub countsIn : EdgeCounts → Counts

@@ -1,8 +1,8 @@
 -- `name_edges` meets its contract. Assumes nothing.
-use Rattle.counts.proofs.MeshLaws.{name-ready, edges-named}
+use Rattle.mesh_edges.proofs.MeshLaws.{name-ready, edges-named}
 use borrow.Author.Needs.{needs}
-use Rattle.counts.proofs.mesh.name_edges.Statement.{statement}
-use Rattle.counts.proofs.mesh.name_edges.Tie as tie
+use Rattle.mesh_edges.proofs.mesh.name_edges.Statement.{statement}
+use Rattle.mesh_edges.proofs.mesh.name_edges.Tie as tie
 
 join-points-requires : tie.Need-join-points-requires
 join-points-requires c κs = search needs

@@ -18,7 +18,7 @@ use Rattle.edges.specs.Edges.{Use, skipped, sameEdge, usesOf, firstUses}
 use Rattle.edges.specs.Named.{useName}
 use Rattle.edges.specs.NameLaws.{run-equal, run-apart}
 use Rattle.edges.specs.UseLaws.{noUse, apart-tells, getD-map, length-named, edge-count}
-use Rattle.counts.specs.Tally.{UseWords}
+use Rattle.tally.specs.Tally.{UseWords}
 
 -- the uses before use i, the last first
 pub earlier : List Use → ℕ → List Use

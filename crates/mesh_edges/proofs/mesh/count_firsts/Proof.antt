@@ -1,8 +1,8 @@
 -- `count_firsts` meets its contract. Assumes nothing.
-use Rattle.counts.proofs.MeshLaws.{counts-room, firsts-counted}
+use Rattle.mesh_edges.proofs.MeshLaws.{counts-room, firsts-counted}
 use borrow.Author.Needs.{needs}
-use Rattle.counts.proofs.mesh.count_firsts.Statement.{statement}
-use Rattle.counts.proofs.mesh.count_firsts.Tie as tie
+use Rattle.mesh_edges.proofs.mesh.count_firsts.Statement.{statement}
+use Rattle.mesh_edges.proofs.mesh.count_firsts.Tie as tie
 
 join-words-at-requires : tie.Need-join-words-at-requires
 join-words-at-requires c κs = search needs

@@ -1,10 +1,10 @@
 // The edges of a mesh counted in the work area.
 
-use crate::tally::EdgeCounts;
-use crate::tally::tally;
 use join::vertices::Rule;
+use tally::EdgeCounts;
+use tally::tally;
 ghost use Rattle.join.specs.Join.{RoomAt};
-ghost use Rattle.counts.specs.Mesh.{MeshReady, MeshCounted, EdgesNamed, FirstsCounted};
+ghost use Rattle.mesh_edges.specs.Mesh.{MeshReady, MeshCounted, EdgesNamed, FirstsCounted};
 
 // The v vertices are joined by bits, and behind their table each use of an edge is named.
 fn name_edges(positions: &[f32], indices: &[u32], w: &mut [u64], v: usize)

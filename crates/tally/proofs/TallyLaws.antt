@@ -12,10 +12,10 @@ use lib.Dec.{eqb, ltb}
 use Rattle.lists.specs.Lists.{countIf}
 use Rattle.edges.specs.Edges.{Use, usesOf, firstUses}
 use Rattle.edges.specs.UseLaws.{noUse}
-use Rattle.counts.specs.declared.tally.EdgeCounts.{EdgeCounts}
+use Rattle.tally.specs.declared.EdgeCounts.{EdgeCounts}
 use Rattle.counts.specs.Counts.{Counts}
-use Rattle.counts.specs.Tally.{countsIn, withEdge, withUse, UseReady, TallyReady, UseWords, Tallied}
-use Rattle.counts.proofs.UseSteps.{firstsFrom, firsts-all, firsts-none, passed-equal, passed-later, taken-first, uses-there}
+use Rattle.tally.specs.Tally.{countsIn, withEdge, withUse, UseReady, TallyReady, UseWords, Tallied}
+use Rattle.tally.proofs.UseSteps.{firstsFrom, firsts-all, firsts-none, passed-equal, passed-later, taken-first, uses-there}
 
 -- ---- one edge more
 
