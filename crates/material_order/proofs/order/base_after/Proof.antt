@@ -1,9 +1,9 @@
 -- `base_after` meets its contract. The two branches are the two cases of the definition. Assumes nothing.
 use native.Mathlib.Omega.{arith}
-use Rattle.mesh_runs.proofs.OrderLaws.{after-no, after-yes}
+use Rattle.material_order.proofs.OrderLaws.{after-no, after-yes}
 use borrow.Author.Needs.{needs}
-use Rattle.mesh_runs.proofs.order.base_after.Statement.{statement}
-use Rattle.mesh_runs.proofs.order.base_after.Tie as tie
+use Rattle.material_order.proofs.order.base_after.Statement.{statement}
+use Rattle.material_order.proofs.order.base_after.Tie as tie
 
 returns : tie.Need-returns
 returns c = after-no _ _ _ (omega arith)

@@ -15,9 +15,10 @@ use Rattle.body.specs.Rows.{rowAt, verticesBefore, indicesBefore}
 use Rattle.body.specs.Patches.{indices-first, indices-next, indices-room, vertices-room}
 use Rattle.mesh.specs.JudgedRows.{judgedRows, judgedIn, baseAfter}
 use Rattle.mesh.specs.RowLaws.{sum-here}
-use Rattle.mesh_runs.specs.Order.{basesBefore, placeWord, orderWord, Orderable, RowsKept, RowsOrdered, OrderRoom, FirstAccepted}
+use Rattle.material_order.specs.Bases.{bases-next, bases-low}
+use Rattle.material_order.specs.Order.{basesBefore, placeWord, orderWord, Orderable, RowsKept, RowsOrdered, OrderRoom, FirstAccepted}
 
--- ---- vertices before a row
+-- ---- vertices before the next row
 
 -- after a failed row
 pub after-no : (base vertices d : ℕ) → d ≡ 0 → base ≡ baseAfter base vertices d
@@ -30,26 +31,6 @@ pub after-yes : (base vertices d : ℕ) → (d ≡ 0 → ⊥) → base + vertice
 unfolding baseAfter
 after-yes base vertices zero n = absurd (n refl)
 after-yes base vertices (suc m) n = refl
-
--- what a row adds, added to the rest
-after-add : (base vertices d : ℕ) → base + baseAfter 0 vertices d ≡ baseAfter base vertices d
-unfolding baseAfter
-after-add base vertices zero = omega arith
-after-add base vertices (suc m) = omega arith
-
--- one row more
-pub bases-next : (table W : List ℕ) (at : ℕ) → at + length (rowsOf table) ≤ length W → (k : ℕ) → k < length (rowsOf table)
-    → basesBefore (judgedIn table W at) (k + 1) ≡ baseAfter (basesBefore (judgedIn table W at) k) (rowAt table k .vertices) (getD W (at + k) 0)
-bases-next table W at room k h = sum-here table W at room k h (λ j. baseAfter 0 (j .row .vertices) (j .decision)) ∙ after-add (basesBefore (judgedIn table W at) k) (rowAt table k .vertices) (getD W (at + k) 0)
-
--- no more than those of all rows before it
-pub bases-low : (k : ℕ) (ds : List ℕ) (rs : List Row) → basesBefore (judgedRows ds rs) k ≤ verticesBefore rs k
-unfolding judgedRows verticesBefore allVertices sumOf baseAfter
-bases-low zero ds rs = omega arith
-bases-low (suc k) [] rs = omega arith
-bases-low (suc k) (d ∷ ds) [] = omega arith
-bases-low (suc k) (zero ∷ ds) (r ∷ rs) = let e = bases-low k ds rs in omega arith
-bases-low (suc k) (suc d ∷ ds) (r ∷ rs) = let e = bases-low k ds rs in omega arith
 
 -- ---- each row's words kept
 

@@ -1,9 +1,9 @@
 -- `first_accepted` meets its contract. The words passed are those of failed rows. Assumes nothing.
 use Prim.Native.Nat.{_-_}
-use Rattle.mesh_runs.proofs.OrderLaws.{Failing, failing-none, failing-more, failing-hit, failing-all}
+use Rattle.material_order.proofs.OrderLaws.{Failing, failing-none, failing-more, failing-hit, failing-all}
 use borrow.Author.Needs.{needs}
-use Rattle.mesh_runs.proofs.order.first_accepted.Statement.{statement}
-use Rattle.mesh_runs.proofs.order.first_accepted.Tie as tie
+use Rattle.material_order.proofs.order.first_accepted.Statement.{statement}
+use Rattle.material_order.proofs.order.first_accepted.Tie as tie
 
 abbrev Inv-loop : tie.InvT-loop
 Inv-loop w order m p₀ p = Failing w order m p

@@ -1,8 +1,8 @@
 -- `order_rows` meets its contract. The words are kept, then sorted. Assumes nothing.
-use Rattle.mesh_runs.proofs.OrderLaws.{sort-ready, ordered-rows}
+use Rattle.material_order.proofs.OrderLaws.{sort-ready, ordered-rows}
 use borrow.Author.Needs.{needs}
-use Rattle.mesh_runs.proofs.order.order_rows.Statement.{statement}
-use Rattle.mesh_runs.proofs.order.order_rows.Tie as tie
+use Rattle.material_order.proofs.order.order_rows.Statement.{statement}
+use Rattle.material_order.proofs.order.order_rows.Tie as tie
 
 keep-rows-requires : tie.Need-keep-rows-requires
 keep-rows-requires c κs = search needs

@@ -2,7 +2,7 @@
 
 ghost use mathlib.Core.Path.{_≡_};
 ghost use Rattle.mesh.specs.JudgedRows.{baseAfter};
-ghost use Rattle.mesh_runs.specs.Order.{orderWord, BaseSmall, WordSmall, Orderable, RowsKept, RowsOrdered, OrderRoom, FirstAccepted};
+ghost use Rattle.material_order.specs.Order.{orderWord, BaseSmall, WordSmall, Orderable, RowsKept, RowsOrdered, OrderRoom, FirstAccepted};
 
 // A decision stands in a word above the row, which takes so many bits.
 const ROW_BITS: u32 = 12;

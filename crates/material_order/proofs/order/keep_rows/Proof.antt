@@ -3,10 +3,10 @@ use mathlib.Core.Path.{refl}
 use Prim.Native.Nat.{_-_}
 use native.Mathlib.Omega.{arith}
 use lib.ListN.{length-set}
-use Rattle.mesh_runs.proofs.OrderLaws.{Keeping, keeping-none, decision-low, base-low, index-low, row-few, keeping-more, keeping-all}
+use Rattle.material_order.proofs.OrderLaws.{Keeping, keeping-none, decision-low, base-low, index-low, row-few, keeping-more, keeping-all}
 use borrow.Author.Needs.{needs}
-use Rattle.mesh_runs.proofs.order.keep_rows.Statement.{statement}
-use Rattle.mesh_runs.proofs.order.keep_rows.Tie as tie
+use Rattle.material_order.proofs.order.keep_rows.Statement.{statement}
+use Rattle.material_order.proofs.order.keep_rows.Tie as tie
 
 abbrev Inv-loop : tie.InvT-loop
 Inv-loop rows w₀ at starts order m base₀ i₀ k₀ w base i k = Keeping rows w₀ at starts order m base i k w
