@@ -23,7 +23,7 @@ use Rattle.tally.specs.declared.EdgeCounts.{EdgeCounts}
 use Rattle.counts.specs.Counts.{Counts, countsOf, closedBy}
 use Rattle.tally.specs.Tally.{countsIn}
 use Rattle.mesh_edges.specs.Mesh.{MeshReady}
-use Rattle.meshing.specs.declared.written.MeshCounts.{MeshCounts}
+use Rattle.assembled.specs.declared.MeshCounts.{MeshCounts}
 use Rattle.meshing.specs.declared.written.Tables.{Tables}
 
 -- the decisions on the m rows of an accepted body, at the front of the work area W

@@ -1,21 +1,9 @@
 // The mesh of the accepted rows written to the lent slices.
 
 use acceptance::Totals;
+use assembled::MeshCounts;
 use geometry::Aabb;
 ghost use Rattle.meshing.specs.Written.{TablesReady, TablesWritten, CountReady, Counted, WriteReady, MeshWritten};
-
-// How many vertices, indices, parts, ranges and failures were written; the mesh's edges, those used once, those used more than twice; and whether it is closed.
-pub struct MeshCounts {
-    pub vertices: u32,
-    pub indices: u32,
-    pub parts: u32,
-    pub ranges: u32,
-    pub failures: u32,
-    pub edges: u64,
-    pub opens: u64,
-    pub overs: u64,
-    pub closed: bool,
-}
 
 // How many parts, ranges and failures were written.
 pub struct Tables {

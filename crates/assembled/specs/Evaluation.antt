@@ -3,7 +3,7 @@ use Prim.Native.Nat.{ℕ}
 use Rattle.checks.specs.Evaluation as Checks
 use Rattle.counts.specs.Evaluation as Counts
 use Rattle.room.specs.Evaluation as Room
-use Rattle.assemble.specs.Assemble.{meshOf, refuseMesh, writeMesh, clearedMesh, assembleOrRefuse, assembleOf}
+use Rattle.assembled.specs.Assemble.{meshOf, refuseMesh, writeMesh, clearedMesh, assembleOrRefuse, assembleOf}
 
 -- every definition that computes
 unfoldable pub evaluation : ℕ

@@ -11,8 +11,8 @@ use Rattle.geometry.specs.declared.Aabb.{Aabb}
 use Rattle.geometry.specs.Geometry.{zero64}
 use Rattle.geometry.specs.Given.{box68, onePoint}
 use Rattle.room.specs.Slices.{MeshSlices}
-use Rattle.assemble.specs.Assemble.{AfterAssemble, assembleOf}
-use Rattle.assemble.specs.Evaluation.{evaluation}
+use Rattle.assembled.specs.Assemble.{AfterAssemble, assembleOf}
+use Rattle.assembled.specs.Evaluation.{evaluation}
 
 -- mesh slices of so many numbers, and tables of so many rows
 room : ℕ → ℕ → MeshSlices
