@@ -39,7 +39,8 @@ use Rattle.assembled.specs.declared.Assembled.the-variants.{Done, Refused}
 use Rattle.room.specs.Slices.{MeshSlices, meshTooShort, meshChecks}
 use Rattle.assembled.specs.Assemble.{AfterAssemble, meshOf, refuseMesh, writeMesh, clearedMesh, assembleOrRefuse, assembleOf}
 use Rattle.room.specs.Room.{RoomAsked, shortBy, short-is, fails-42, fails-41, fails-none, fits}
-use Rattle.meshing.specs.Written.{Decided, WriteReady, MeshWritten}
+use Rattle.mesh_tables.specs.Tables.{Decided}
+use Rattle.meshing.specs.Written.{WriteReady, MeshWritten}
 use Rattle.assembled.specs.Assembled.{slicesOf, leftMesh, assembleAnswered}
 use Rattle.assemble.specs.Steps.{assembleAccepted, AssembleReady, BodyAssembled}
 

@@ -25,7 +25,7 @@ use Rattle.mesh.specs.MaterialLaws.{start-next, start-low}
 use Rattle.mesh.specs.RangeLaws.{Same, Begun, ranges-are}
 use Rattle.mesh.specs.Parts.{laidIn, RunsWritable, RunsWritten}
 use Rattle.mesh.specs.Ranges.{RangesWritable, RangesWritten}
-use Rattle.meshing.specs.Written.{TablesReady, TablesWritten}
+use Rattle.mesh_tables.specs.Tables.{TablesReady, TablesWritten}
 
 -- item k of a list's decisions
 decision-at : (js : List JudgedRow) (k : ℕ) → getD (map (λ j. j .decision) js) k 0 ≡ getD js k noJudged .decision

@@ -1,8 +1,8 @@
 -- `write_tables` meets its contract. Runs, ranges and failures follow one another; each leaves the decisions as they were. Assumes nothing.
-use Rattle.meshing.proofs.TableLaws.{runs-ready, ranges-ready, failures-ready, tables-written}
+use Rattle.mesh_tables.proofs.TableLaws.{runs-ready, ranges-ready, failures-ready, tables-written}
 use borrow.Author.Needs.{needs}
-use Rattle.meshing.proofs.written.write_tables.Statement.{statement}
-use Rattle.meshing.proofs.written.write_tables.Tie as tie
+use Rattle.mesh_tables.proofs.write_tables.Statement.{statement}
+use Rattle.mesh_tables.proofs.write_tables.Tie as tie
 
 write-runs-requires : tie.Need-write-runs-requires
 write-runs-requires c κs = runs-ready (c .before .before .before .before .before .before .before .before .before .before .before .pre)
