@@ -33,14 +33,16 @@ use Rattle.mesh.specs.JudgedRows.{judgedIn, numbersBy}
 use Rattle.mesh.specs.LaidLaws.{laid-by, positions-by, normals-by}
 use Rattle.mesh.specs.Parts.{laidIn}
 use Rattle.counts.specs.Counts.{countsOf, closedBy}
-use Rattle.meshing.specs.declared.written.MeshCounts.{MeshCounts}
-use Rattle.assemble.specs.declared.assembling.Assembled.{Assembled}
-use Rattle.assemble.specs.declared.assembling.Assembled.the-variants.{Done, Refused}
+use Rattle.assembled.specs.declared.MeshCounts.{MeshCounts}
+use Rattle.assembled.specs.declared.Assembled.{Assembled}
+use Rattle.assembled.specs.declared.Assembled.the-variants.{Done, Refused}
 use Rattle.room.specs.Slices.{MeshSlices, meshTooShort, meshChecks}
-use Rattle.assemble.specs.Assemble.{AfterAssemble, meshOf, refuseMesh, writeMesh, clearedMesh, assembleOrRefuse, assembleOf}
+use Rattle.assembled.specs.Assemble.{AfterAssemble, meshOf, refuseMesh, writeMesh, clearedMesh, assembleOrRefuse, assembleOf}
 use Rattle.room.specs.Room.{RoomAsked, shortBy, short-is, fails-42, fails-41, fails-none, fits}
-use Rattle.meshing.specs.Written.{Decided, WriteReady, MeshWritten}
-use Rattle.assemble.specs.Assembled.{slicesOf, leftMesh, assembleAnswered, assembleAccepted, AssembleReady, BodyAssembled}
+use Rattle.mesh_tables.specs.Tables.{Decided}
+use Rattle.meshing.specs.Written.{WriteReady, MeshWritten}
+use Rattle.assembled.specs.Assembled.{slicesOf, leftMesh, assembleAnswered}
+use Rattle.assemble.specs.Steps.{assembleAccepted, AssembleReady, BodyAssembled}
 
 -- item k of a list with each item changed
 item-changed : (f : Patch → ℕ) (xs : List Patch) (k : ℕ) → k < length xs → getD (map f xs) k 0 ≡ f (getD xs k noPatch)

@@ -1,5 +1,2 @@
--- The definition of assembling, what the code checks, writes and answers, and the definitions computed.
-pub mod Assemble
-pub mod Assembled
-pub mod Evaluation
-pub mod Claims
+-- What the functions of this crate ask of each other and leave.
+pub mod Steps

@@ -1,21 +1,16 @@
 // assemble: a body's accepted patches as one mesh, with parts, ranges, failures and edge counts.
 
+use assembled::Assembled;
 use geometry::Aabb;
-use meshing::MeshCounts;
 use meshing::write_mesh;
 use room::too_short;
 ghost use mathlib.Core.Path.{_≡_};
 ghost use Prim.Native.Nat.{_+_, _*_};
 ghost use lib.ListN.{length};
 ghost use Rattle.checks.specs.Accepted.{Passed};
-ghost use Rattle.assemble.specs.Assemble.{assembleOf};
-ghost use Rattle.assemble.specs.Assembled.{slicesOf, leftMesh, assembleAnswered, assembleAccepted, AssembleReady, BodyAssembled};
-
-// What assemble answers: the counts, or the number of the first check that fails.
-pub enum Assembled {
-    Done(MeshCounts),
-    Refused(u32),
-}
+ghost use Rattle.assembled.specs.Assemble.{assembleOf};
+ghost use Rattle.assembled.specs.Assembled.{slicesOf, leftMesh, assembleAnswered};
+ghost use Rattle.assemble.specs.Steps.{assembleAccepted, AssembleReady, BodyAssembled};
 
 // A body of m rows that passed its checks is assembled if it passes 42 and 41: materials of 32 bits, and room.
 fn assemble_rows(

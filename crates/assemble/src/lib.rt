@@ -2,5 +2,4 @@
 
 mod assembling;
 
-pub use assembling::Assembled;
 pub use assembling::assemble;

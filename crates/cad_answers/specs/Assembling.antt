@@ -1,10 +1,10 @@
 -- What cad_assemble answers and leaves. Assumes nothing.
 use mathlib.Core.Bool.{not, cond}
 use lib.Dec.{eqb}
-use Rattle.assemble.specs.declared.assembling.Assembled.{Assembled}
-use Rattle.assemble.specs.declared.assembling.Assembled.the-variants.{Done, Refused}
+use Rattle.assembled.specs.declared.Assembled.{Assembled}
+use Rattle.assembled.specs.declared.Assembled.the-variants.{Done, Refused}
 use Rattle.room.specs.Slices.{MeshSlices}
-use Rattle.assemble.specs.Assemble.{AfterAssemble}
+use Rattle.assembled.specs.Assemble.{AfterAssemble}
 use Rattle.cad_answers.specs.declared.assembling.CadAssembled.{CadAssembled}
 
 -- 01's number and values for each answer

@@ -10,11 +10,11 @@ use Rattle.body.specs.Body.{Row, rowsOf, patchesOf, firstFailing}
 use Rattle.refusals.specs.BodyChecks.{bodyChecks}
 use Rattle.geometry.specs.declared.Aabb.{Aabb}
 use Rattle.acceptance.specs.Acceptance.{Acceptance, acceptance}
-use Rattle.assemble.specs.declared.assembling.Assembled.{Assembled}
-use Rattle.assemble.specs.declared.assembling.Assembled.the-variants.{Done, Refused}
+use Rattle.assembled.specs.declared.Assembled.{Assembled}
+use Rattle.assembled.specs.declared.Assembled.the-variants.{Done, Refused}
 use Rattle.room.specs.Slices.{MeshSlices, meshChecks}
-use Rattle.assemble.specs.Assemble.{AfterAssemble, writeMesh, refuseMesh, clearedMesh, assembleOrRefuse, assembleOf}
-use Rattle.assemble.specs.Assembled.{LeftMesh, leftMesh, countsAnswered, assembleAnswered}
+use Rattle.assembled.specs.Assemble.{AfterAssemble, writeMesh, refuseMesh, clearedMesh, assembleOrRefuse, assembleOf}
+use Rattle.assembled.specs.Assembled.{LeftMesh, leftMesh, countsAnswered, assembleAnswered}
 use Rattle.cad_answers.specs.declared.assembling.CadAssembled.{CadAssembled}
 use Rattle.cad_answers.specs.Assembling.{cadAssembled, leftAfterAssemble}
 use Rattle.cad_tess.proofs.Told.{either}

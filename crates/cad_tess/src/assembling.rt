@@ -4,8 +4,8 @@ use cad_answers::CadAssembled;
 use cad_answers::assembled_answer;
 use cad_answers::box_of;
 ghost use mathlib.Core.Path.{_≡_};
-ghost use Rattle.assemble.specs.Assemble.{assembleOf};
-ghost use Rattle.assemble.specs.Assembled.{slicesOf};
+ghost use Rattle.assembled.specs.Assemble.{assembleOf};
+ghost use Rattle.assembled.specs.Assembled.{slicesOf};
 ghost use Rattle.cad_answers.specs.Answers.{boxOf};
 ghost use Rattle.cad_answers.specs.Assembling.{leftAfterAssemble};
 

@@ -9,16 +9,16 @@ use Rattle.answer.specs.declared.Sizes.{Sizes}
 use Rattle.answer.specs.declared.Tallies.{Tallies}
 use Rattle.answer.specs.Longest.{MeshInLimits, answer-length}
 use Rattle.answer.specs.Answer.{Written, meshText, countText, refusalLine}
-use Rattle.meshing.specs.declared.written.MeshCounts.{MeshCounts}
-use Rattle.assemble.specs.declared.assembling.Assembled.{Assembled}
-use Rattle.assemble.specs.declared.assembling.Assembled.the-variants as A
-use Rattle.assemble.specs.Assemble.{AfterAssemble, assembleOf}
+use Rattle.assembled.specs.declared.MeshCounts.{MeshCounts}
+use Rattle.assembled.specs.declared.Assembled.{Assembled}
+use Rattle.assembled.specs.declared.Assembled.the-variants as A
+use Rattle.assembled.specs.Assemble.{AfterAssemble, assembleOf}
 use Rattle.room.specs.Slices.{MeshSlices}
 use Rattle.floats.specs.Floats.{f32}
 use Rattle.geometry.specs.declared.Aabb.{Aabb}
 use Rattle.geometry.specs.Geometry.{zero64}
 use Rattle.finish.specs.Finish.{benchRoom, area, meshSlices}
-use Rattle.assemble.specs.Assembled.{LeftMesh, leftMesh, slicesOf, assembleAnswered, countsAnswered}
+use Rattle.assembled.specs.Assembled.{LeftMesh, leftMesh, slicesOf, assembleAnswered, countsAnswered}
 use Rattle.orientation.specs.declared.Counts.{Counts}
 use Rattle.calls.proofs.CaseLaws.{Cases, told-done, told-refused}
 use Rattle.calls.specs.Told.{Told}

@@ -19,10 +19,10 @@ use Rattle.results.specs.declared.answer.Stitched.{Stitched}
 use Rattle.results.specs.Slices.{AfterStitch}
 use Rattle.stitch.specs.Stitch.{stitchOf}
 use Rattle.results.specs.Stitched as S
-use Rattle.meshing.specs.declared.written.MeshCounts.{MeshCounts}
-use Rattle.assemble.specs.Assemble.{AfterAssemble, assembleOf}
-use Rattle.assemble.specs.declared.assembling.Assembled.{Assembled}
-use Rattle.assemble.specs.Assembled.{countsAnswered, leftMesh, slicesOf, assembleAnswered}
+use Rattle.assembled.specs.declared.MeshCounts.{MeshCounts}
+use Rattle.assembled.specs.Assemble.{AfterAssemble, assembleOf}
+use Rattle.assembled.specs.declared.Assembled.{Assembled}
+use Rattle.assembled.specs.Assembled.{countsAnswered, leftMesh, slicesOf, assembleAnswered}
 use Rattle.calls.specs.Told.{Told}
 use Rattle.finish.specs.Finish.{benchRoom, area, stitchSlices, meshSlices}
 

@@ -17,7 +17,7 @@ use Rattle.orientation.specs.Orient.{turnOf}
 use Rattle.results.specs.Slices.{StitchSlices, AfterStitch, stitchChecks}
 use Rattle.stitch.specs.Stitch.{stitchOf}
 use Rattle.room.specs.Slices.{MeshSlices}
-use Rattle.assemble.specs.Assemble.{AfterAssemble, assembleOf}
+use Rattle.assembled.specs.Assemble.{AfterAssemble, assembleOf}
 use Rattle.alone.specs.Evaluation as Lone
 use Rattle.finish.specs.Evaluation.{evaluation}
 

@@ -7,6 +7,7 @@ use counting::prepare::prepare;
 use results::Sizes;
 use results::Stitched;
 use results::result_failing;
+use splitting::Tally;
 ghost use Prim.Native.Nat.{_+_, _*_};
 ghost use lib.ListN.{length};
 ghost use Rattle.points.specs.Rule.{names};
@@ -37,7 +38,7 @@ pub fn stitch_open(
 {
     let n = indices.len();
     let f = prepare(rows, positions, indices, w, v, m, sag);
-    let t = count_splits(rows, positions, indices, w, f);
+    let t: Tally = count_splits(rows, positions, indices, w, f);
     let vertices = v + t.placed;
     let total = n + 3 * t.placed;
     let failing = result_failing(

@@ -1,6 +1,4 @@
--- The counts of a mesh, what counting asks and leaves in the work area, and the definitions computed.
+-- The counts of a mesh and when it is closed, the definitions computed, and claims about small meshes.
 pub mod Counts
-pub mod Tally
-pub mod Mesh
 pub mod Evaluation
 pub mod Claims

@@ -2,7 +2,7 @@
 use Prim.Native.Nat.{ℕ}
 use Rattle.orientation.specs.Evaluation as Turning
 use Rattle.stitch.specs.Evaluation as Stitch
-use Rattle.assemble.specs.Evaluation as Assemble
+use Rattle.assembled.specs.Evaluation as Assemble
 use Rattle.finish.specs.Finish.{benchRoom, area, stitchSlices, meshSlices, assembleNext, stitchNext, finishIn, finish}
 use Rattle.finish.specs.Parts.{turnNumbers, sheetPatches, sheetFacets, placedNumbers, splitNumbers, splitsAt, placedAt, placedOf, withSplits, allWithSplits, finishFrom}
 

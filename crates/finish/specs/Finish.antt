@@ -16,7 +16,7 @@ use Rattle.stitch.specs.Stitch.{stitchOf}
 use Rattle.acceptance.specs.Acceptance.{failureWidth}
 use Rattle.mesh.specs.Mesh.{partWidth, rangeWidth}
 use Rattle.room.specs.Slices.{MeshSlices}
-use Rattle.assemble.specs.Assemble.{AfterAssemble, assembleOf}
+use Rattle.assembled.specs.Assemble.{AfterAssemble, assembleOf}
 
 -- a sheet that was read: box, sag, default and materials (0 is none, n + 1 is material n), and the body, whose floats are f32 bits
 pub record Sheet : Type 0 where

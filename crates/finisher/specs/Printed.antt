@@ -11,7 +11,7 @@ use Rattle.points.specs.Points.{key}
 use Rattle.orientation.specs.Orient.{AfterTurn, turnOf}
 use Rattle.results.specs.Slices.{AfterStitch}
 use Rattle.stitch.specs.Stitch.{stitchOf}
-use Rattle.assemble.specs.Assemble.{assembleOf}
+use Rattle.assembled.specs.Assemble.{assembleOf}
 use Rattle.finish.specs.Finish.{Sheet, Outcome, Refused, Finished, benchRoom, area, meshSlices, stitchSlices, assembleNext, stitchNext, finishIn, finish}
 use Rattle.sheet.specs.Bench.{printed}
 use Rattle.sheet.specs.Printing.{meshLines, countLines}

@@ -1,5 +1,4 @@
 -- The laws that the proofs of this crate cite, by subject.
-pub mod OrderLaws
 pub mod RunLaws
 pub mod WalkLaws
 pub mod PartLaws

@@ -20,7 +20,7 @@ use Rattle.mesh.specs.RowLaws.{judged-long}
 use Rattle.mesh.specs.LaidLaws.{run-by, run-long, judged-indices, laid-low, laid-few, laid-has, has-laid}
 use Rattle.mesh.specs.MaterialLaws.{materials-have, have-materials, materials-rise, rising-all, rising-from, rising-none, start-same, start-next, start-low, start-none, materials-few}
 use Rattle.mesh.specs.Parts.{laidIn, RunsWritable, RunsWritten}
-use Rattle.mesh_runs.specs.Order.{placeWord, orderWord, Orderable, RowAt, Ordered, RowsOrdered, OrderRoom, FirstAccepted}
+use Rattle.material_order.specs.Order.{placeWord, orderWord, Orderable, RowAt, Ordered, RowsOrdered, OrderRoom, FirstAccepted}
 use Rattle.mesh_runs.specs.Runs.{RunWritable, RunWritten}
 use Rattle.mesh_runs.specs.declared.runs.RunEnd.{RunEnd}
 use Rattle.mesh_runs.proofs.RunLaws.{not-above}

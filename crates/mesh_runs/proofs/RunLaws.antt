@@ -18,9 +18,9 @@ use Rattle.append.specs.Appended.{Appended, appended-none, appended-long, appen
 use Rattle.acceptance.specs.Judged.{decisionsIn}
 use Rattle.mesh.specs.JudgedRows.{JudgedRow, judgedIn, sameIf, runBy, indicesWith}
 use Rattle.mesh.specs.RowLaws.{judged-here, judged-long, sum-here}
-use Rattle.mesh_runs.specs.Order.{basesBefore}
+use Rattle.material_order.specs.Order.{basesBefore}
 use Rattle.mesh_runs.specs.Runs.{RowRunnable, RowRun, RunWritable}
-use Rattle.mesh_runs.proofs.OrderLaws.{bases-next, bases-low}
+use Rattle.material_order.specs.Bases.{bases-next, bases-low}
 use native.Mathlib.Nat.{le-of-suc-le-suc, lt-of-not-le}
 
 -- what isn't above is at most as high

@@ -11,7 +11,7 @@ use Rattle.body.specs.Body.{rowsOf}
 use Rattle.body.specs.Rows.{rowAt, indicesBefore}
 use Rattle.body.specs.Patches.{indices-room}
 use Rattle.mesh.specs.JudgedRows.{judgedIn}
-use Rattle.mesh_runs.specs.Order.{basesBefore, orderWord, RowAt}
+use Rattle.material_order.specs.Order.{basesBefore, orderWord, RowAt}
 use Rattle.mesh_runs.specs.Runs.{RowRunnable, RowRun, RunWritable, RunWritten}
 use Rattle.mesh_runs.proofs.RunLaws.{Reached, reached-none, reached-ready, reached-row, reached-skip, reached-run, reached-end, not-above}
 

@@ -1,3 +1,2 @@
 -- What the functions of this crate ask of each other and leave.
-pub mod Order
 pub mod Runs

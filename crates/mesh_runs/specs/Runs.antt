@@ -7,7 +7,7 @@ use Rattle.body.specs.Body.{rowsOf}
 use Rattle.append.specs.Appended.{Appended}
 use Rattle.mesh.specs.JudgedRows.{judgedIn, runBy, indicesWith}
 use Rattle.mesh.specs.Parts.{Runnable}
-use Rattle.mesh_runs.specs.Order.{placeWord, Ordered}
+use Rattle.material_order.specs.Order.{placeWord, Ordered}
 use Rattle.mesh_runs.specs.declared.runs.RunEnd.{RunEnd}
 
 -- what a row's part in a run asks: its indices are there and fit when moved, and there is room

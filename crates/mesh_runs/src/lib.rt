@@ -1,6 +1,5 @@
 // The runs of a mesh, one for each material, and the parts that tell of them.
 
-mod order;
 mod parts;
 mod runs;
 

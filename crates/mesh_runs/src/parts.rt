@@ -1,9 +1,9 @@
 // The parts of the mesh: one run of indices for each material, ascending.
 
-use crate::order::ROWS;
-use crate::order::first_accepted;
-use crate::order::order_rows;
 use crate::runs::write_run;
+use material_order::ROWS;
+use material_order::first_accepted;
+use material_order::order_rows;
 use materials::MaterialId;
 ghost use mathlib.Core.List.{[], _∷_};
 ghost use Prim.Native.Nat.{_+_, _*_, _≤_};

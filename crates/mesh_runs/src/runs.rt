@@ -1,7 +1,7 @@
 // The run of one material: the indices of its rows, in row order.
 
-use crate::order::INDICES;
-use crate::order::ROWS;
+use material_order::INDICES;
+use material_order::ROWS;
 ghost use Rattle.mesh_runs.specs.Runs.{RowRunnable, RowRun, RunWritable, RunWritten};
 
 // Where a run's words and its indices end.

@@ -27,12 +27,13 @@ use Rattle.mesh.specs.MaterialLaws.{materials-few}
 use Rattle.mesh.specs.RunsLong.{runs-long}
 use Rattle.mesh.specs.Written.{VerticesWritable, VerticesWritten}
 use Rattle.mesh.specs.Parts.{laidIn}
-use Rattle.counts.specs.declared.tally.EdgeCounts.{EdgeCounts}
+use Rattle.tally.specs.declared.EdgeCounts.{EdgeCounts}
 use Rattle.counts.specs.Counts.{countsOf, closedBy}
-use Rattle.counts.specs.Tally.{countsIn}
-use Rattle.counts.specs.Mesh.{MeshReady, MeshCounted}
-use Rattle.meshing.specs.declared.written.Tables.{Tables}
-use Rattle.meshing.specs.Written.{TablesReady, TablesWritten, CountReady, Counted, WriteReady, MeshWritten}
+use Rattle.tally.specs.Tally.{countsIn}
+use Rattle.mesh_edges.specs.Mesh.{MeshReady, MeshCounted}
+use Rattle.mesh_tables.specs.declared.Tables.{Tables}
+use Rattle.mesh_tables.specs.Tables.{TablesReady, TablesWritten}
+use Rattle.meshing.specs.Written.{CountReady, Counted, WriteReady, MeshWritten}
 use Rattle.meshing.proofs.SizeLaws.{numbers-long, laid-sum, accepted-threes, failed-most}
 use Rattle.meshing.proofs.BelowLaws.{runs-below, laid-below}
 

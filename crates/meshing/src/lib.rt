@@ -2,5 +2,4 @@
 
 mod written;
 
-pub use written::MeshCounts;
 pub use written::write_mesh;

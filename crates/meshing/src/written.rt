@@ -1,55 +1,9 @@
 // The mesh of the accepted rows written to the lent slices.
 
 use acceptance::Totals;
+use assembled::MeshCounts;
 use geometry::Aabb;
-ghost use Rattle.meshing.specs.Written.{TablesReady, TablesWritten, CountReady, Counted, WriteReady, MeshWritten};
-
-// How many vertices, indices, parts, ranges and failures were written; the mesh's edges, those used once, those used more than twice; and whether it is closed.
-pub struct MeshCounts {
-    pub vertices: u32,
-    pub indices: u32,
-    pub parts: u32,
-    pub ranges: u32,
-    pub failures: u32,
-    pub edges: u64,
-    pub opens: u64,
-    pub overs: u64,
-    pub closed: bool,
-}
-
-// How many parts, ranges and failures were written.
-pub struct Tables {
-    pub parts: usize,
-    pub ranges: usize,
-    pub failures: usize,
-}
-
-// The accepted rows' runs, the parts, the ranges and the failures are written; decisions stand at the front of the work area.
-fn write_tables(
-    rows: &[u32],
-    positions: &[f32],
-    indices: &[u32],
-    reference: Aabb,
-    w: &mut [u64],
-    m: usize,
-    mesh_indices: &mut [u32],
-    parts: &mut [u32],
-    ranges: &mut [u32],
-    failures: &mut [u64],
-) -> Tables
-    requires { ⌜ TablesReady (now rows) (now positions) (now indices) reference (now w) m (now «mesh_indices») (now parts) (now ranges) (now failures) ⌝ }
-    ensures { λ r. ⌜ TablesWritten (now (rows .entry)) (now (positions .entry)) (now (indices .entry)) reference (now (w .entry)) (now (w .exit)) m
-        (now («mesh_indices» .entry)) (now («mesh_indices» .exit)) (now (parts .entry)) (now (parts .exit)) (now (ranges .entry)) (now (ranges .exit)) (now (failures .entry)) (now (failures .exit)) r ⌝ }
-{
-    let p = mesh_runs::write_runs(rows, indices, w, 0, m, mesh_indices, parts);
-    let r = mesh_rows::write_ranges(rows, w, 0, m, ranges);
-    let f = acceptance::write_failures(rows, positions, indices, reference, w, 0, failures);
-    Tables {
-        parts: p,
-        ranges: r,
-        failures: f,
-    }
-}
+ghost use Rattle.meshing.specs.Written.{CountReady, Counted, WriteReady, MeshWritten};
 
 // The edges of the mesh that stands at the front of the slices are counted.
 fn count_mesh(
@@ -58,12 +12,12 @@ fn count_mesh(
     w: &mut [u64],
     vertices: usize,
     indices: usize,
-) -> counts::EdgeCounts
+) -> tally::EdgeCounts
     requires { ⌜ CountReady (now «mesh_positions») (now «mesh_indices») (now w) vertices indices ⌝ }
     ensures { λ r. ⌜ Counted (now («mesh_positions» .entry)) (now («mesh_indices» .entry)) (now (w .entry)) (now (w .exit)) vertices indices r ⌝ }
 {
     let end = 3 * vertices;
-    counts::count_edges(
+    mesh_edges::count_edges(
         &mesh_positions[..end],
         &mesh_indices[..indices],
         w,
@@ -95,7 +49,7 @@ pub fn write_mesh(
 {
     mesh_rows::write_vertices(rows, positions, w, 0, mesh_positions);
     mesh_rows::write_vertices(rows, normals, w, 0, mesh_normals);
-    let b = write_tables(
+    let b = mesh_tables::write_tables(
         rows,
         positions,
         indices,

@@ -6,7 +6,7 @@ use Rattle.answer.specs.declared.Tallies.{Tallies}
 use Rattle.answer.specs.Answer.{countText, meshText}
 use Rattle.orientation.specs.Orient.{AfterTurn}
 use Rattle.results.specs.Slices.{AfterStitch}
-use Rattle.assemble.specs.Assemble.{AfterAssemble}
+use Rattle.assembled.specs.Assemble.{AfterAssemble}
 
 -- how much assemble wrote
 abbrev pub sizesOf : AfterAssemble → Sizes

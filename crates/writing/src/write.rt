@@ -41,9 +41,9 @@ fn write_triangle(
     let c = gathering::corner(indices, base, f.v, k + 2);
     let r: Tally = find_splits(positions, indices, w, f, n, base, k);
     let kept = r.placed;
-    rings::append_positions(positions, w, f.at, f.ts, kept, out_positions, 3 * vo);
-    rings::append_normals(normals, a, b, c, w, f.at, f.ts, kept, out_normals, 3 * vo);
-    let end = rings::append_fan(
+    ring_vertices::append_positions(positions, w, f.at, f.ts, kept, out_positions, 3 * vo);
+    ring_vertices::append_normals(normals, a, b, c, w, f.at, f.ts, kept, out_normals, 3 * vo);
+    let end = fans::append_fan(
         w,
         f.at,
         f.ts,

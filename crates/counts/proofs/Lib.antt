@@ -1,4 +1,0 @@
--- The laws that the proofs of this crate cite, by subject.
-pub mod UseSteps
-pub mod TallyLaws
-pub mod MeshLaws

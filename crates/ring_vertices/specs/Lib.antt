@@ -1,0 +1,2 @@
+-- What the functions that write one new vertex ask.
+pub mod VertexSteps

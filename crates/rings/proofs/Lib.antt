@@ -1,4 +1,0 @@
--- The laws that the proofs of this crate cite, by subject.
-pub mod VertexLaws
-pub mod EdgeLaws
-pub mod PushLaws
