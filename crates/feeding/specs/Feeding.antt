@@ -12,7 +12,7 @@ use Rattle.reader.specs.Slices.{lent}
 use Rattle.sheet.specs.Bench.{bench}
 use Rattle.finisher.specs.Answered.{answerIn}
 use Rattle.feeding.specs.declared.Fed.{Fed}
-use Rattle.calls.specs.Told.{Told}
+use Rattle.call_texts.specs.Told.{Told}
 
 -- A text was fed: the lines before its last LF were read, giving the state, and what stands after that LF, the tail, is in the buffer, as far as it has room. However the text goes on, the
 -- sheet is what the state and the tail then give.

@@ -17,8 +17,8 @@ use Rattle.reader.specs.Limits.{Limited, limited}
 use Rattle.reader.specs.Slices.{inLimits, lent, patternsOf}
 use Rattle.sheet.specs.Bench.{printed}
 use Rattle.sheet.specs.Meaning.{boxOf, meant}
-use Rattle.calls.specs.Told.{Told, told-refusal}
-use Rattle.calls.specs.Texts.{finishedText}
+use Rattle.call_texts.specs.Told.{Told, told-refusal}
+use Rattle.call_texts.specs.Texts.{finishedText}
 use Rattle.finisher.specs.Answered.{FrontsSaid, answerIn}
 use Rattle.finisher.specs.Printed.{printed-finish}
 

@@ -6,8 +6,8 @@ use lib.ListN.{length, take}
 use lib.Dec.{eqb}
 use lib.Ieee.{Float}
 use Rattle.answer.specs.Answer.{refusalLine}
-use Rattle.calls.specs.Told.{Told}
-use Rattle.calls.specs.Texts.{finishedText}
+use Rattle.call_texts.specs.Told.{Told}
+use Rattle.call_texts.specs.Texts.{finishedText}
 use Rattle.geometry.specs.declared.Aabb.{Aabb}
 use Rattle.finish.specs.Finish.{finish}
 use Rattle.reader.specs.Slices.{Lent, inLimits, patternsOf}

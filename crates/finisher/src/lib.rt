@@ -20,7 +20,7 @@ ghost use Rattle.reader.specs.Limits.{Limited};
 ghost use Rattle.reader.specs.Slices.{lent, patternsOf};
 ghost use Rattle.sheet.specs.Bench.{printed};
 ghost use Rattle.sheet.specs.Meaning.{meant};
-ghost use Rattle.calls.specs.Told.{Told};
+ghost use Rattle.call_texts.specs.Told.{Told};
 ghost use Rattle.finisher.specs.Answered.{FrontsSaid, answerIn};
 
 // Numbers copied, as many as there is room for.

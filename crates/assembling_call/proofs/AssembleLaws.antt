@@ -1,9 +1,9 @@
--- The laws of what is printed: an answer of a call decides. Assumes nothing.
+-- The laws of what is printed of assemble's answer. Assumes nothing.
 use mathlib.Core.List.{List, _++_}
 use mathlib.Core.Path.{_≡_, refl, sym, _∙_, ap, subst}
 use Prim.Native.Nat.{ℕ}
 use native.Mathlib.Omega.{arith}
-use lib.Ieee.{Float, ofBits}
+use lib.Ieee.{Float}
 use lib.ListN.{replicate}
 use Rattle.answer.specs.declared.Sizes.{Sizes}
 use Rattle.answer.specs.declared.Tallies.{Tallies}
@@ -20,9 +20,10 @@ use Rattle.geometry.specs.Geometry.{zero64}
 use Rattle.finish.specs.Finish.{benchRoom, area, meshSlices}
 use Rattle.assemble.specs.Assembled.{LeftMesh, leftMesh, slicesOf, assembleAnswered, countsAnswered}
 use Rattle.orient.specs.declared.turning.Counts.{Counts}
-use Rattle.calls.proofs.CaseLaws.{Cases, told-done, told-refused}
-use Rattle.calls.specs.Told.{Told}
-use Rattle.calls.specs.Texts.{MeshSaid, assembledText, sizedFrom, talliedFrom, meshPrinted}
+use Rattle.call_texts.specs.Cases.{Cases, told-done, told-refused}
+use Rattle.call_texts.specs.Told.{Told}
+use Rattle.call_texts.specs.Zeros.{zero-same}
+use Rattle.call_texts.specs.Texts.{MeshSaid, assembledText, sizedFrom, talliedFrom, meshPrinted}
 
 mesh-cases : Cases A.Done A.Refused
 mesh-cases = record { apart = λ c n e. let z : _≡_ {A = ℕ} 0 1 = cc in omega arith; result = λ c d e. cc; number = λ m n e. cc }
@@ -51,11 +52,6 @@ module _ (t : Counts) (splits : ℕ) (g : Assembled) (P N : List Float) (I parts
 -- ---- the arrays that are lent
 abbrev meshZeros : Float → MeshSlices
 meshZeros z = slicesOf (replicate 576 z) (replicate 576 z) (replicate 192 0) (replicate 48 0) (replicate 48 0) (replicate 64 0) (replicate 4096 0)
-
--- 0.0 is the same value in both formats
-pub zero-same : f32 0 ≡ zero64
-unfolding ofBits
-zero-same = refl
 
 room-zeros : meshZeros zero64 ≡ meshSlices benchRoom
 unfolding meshSlices benchRoom area

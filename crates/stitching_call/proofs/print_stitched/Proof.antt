@@ -1,8 +1,8 @@
 -- `print_stitched` meets its contract. Assumes nothing.
-use Rattle.calls.proofs.CallLaws.{stitch-said, stitch-said-refused}
+use Rattle.stitching_call.proofs.StitchLaws.{stitch-said, stitch-said-refused}
 use borrow.Author.Needs.{needs}
-use Rattle.calls.proofs.print_stitched.Statement.{statement}
-use Rattle.calls.proofs.print_stitched.Tie as tie
+use Rattle.stitching_call.proofs.print_stitched.Statement.{statement}
+use Rattle.stitching_call.proofs.print_stitched.Tie as tie
 
 enum-known-given : tie.Need-enum-known-given
 enum-known-given c = search needs

@@ -1,8 +1,8 @@
 -- `assemble_next` meets its contract. Assumes nothing.
-use Rattle.calls.proofs.TextLaws.{assembled-text}
+use Rattle.assembling_call.proofs.AssembleLaws.{assembled-text}
 use borrow.Author.Needs.{needs}
-use Rattle.calls.proofs.assemble_next.Statement.{statement}
-use Rattle.calls.proofs.assemble_next.Tie as tie
+use Rattle.assembling_call.proofs.assemble_next.Statement.{statement}
+use Rattle.assembling_call.proofs.assemble_next.Tie as tie
 
 slice-aggregate-assemble : tie.Need-slice-aggregate-assemble
 slice-aggregate-assemble c = search needs

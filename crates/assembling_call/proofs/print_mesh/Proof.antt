@@ -1,8 +1,8 @@
 -- `print_mesh` meets its contract. Assumes nothing.
-use Rattle.calls.proofs.TextLaws.{mesh-said, mesh-said-refused}
+use Rattle.assembling_call.proofs.AssembleLaws.{mesh-said, mesh-said-refused}
 use borrow.Author.Needs.{needs}
-use Rattle.calls.proofs.print_mesh.Statement.{statement}
-use Rattle.calls.proofs.print_mesh.Tie as tie
+use Rattle.assembling_call.proofs.print_mesh.Statement.{statement}
+use Rattle.assembling_call.proofs.print_mesh.Tie as tie
 
 enum-known-given : tie.Need-enum-known-given
 enum-known-given c = search needs

@@ -23,7 +23,7 @@ use Rattle.meshing.specs.declared.written.MeshCounts.{MeshCounts}
 use Rattle.assemble.specs.Assemble.{AfterAssemble, assembleOf}
 use Rattle.assemble.specs.declared.assembling.Assembled.{Assembled}
 use Rattle.assemble.specs.Assembled.{countsAnswered, leftMesh, slicesOf, assembleAnswered}
-use Rattle.calls.specs.Told.{Told}
+use Rattle.call_texts.specs.Told.{Told}
 use Rattle.finish.specs.Finish.{benchRoom, area, stitchSlices, meshSlices}
 
 -- how much assemble wrote

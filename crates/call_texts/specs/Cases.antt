@@ -5,7 +5,7 @@ use mathlib.Core.Path.{_≡_, refl, sym, _∙_, ap, subst}
 use Prim.Native.Nat.{ℕ}
 use lib.Dec.{eqb}
 use Rattle.answer.specs.Answer.{Written, refusalLine}
-use Rattle.calls.specs.Told.{Told, told-refusal}
+use Rattle.call_texts.specs.Told.{Told, told-refusal}
 
 -- the two cases of a call's answer are told apart, and each by what it carries
 pub record Cases {X C : Type 0} (done : C → X) (refuse : ℕ → X) : Type 0 where

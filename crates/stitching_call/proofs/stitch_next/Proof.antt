@@ -1,8 +1,8 @@
 -- `stitch_next` meets its contract. Assumes nothing.
-use Rattle.calls.proofs.CallLaws.{stitched-text}
+use Rattle.stitching_call.proofs.StitchLaws.{stitched-text}
 use borrow.Author.Needs.{needs}
-use Rattle.calls.proofs.stitch_next.Statement.{statement}
-use Rattle.calls.proofs.stitch_next.Tie as tie
+use Rattle.stitching_call.proofs.stitch_next.Statement.{statement}
+use Rattle.stitching_call.proofs.stitch_next.Tie as tie
 
 slice-aggregate-stitch : tie.Need-slice-aggregate-stitch
 slice-aggregate-stitch c = search needs
