@@ -21,7 +21,7 @@ use Rattle.sheet.specs.Bench.{bench, printed}
 use Rattle.sheet.specs.Meaning.{meant}
 use Rattle.finish.specs.Finish.{finish}
 use Rattle.answer.specs.Answer.{refusalLine}
-use Rattle.finisher.specs.Answered.{answerIn}
+use Rattle.sheet.specs.Answered.{answerIn}
 use Rattle.feeding.specs.declared.Fed.{Fed}
 use Rattle.feeding.specs.Feeding.{Ended, Fed-on, SoFar}
 use Rattle.lists.specs.Both.{and-left}

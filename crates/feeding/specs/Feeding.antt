@@ -10,7 +10,7 @@ use Rattle.reader.specs.declared.Reader.{Reader}
 use Rattle.reader.specs.Kept.{Kept}
 use Rattle.reader.specs.Slices.{lent}
 use Rattle.sheet.specs.Bench.{bench}
-use Rattle.finisher.specs.Answered.{answerIn}
+use Rattle.sheet.specs.Answered.{answerIn}
 use Rattle.feeding.specs.declared.Fed.{Fed}
 use Rattle.call_texts.specs.Told.{Told}
 

@@ -9,7 +9,7 @@ use Rattle.line_order.specs.Reading.{sheetOf, start}
 use Rattle.reader.specs.declared.Reader.{Reader}
 use Rattle.reader.specs.Kept.{Kept, kept-begin}
 use Rattle.reader.specs.Slices.{Begun, lent, readerOf}
-use Rattle.finisher.specs.Answered.{answerIn}
+use Rattle.sheet.specs.Answered.{answerIn}
 use Rattle.feeding.specs.declared.Fed.{Fed}
 use Rattle.feeding.specs.Feeding.{Answered, Ended, Fed-on, Fed-some, SoFar}
 use Rattle.call_texts.specs.Told.{Told}

@@ -19,7 +19,8 @@ use Rattle.sheet.specs.Bench.{printed}
 use Rattle.sheet.specs.Meaning.{boxOf, meant}
 use Rattle.call_texts.specs.Told.{Told, told-refusal}
 use Rattle.call_texts.specs.Texts.{finishedText}
-use Rattle.finisher.specs.Answered.{FrontsSaid, answerIn}
+use Rattle.sheet.specs.Answered.{answerIn}
+use Rattle.finisher.specs.Fronts.{FrontsSaid}
 use Rattle.finisher.specs.Printed.{printed-finish}
 
 -- ---- an array filled from its front

@@ -21,7 +21,8 @@ ghost use Rattle.reader.specs.Slices.{lent, patternsOf};
 ghost use Rattle.sheet.specs.Bench.{printed};
 ghost use Rattle.sheet.specs.Meaning.{meant};
 ghost use Rattle.call_texts.specs.Told.{Told};
-ghost use Rattle.finisher.specs.Answered.{FrontsSaid, answerIn};
+ghost use Rattle.sheet.specs.Answered.{answerIn};
+ghost use Rattle.finisher.specs.Fronts.{FrontsSaid};
 
 // Numbers copied, as many as there is room for.
 fn copy(from: &[u32], to: &mut [u32])
