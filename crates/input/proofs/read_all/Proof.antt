@@ -4,8 +4,8 @@ use Rattle.feeding.specs.FeedingLaws.{fed-further, fed-nothing}
 use mathlib.Core.Path.{_≡_}
 use lib.ListN.{length}
 use borrow.Author.Needs.{needs}
-use Rattle.bench.proofs.read_all.Statement.{statement}
-use Rattle.bench.proofs.read_all.Tie as tie
+use Rattle.input.proofs.read_all.Statement.{statement}
+use Rattle.input.proofs.read_all.Tie as tie
 
 abbrev Inv-loop : tie.InvT-loop
 Inv-loop line₀ table₀ positions₀ normals₀ indices₀ materials₀ g₀ turns₀ line table positions normals indices materials g turns =

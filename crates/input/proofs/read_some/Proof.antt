@@ -1,8 +1,8 @@
 -- `read_some` feeds what it read. Assumes nothing.
 use Rattle.feeding.specs.FeedingLaws.{fed-nothing, fed-part}
 use borrow.Author.Needs.{needs}
-use Rattle.bench.proofs.read_some.Statement.{statement}
-use Rattle.bench.proofs.read_some.Tie as tie
+use Rattle.input.proofs.read_some.Statement.{statement}
+use Rattle.input.proofs.read_some.Tie as tie
 
 slice-aggregate-read : tie.Need-slice-aggregate-read
 slice-aggregate-read c = search needs
