@@ -5,7 +5,7 @@ use feeding::end_text;
 use finisher::answer_sheet;
 use input::read_all;
 use libc::STDOUT_FILENO;
-use reader::begin;
+use sheet_ends::begin;
 ghost use Prim.Native.Nat.{_≤_};
 ghost use lib.ListN.{length};
 ghost use Rattle.feeding.specs.Feeding.{Answered};

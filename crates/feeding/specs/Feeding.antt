@@ -6,9 +6,9 @@ use lib.Dec.{T}
 use lib.ListN.{length, take}
 use Rattle.line_order.specs.Laws.{noLF}
 use Rattle.line_order.specs.Reading.{State, cut, readFrom, sheetOf}
-use Rattle.reader.specs.declared.Reader.{Reader}
-use Rattle.reader.specs.Kept.{Kept}
-use Rattle.reader.specs.Slices.{lent}
+use Rattle.reader_state.specs.declared.Reader.{Reader}
+use Rattle.reader_state.specs.Kept.{Kept}
+use Rattle.reader_state.specs.Slices.{lent}
 use Rattle.sheet.specs.Bench.{bench}
 use Rattle.sheet.specs.Answered.{answerIn}
 use Rattle.feeding.specs.declared.Fed.{Fed}

@@ -6,9 +6,9 @@ use native.Mathlib.Omega.{arith}
 use lib.ListN.{length, take, drop, replicate, length-replicate, length-take}
 use lib.Seq.{take-all, take-at, take-nil}
 use Rattle.line_order.specs.Reading.{sheetOf, start}
-use Rattle.reader.specs.declared.Reader.{Reader}
-use Rattle.reader.specs.Kept.{Kept, kept-begin}
-use Rattle.reader.specs.Slices.{Begun, lent, readerOf}
+use Rattle.reader_state.specs.declared.Reader.{Reader}
+use Rattle.reader_state.specs.Kept.{Kept, kept-begin}
+use Rattle.reader_state.specs.Slices.{Begun, lent, readerOf}
 use Rattle.sheet.specs.Answered.{answerIn}
 use Rattle.feeding.specs.declared.Fed.{Fed}
 use Rattle.feeding.specs.Feeding.{Answered, Ended, Fed-on, Fed-some, SoFar}

@@ -12,9 +12,9 @@ use Rattle.answer.specs.Answer.{Written, refusalLine}
 use Rattle.floats.specs.Floats.{f32, f64}
 use Rattle.geometry.specs.declared.Aabb.{Aabb}
 use Rattle.finish.specs.Finish.{finish}
-use Rattle.reader.specs.declared.Reader.{Reader}
-use Rattle.reader.specs.Limits.{Limited, limited}
-use Rattle.reader.specs.Slices.{inLimits, lent, patternsOf}
+use Rattle.reader_state.specs.declared.Reader.{Reader}
+use Rattle.reader_state.specs.Limits.{Limited, limited}
+use Rattle.reader_state.specs.Slices.{inLimits, lent, patternsOf}
 use Rattle.sheet.specs.Bench.{printed}
 use Rattle.sheet.specs.Meaning.{boxOf, meant}
 use Rattle.call_texts.specs.Told.{Told, told-refusal}

@@ -6,7 +6,7 @@ use lib.ListN.{length}
 use lib.Dec.{eqb}
 use Rattle.answer.specs.Answer.{refusalLine}
 use Rattle.finish.specs.Finish.{finish}
-use Rattle.reader.specs.Slices.{Lent, inLimits, patternsOf}
+use Rattle.reader_state.specs.Slices.{Lent, inLimits, patternsOf}
 use Rattle.sheet.specs.Meaning.{meant}
 use Rattle.sheet.specs.Bench.{printed}
 
