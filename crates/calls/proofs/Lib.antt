@@ -1,4 +1,2 @@
 -- The laws that the proofs of this crate cite.
-mod CaseLaws
-mod TextLaws
-mod CallLaws
+mod TurnLaws

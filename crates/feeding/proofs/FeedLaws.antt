@@ -14,14 +14,14 @@ use Rattle.digits.specs.Given.{Wrote}
 use Rattle.digits.specs.Wrote.{take-again}
 use Rattle.line_order.specs.Laws.{long-line, noLF, read-end, read-line}
 use Rattle.line_order.specs.Reading.{State, cut, finished, readFrom, readLine, sheetOf}
-use Rattle.reader.specs.declared.Reader.{Reader}
-use Rattle.reader.specs.Kept.{Kept, ended-state, kept-line}
-use Rattle.reader.specs.Slices.{Lent, ended, fitsIn, inLimits, lent, readInto, refused, stateOf}
+use Rattle.reader_state.specs.declared.Reader.{Reader}
+use Rattle.reader_state.specs.Kept.{Kept, ended-state, kept-line}
+use Rattle.reader_state.specs.Slices.{Lent, ended, fitsIn, inLimits, lent, readInto, refused, stateOf}
 use Rattle.sheet.specs.Bench.{bench, printed}
 use Rattle.sheet.specs.Meaning.{meant}
 use Rattle.finish.specs.Finish.{finish}
 use Rattle.answer.specs.Answer.{refusalLine}
-use Rattle.finisher.specs.Answered.{answerIn}
+use Rattle.sheet.specs.Answered.{answerIn}
 use Rattle.feeding.specs.declared.Fed.{Fed}
 use Rattle.feeding.specs.Feeding.{Ended, Fed-on, SoFar}
 use Rattle.lists.specs.Both.{and-left}

@@ -6,13 +6,13 @@ use lib.Dec.{T}
 use lib.ListN.{length, take}
 use Rattle.line_order.specs.Laws.{noLF}
 use Rattle.line_order.specs.Reading.{State, cut, readFrom, sheetOf}
-use Rattle.reader.specs.declared.Reader.{Reader}
-use Rattle.reader.specs.Kept.{Kept}
-use Rattle.reader.specs.Slices.{lent}
+use Rattle.reader_state.specs.declared.Reader.{Reader}
+use Rattle.reader_state.specs.Kept.{Kept}
+use Rattle.reader_state.specs.Slices.{lent}
 use Rattle.sheet.specs.Bench.{bench}
-use Rattle.finisher.specs.Answered.{answerIn}
+use Rattle.sheet.specs.Answered.{answerIn}
 use Rattle.feeding.specs.declared.Fed.{Fed}
-use Rattle.calls.specs.Told.{Told}
+use Rattle.call_texts.specs.Told.{Told}
 
 -- A text was fed: the lines before its last LF were read, giving the state, and what stands after that LF, the tail, is in the buffer, as far as it has room. However the text goes on, the
 -- sheet is what the state and the tail then give.

@@ -6,13 +6,13 @@ use native.Mathlib.Omega.{arith}
 use lib.ListN.{length, take, drop, replicate, length-replicate, length-take}
 use lib.Seq.{take-all, take-at, take-nil}
 use Rattle.line_order.specs.Reading.{sheetOf, start}
-use Rattle.reader.specs.declared.Reader.{Reader}
-use Rattle.reader.specs.Kept.{Kept, kept-begin}
-use Rattle.reader.specs.Slices.{Begun, lent, readerOf}
-use Rattle.finisher.specs.Answered.{answerIn}
+use Rattle.reader_state.specs.declared.Reader.{Reader}
+use Rattle.reader_state.specs.Kept.{Kept, kept-begin}
+use Rattle.reader_state.specs.Slices.{Begun, lent, readerOf}
+use Rattle.sheet.specs.Answered.{answerIn}
 use Rattle.feeding.specs.declared.Fed.{Fed}
 use Rattle.feeding.specs.Feeding.{Answered, Ended, Fed-on, Fed-some, SoFar}
-use Rattle.calls.specs.Told.{Told}
+use Rattle.call_texts.specs.Told.{Told}
 
 -- ---- the beginning
 pub fed-begin : (line table positions normals indices M W : List ℕ) (r : Reader) → Begun M r W → 108 ≤ length line → 80 ≤ length table → 288 ≤ length positions → 288 ≤ length normals → 96 ≤ length indices → 64 ≤ length M

@@ -2,9 +2,9 @@
 
 use digits::put_byte;
 use fronts::front_bytes;
-use reader::Reader;
-use reader::end_sheet;
 use reader::read_line;
+use reader_state::Reader;
+use sheet_ends::end_sheet;
 ghost use mathlib.Core.List.{[], _∷_};
 ghost use Rattle.feeding.specs.Feeding.{Ended, Fed-on};
 

@@ -12,14 +12,15 @@ use Rattle.answer.specs.Answer.{Written, refusalLine}
 use Rattle.floats.specs.Floats.{f32, f64}
 use Rattle.geometry.specs.declared.Aabb.{Aabb}
 use Rattle.finish.specs.Finish.{finish}
-use Rattle.reader.specs.declared.Reader.{Reader}
-use Rattle.reader.specs.Limits.{Limited, limited}
-use Rattle.reader.specs.Slices.{inLimits, lent, patternsOf}
+use Rattle.reader_state.specs.declared.Reader.{Reader}
+use Rattle.reader_state.specs.Limits.{Limited, limited}
+use Rattle.reader_state.specs.Slices.{inLimits, lent, patternsOf}
 use Rattle.sheet.specs.Bench.{printed}
 use Rattle.sheet.specs.Meaning.{boxOf, meant}
-use Rattle.calls.specs.Told.{Told, told-refusal}
-use Rattle.calls.specs.Texts.{finishedText}
-use Rattle.finisher.specs.Answered.{FrontsSaid, answerIn}
+use Rattle.call_texts.specs.Told.{Told, told-refusal}
+use Rattle.call_texts.specs.Texts.{finishedText}
+use Rattle.sheet.specs.Answered.{answerIn}
+use Rattle.finisher.specs.Fronts.{FrontsSaid}
 use Rattle.finisher.specs.Printed.{printed-finish}
 
 -- ---- an array filled from its front

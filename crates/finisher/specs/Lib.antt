@@ -1,4 +1,4 @@
 -- The definitions of this crate and the laws that other crates cite, by subject.
-pub mod Answered
+pub mod Fronts
 pub mod Printed
 pub mod Whole

@@ -15,7 +15,7 @@ use Rattle.assembled.specs.Assemble.{assembleOf}
 use Rattle.finish.specs.Finish.{Sheet, Outcome, Refused, Finished, benchRoom, area, meshSlices, stitchSlices, assembleNext, stitchNext, finishIn, finish}
 use Rattle.sheet.specs.Bench.{printed}
 use Rattle.sheet.specs.Printing.{meshLines, countLines}
-use Rattle.calls.specs.Texts.{assembledText, finishedText, meshPrinted, stitchPrinted, stitchedText, turnPrinted}
+use Rattle.call_texts.specs.Texts.{assembledText, finishedText, meshPrinted, stitchPrinted, stitchedText, turnPrinted}
 
 either : (b : Bool) (o : Outcome) (n : ℕ) → printed (elim b as (λ x. Outcome) [ true ↦ o | false ↦ Refused n ]) ≡ elim b as (λ x. List ℕ) [ true ↦ printed o | false ↦ refusalLine n ]
 unfolding printed

@@ -5,7 +5,7 @@ use Prim.Native.Nat.{ℕ, _≤_}
 use native.Mathlib.Omega.{arith}
 use lib.ListN.{length, take, drop, length-take}
 use lib.Seq.{take-all, take-at}
-use Rattle.calls.specs.Told.{Told}
+use Rattle.call_texts.specs.Told.{Told}
 
 -- how many bytes were written
 pub told-count : (E W text : List ℕ) (r : ℕ) → Told E text W r → r ≤ length E

@@ -7,21 +7,22 @@ use fronts::front;
 use fronts::front_floats;
 use fronts::front_long;
 use geometry::Aabb;
-use reader::Reader;
-use reader::in_limits;
+use reader_state::Reader;
 use sheet::box_of;
 use sheet::floats_of;
 use sheet::sag_of;
+use sheet_room::in_limits;
 ghost use mathlib.Core.Path.{_≡_};
 ghost use mathlib.Core.List.{_++_};
 ghost use lib.ListN.{length, take, drop};
 ghost use Rattle.finish.specs.Finish.{finish};
-ghost use Rattle.reader.specs.Limits.{Limited};
-ghost use Rattle.reader.specs.Slices.{lent, patternsOf};
+ghost use Rattle.reader_state.specs.Limits.{Limited};
+ghost use Rattle.reader_state.specs.Slices.{lent, patternsOf};
 ghost use Rattle.sheet.specs.Bench.{printed};
 ghost use Rattle.sheet.specs.Meaning.{meant};
-ghost use Rattle.calls.specs.Told.{Told};
-ghost use Rattle.finisher.specs.Answered.{FrontsSaid, answerIn};
+ghost use Rattle.call_texts.specs.Told.{Told};
+ghost use Rattle.sheet.specs.Answered.{answerIn};
+ghost use Rattle.finisher.specs.Fronts.{FrontsSaid};
 
 // Numbers copied, as many as there is room for.
 fn copy(from: &[u32], to: &mut [u32])

@@ -1,5 +1,2 @@
 -- The laws that the proofs of this crate cite.
-mod RoomLaws
-mod StoreLaws
-mod TakeLaws
 mod LineLaws

@@ -1,71 +1,26 @@
--- The laws of a line: refused, taken up, or no line of the sheet; of the end and of the beginning. Assumes nothing.
+-- The laws of a line: refused, taken up, or no line of the sheet. Assumes nothing.
 use mathlib.Core.Bool.{Bool, true, false, not}
-use mathlib.Core.List.{List, _∷_, _++_}
+use mathlib.Core.List.{List}
 use mathlib.Core.Option.{Option, none, some}
-use mathlib.Core.Path.{_≡_, refl, sym, _∙_, ap}
-use Prim.Native.Nat.{ℕ, zero, suc, _≤_, _<_}
-use native.Mathlib.Omega.{arith}
-use borrow.Author.Tests.{eq-eqb, ne-eqb, le-leb, lt-leb, not-true, not-false}
+use mathlib.Core.Path.{_≡_, sym, _∙_, ap}
+use Prim.Native.Nat.{ℕ, _<_}
+use borrow.Author.Tests.{eq-eqb, ne-eqb, not-true, not-false}
 use lib.Dec.{eqb}
-use lib.ListN.{length, take, drop, replicate, drop-of-length-le}
-use lib.Seq.{take-all}
+use lib.ListN.{length}
 use Rattle.lines.specs.Exact.{line-fits}
 use Rattle.lines.specs.Forms.{Line, lineOf}
 use Rattle.lines.specs.Scan.{given}
 use Rattle.lines.specs.declared.Kind.{Kind}
 use Rattle.lines.specs.declared.kinds.Given.{Given}
 use Rattle.lines.specs.declared.kinds.Given.the-variants as Given
-use Rattle.reader.specs.declared.Reader.{Reader}
-use Rattle.line_order.specs.Reading.{State, lineRefusal, readLine, refuse, start, takeUp, withForm}
+use Rattle.reader_state.specs.declared.Reader.{Reader}
+use Rattle.line_order.specs.Reading.{State, lineRefusal, readLine, refuse, takeUp, withForm}
 use Rattle.line_order.specs.Refusals.{Refusal}
-use Rattle.reader.specs.Slices.{Begun, Lent, ended, fits, lent, lineFrom, over, patternsOf, readForm, readInto, readRoomy, readerOf, refuseIn, refused, stateOf, takenUp}
-use Rattle.reader.specs.Added.{Fitting, Ready, Roomy}
-use Rattle.reader.proofs.RoomLaws.{Held, counts-of, held-of}
-use Rattle.reader.proofs.TakeLaws.{over-same}
+use Rattle.reader_state.specs.Slices.{Lent, fits, lent, lineFrom, over, patternsOf, readForm, readInto, readRoomy, refuseIn, refused, stateOf, takenUp}
+use Rattle.taking.specs.Added.{Fitting, Ready, Roomy}
+use Rattle.reader_state.specs.Held.{Held, counts-of, held-of}
+use Rattle.reader_state.specs.Same.{over-same}
 
--- ---- the beginning
-pub fresh-is : record { refusal = 0; place = 0; rows = 0; vertices = 0; indices = 0; default = 0; sag = 0; minx = 0; miny = 0; minz = 0; maxx = 0; maxy = 0; maxz = 0 } ≡ readerOf start
-unfolding start
-fresh-is = refl
-
-front : (m n : ℕ) → m ≤ n → replicate {A = ℕ} m 0 ≡ take m (replicate n 0)
-front zero n l = refl
-front (suc m) zero l = absurd (omega arith)
-front (suc m) (suc n) l = ap (λ (xs : List ℕ). 0 ∷ xs) (front m n (omega arith))
-
-pub begun-short : (M W : List ℕ) (r : Reader) → length M < 64 → W ≡ replicate (length M) 0 ++ drop (length M) M → r ≡ readerOf start → Begun M r W
-begun-short M W r h e q =
-    let past : length M ≤ 64 = omega arith in
-    let whole : length M ≤ length M = omega arith in
-    record {
-      reader = q;
-      materials = e ∙ ap (λ (xs : List ℕ). xs ++ drop (length M) M) (front (length M) 64 past) ∙ ap (λ (xs : List ℕ). take (length M) (replicate 64 0) ++ xs) (drop-of-length-le M whole ∙ sym (drop-of-length-le M past));
-    }
-
-pub begun-long : (M W : List ℕ) (r : Reader) → 64 ≤ length M → W ≡ replicate 64 0 ++ drop 64 M → r ≡ readerOf start → Begun M r W
-begun-long M W r h e q = record { reader = q; materials = e ∙ ap (λ (xs : List ℕ). xs ++ drop 64 M) (sym (take-all (length M) (replicate 64 0) h)) }
-
--- ---- the end
-module _ (s : Reader) (rest : List ℕ) where
-  pub end-refused : (s .refusal ≡ 0 → ⊥) → s ≡ ended s rest
-  unfolding ended
-  end-refused n = rw (ne-eqb (s .refusal) 0 n)
-
-  module _ (clean : s .refusal ≡ 0) where
-    pub end-rest : (r : Reader) → (length rest ≡ 0 → ⊥) → r ≡ refused 51 s → r ≡ ended s rest
-    unfolding ended
-    end-rest r n e = e ∙ rw (eq-eqb (s .refusal) 0 clean, ne-eqb (length rest) 0 n)
-
-    module _ (none-left : length rest ≡ 0) where
-      pub end-missing : (r : Reader) → s .place < 3 → r ≡ refused 51 s → r ≡ ended s rest
-      unfolding ended
-      end-missing r l e = e ∙ rw (eq-eqb (s .refusal) 0 clean, eq-eqb (length rest) 0 none-left, lt-leb 3 (s .place) l)
-
-      pub end-whole : 3 ≤ s .place → s ≡ ended s rest
-      unfolding ended
-      end-whole l = rw (eq-eqb (s .refusal) 0 clean, eq-eqb (length rest) 0 none-left, le-leb 3 (s .place) l)
-
--- ---- a line
 module _ (s : Reader) (T P N I M : List ℕ) where
   abbrev here : Lent
   here = lent s T P N I M

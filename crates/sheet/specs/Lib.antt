@@ -3,5 +3,6 @@ pub mod Meaning
 pub mod Printing
 pub mod Parts
 pub mod Bench
+pub mod Answered
 pub mod Evaluation
 pub mod Claims

@@ -1,5 +1,5 @@
 -- `finish_body` meets its contract. Assumes nothing.
-use Rattle.calls.proofs.CallLaws.{finished-text}
+use Rattle.calls.proofs.TurnLaws.{finished-text}
 use borrow.Author.Needs.{needs}
 use Rattle.calls.proofs.finish_body.Statement.{statement}
 use Rattle.calls.proofs.finish_body.Tie as tie

@@ -1,5 +1,5 @@
 -- `print_turned` meets its contract. Assumes nothing.
-use Rattle.calls.proofs.CallLaws.{turn-said, turn-said-refused}
+use Rattle.calls.proofs.TurnLaws.{turn-said, turn-said-refused}
 use borrow.Author.Needs.{needs}
 use Rattle.calls.proofs.print_turned.Statement.{statement}
 use Rattle.calls.proofs.print_turned.Tie as tie

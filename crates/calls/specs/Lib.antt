@@ -1,3 +1,0 @@
--- The definitions of this crate and the laws that other crates cite, by subject.
-pub mod Told
-pub mod Texts

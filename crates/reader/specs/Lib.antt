@@ -1,5 +1,0 @@
--- The definitions of this crate and the laws that other crates cite, by subject.
-pub mod Slices
-pub mod Limits
-pub mod Added
-pub mod Kept

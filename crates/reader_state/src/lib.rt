@@ -1,0 +1,21 @@
+// What has been read of a sheet so far.
+//
+// Floats are kept as their bits. The table has five numbers a row, positions and normals three a vertex; 64 faces have a material each, 0 for none
+// and n + 1 for material n.
+
+// What has been read: the refusal or 0, the place in the order of lines, how much of the slices is written, and what stands in no slice.
+pub struct Reader {
+    pub refusal: u32,
+    pub place: u32,
+    pub rows: usize,
+    pub vertices: usize,
+    pub indices: usize,
+    pub default: u64,
+    pub sag: u64,
+    pub minx: u64,
+    pub miny: u64,
+    pub minz: u64,
+    pub maxx: u64,
+    pub maxy: u64,
+    pub maxz: u64,
+}
