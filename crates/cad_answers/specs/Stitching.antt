@@ -1,7 +1,7 @@
 -- What cad_stitch answers and leaves. Assumes nothing.
-use Rattle.results.specs.declared.answer.Stitched.{Stitched}
-use Rattle.results.specs.declared.answer.Stitched.the-variants.{Done, Refused}
-use Rattle.results.specs.Slices.{StitchSlices, AfterStitch}
+use Rattle.stitched.specs.declared.Stitched.{Stitched}
+use Rattle.stitched.specs.declared.Stitched.the-variants.{Done, Refused}
+use Rattle.stitched.specs.Slices.{StitchSlices, AfterStitch}
 use Rattle.cad_answers.specs.declared.stitching.CadStitched.{CadStitched}
 
 -- 01's number and values for each answer

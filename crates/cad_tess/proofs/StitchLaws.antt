@@ -9,12 +9,12 @@ use lib.Ieee.{Float}
 use Rattle.points.specs.Rule.{Rule, names}
 use Rattle.body.specs.Body.{rowsOf, patchesOf, firstFailing}
 use Rattle.refusals.specs.BodyChecks.{bodyChecks}
-use Rattle.results.specs.declared.answer.Stitched.{Stitched}
-use Rattle.results.specs.declared.answer.Stitched.the-variants.{Done, Refused}
-use Rattle.results.specs.Slices.{StitchSlices, AfterStitch, stitchChecks, writeBody, refuseStitch, clearedSlices, stitchOrRefuse}
+use Rattle.stitched.specs.declared.Stitched.{Stitched}
+use Rattle.stitched.specs.declared.Stitched.the-variants.{Done, Refused}
+use Rattle.stitched.specs.Slices.{StitchSlices, AfterStitch, stitchChecks, writeBody, refuseStitch, clearedSlices, stitchOrRefuse}
 use Rattle.stitched.specs.StitchedBody.{StitchedBody}
-use Rattle.stitch.specs.Stitch.{stitchBody, stitchOf}
-use Rattle.results.specs.Stitched.{LeftStitch, leftStitch, stitchAnswered}
+use Rattle.stitched.specs.Stitch.{stitchBody, stitchOf}
+use Rattle.stitched.specs.Answers.{LeftStitch, leftStitch, stitchAnswered}
 use Rattle.cad_answers.specs.declared.stitching.CadStitched.{CadStitched}
 use Rattle.cad_answers.specs.Stitching.{cadStitched, leftAfterStitch}
 use Rattle.cad_tess.proofs.Told.{either}

@@ -15,10 +15,10 @@ use Rattle.orientation.specs.declared.Counts.{Counts}
 use Rattle.orientation.specs.declared.Turned.{Turned}
 use Rattle.orientation.specs.Orient.{AfterTurn, turnOf}
 use Rattle.orientation.specs.Answers.{left, answered}
-use Rattle.results.specs.declared.answer.Stitched.{Stitched}
-use Rattle.results.specs.Slices.{AfterStitch}
-use Rattle.stitch.specs.Stitch.{stitchOf}
-use Rattle.results.specs.Stitched as S
+use Rattle.stitched.specs.declared.Stitched.{Stitched}
+use Rattle.stitched.specs.Slices.{AfterStitch}
+use Rattle.stitched.specs.Stitch.{stitchOf}
+use Rattle.stitched.specs.Answers as S
 use Rattle.assembled.specs.declared.MeshCounts.{MeshCounts}
 use Rattle.assembled.specs.Assemble.{AfterAssemble, assembleOf}
 use Rattle.assembled.specs.declared.Assembled.{Assembled}

@@ -19,7 +19,7 @@ use Rattle.measures.specs.Volume.{patchVolume}
 use Rattle.measures.specs.Reach.{escapesBody}
 use Rattle.geometry.specs.Given.{box68, onePoint, vertex}
 use Rattle.orientation.specs.Claims.{turnGiven}
-use Rattle.stitch.specs.Claims.{roomy, stitchGiven}
+use Rattle.stitched.specs.Claims.{roomy, stitchGiven}
 use Rattle.finish.specs.Evaluation.{evaluation}
 use Rattle.finish.specs.Finish.{Sheet, Outcome, Refused, Finished, finish}
 

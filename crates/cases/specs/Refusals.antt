@@ -14,8 +14,8 @@ use Rattle.geometry.specs.declared.Aabb.{Aabb}
 use Rattle.alone.specs.Alone.{volumeAlone}
 use Rattle.geometry.specs.Geometry.{zero64, one64}
 use Rattle.orientation.specs.Orient.{turnOf}
-use Rattle.results.specs.Slices.{StitchSlices, AfterStitch, stitchChecks}
-use Rattle.stitch.specs.Stitch.{stitchOf}
+use Rattle.stitched.specs.Slices.{StitchSlices, AfterStitch, stitchChecks}
+use Rattle.stitched.specs.Stitch.{stitchOf}
 use Rattle.room.specs.Slices.{MeshSlices}
 use Rattle.assembled.specs.Assemble.{AfterAssemble, assembleOf}
 use Rattle.alone.specs.Evaluation as Lone

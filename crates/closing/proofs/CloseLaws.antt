@@ -11,7 +11,7 @@ use Rattle.points.specs.Points.{key}
 use Rattle.body.specs.Body.{rowsOf, patchesOf, firstFailing}
 use Rattle.checks.specs.Accepted.{passed-rows}
 use Rattle.splits.specs.declared.finder.Finder.{Finder}
-use Rattle.results.specs.declared.answer.Stitched.the-variants.{Done, Refused}
+use Rattle.stitched.specs.declared.Stitched.the-variants.{Done, Refused}
 use Rattle.stitched.specs.StitchedBody.{stitchedBody}
 use Rattle.copying.specs.Copied.{BodyRoom, BodyCopied, flat-rows, flat-positions, flat-normals, flat-indices, flat-table}
 use Rattle.counting.specs.Counting.{BodyCounted}

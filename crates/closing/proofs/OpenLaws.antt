@@ -25,7 +25,7 @@ use Rattle.splits.specs.FoundLaws.{keys-distinct}
 use Rattle.splits.specs.declared.finder.Finder.{Finder}
 use Rattle.stitched.specs.StitchedBody.{StitchedBody, stitchedBody}
 use Rattle.counting.specs.Views.{View, bodyViews, foundIn, keptIn, viewedRows, viewedPositions, viewedNormals, viewedIndices}
-use Rattle.stitched.specs.ViewLaws.{Viewable, rows-are, positions-are, normals-are, indices-are, splits-are}
+use Rattle.stitched_views.specs.ViewLaws.{Viewable, rows-are, positions-are, normals-are, indices-are, splits-are}
 use Rattle.writing.specs.BodyLengths.{vertices-viewed, indices-viewed, rows-length}
 use Rattle.counting.specs.Counting.{BodyReady, BodyCounted}
 use Rattle.counting.specs.Prepared.{Prepared}

@@ -8,7 +8,7 @@ use lib.Ieee.{Float}
 use Rattle.lists.specs.Lists.{sumOf, written}
 use Rattle.body.specs.Body.{Row, rowsOf, tableOf, patchesOf, allVertices, allIndices}
 use Rattle.checks.specs.Accepted.{Passed}
-use Rattle.results.specs.Slices.{StitchSlices, AfterStitch, writeBody}
+use Rattle.stitched.specs.Slices.{StitchSlices, AfterStitch, writeBody}
 
 -- ---- what the code asks and ensures
 

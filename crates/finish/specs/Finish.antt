@@ -11,8 +11,8 @@ use Rattle.body.specs.Body.{rowWidth}
 use Rattle.geometry.specs.declared.Aabb.{Aabb}
 use Rattle.geometry.specs.Geometry.{zero64}
 use Rattle.orientation.specs.Orient.{AfterTurn, turnOf}
-use Rattle.results.specs.Slices.{StitchSlices, AfterStitch}
-use Rattle.stitch.specs.Stitch.{stitchOf}
+use Rattle.stitched.specs.Slices.{StitchSlices, AfterStitch}
+use Rattle.stitched.specs.Stitch.{stitchOf}
 use Rattle.acceptance.specs.Acceptance.{failureWidth}
 use Rattle.mesh.specs.Mesh.{partWidth, rangeWidth}
 use Rattle.room.specs.Slices.{MeshSlices}

@@ -13,7 +13,7 @@ use Rattle.geometry.specs.Geometry.{zero64}
 use Rattle.orientation.specs.Orient.{turnOf}
 use Rattle.loose.specs.Loose.{Facet, facetsIn, looseIn}
 use Rattle.splits.specs.Splits.{Side, Placed, SplitTriangle, sidesOf, splitTriangle}
-use Rattle.results.specs.Slices.{stitchOrRefuse, clearedSlices}
+use Rattle.stitched.specs.Slices.{stitchOrRefuse, clearedSlices}
 use Rattle.stitched.specs.StitchedBody.{stitchedBodyOf}
 use Rattle.finish.specs.Finish.{Sheet, Room, Outcome, Refused, area, stitchSlices, assembleNext}
 

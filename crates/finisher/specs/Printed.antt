@@ -9,8 +9,8 @@ use Rattle.floats.specs.Floats.{f32}
 use Rattle.answer.specs.Answer.{refusalLine}
 use Rattle.points.specs.Points.{key}
 use Rattle.orientation.specs.Orient.{AfterTurn, turnOf}
-use Rattle.results.specs.Slices.{AfterStitch}
-use Rattle.stitch.specs.Stitch.{stitchOf}
+use Rattle.stitched.specs.Slices.{AfterStitch}
+use Rattle.stitched.specs.Stitch.{stitchOf}
 use Rattle.assembled.specs.Assemble.{assembleOf}
 use Rattle.finish.specs.Finish.{Sheet, Outcome, Refused, Finished, benchRoom, area, meshSlices, stitchSlices, assembleNext, stitchNext, finishIn, finish}
 use Rattle.sheet.specs.Bench.{printed}

@@ -1,5 +1,3 @@
--- The result of stitching in the lent slices, its checks by counts, the answer as an enum, and the definitions computed.
-pub mod Slices
+-- The checks 33 and 32 by counts and lengths, and what stitching an accepted body asks and leaves.
 pub mod Results
 pub mod Stitched
-pub mod Evaluation

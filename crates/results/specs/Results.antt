@@ -10,7 +10,7 @@ use Rattle.body.specs.Body.{Row, Check, check, firstFailing, allVertices, allIn
 use Rattle.refusals.specs.TableChecks.{tooLarge}
 use Rattle.body.specs.Checks.{clear-first}
 use Rattle.lists.specs.Both.{or-left, or-right}
-use Rattle.results.specs.Slices.{StitchSlices, stitchChecks}
+use Rattle.stitched.specs.Slices.{StitchSlices, stitchChecks}
 
 -- 32: a slice of length t, p, n or x is shorter than f rows, v vertices and i indices need
 unfoldable pub tooShort : ℕ → ℕ → ℕ → ℕ → ℕ → ℕ → ℕ → Bool

@@ -1,42 +1,21 @@
--- Stitch's answer as an enum, and what the call leaves. Assumes nothing.
+-- What stitching an accepted body asks and leaves, and that the checks of the result decide. Assumes nothing.
 use mathlib.Core.Path.{_≡_, sym, ap, _∙_}
 use mathlib.Core.Bool.{Bool, true, false}
 use mathlib.Core.List.{List, map, flatMap}
 use Prim.Native.Nat.{ℕ, _+_, _*_}
 use native.Mathlib.Omega.{arith}
 use lib.ListN.{length, drop}
-use lib.Dec.{eqb}
 use lib.Ieee.{Float}
 use borrow.Author.Tests.{eq-eqb, ne-eqb}
 use Rattle.lists.specs.Lists.{written}
 use Rattle.body.specs.Body.{Row, rowsOf, tableOf, allVertices, allIndices, firstFailing, workNeeded}
 use Rattle.checks.specs.Accepted.{Passed}
-use Rattle.results.specs.declared.answer.Stitched.{Stitched}
-use Rattle.results.specs.declared.answer.Stitched.the-variants.{Done, Refused}
-use Rattle.results.specs.Slices.{StitchSlices, AfterStitch, stitchChecks, writeBody, refuseStitch, stitchOrRefuse}
+use Rattle.stitched.specs.declared.Stitched.{Stitched}
+use Rattle.stitched.specs.declared.Stitched.the-variants.{Done, Refused}
+use Rattle.stitched.specs.Slices.{stitchChecks, writeBody, refuseStitch, stitchOrRefuse}
 use Rattle.stitched.specs.StitchedBody.{StitchedBody}
 use Rattle.results.specs.Results.{resultChecks, stitch-checks}
-
--- stitch's answer, and what the lent slices hold
-pub record LeftStitch : Type 0 where
-  pub answer : Stitched
-  pub slices : StitchSlices
-
--- the slices
-abbrev pub slicesOf : List ℕ → List Float → List Float → List ℕ → List ℕ → StitchSlices
-slicesOf table ps ns is work = record { table = table; positions = ps; normals = ns; indices = is; work = work }
-
--- the answer with the slices
-abbrev pub leftStitch : Stitched → StitchSlices → LeftStitch
-leftStitch a s = record { answer = a; slices = s }
-
--- 01's number and values for each answer
-abbrev pub stitchAnswer : AfterStitch → Stitched
-stitchAnswer t = elim (eqb (t .refusal) 0) [ true ↦ Done (record { vertices = t .vertices; indices = t .indices; splits = t .splits }) | false ↦ Refused (t .refusal) ]
-
--- what the definition says of the call, with the answer as stitch gives it
-abbrev pub stitchAnswered : AfterStitch → LeftStitch
-stitchAnswered t = leftStitch (stitchAnswer t) (t .slices)
+use Rattle.stitched.specs.Answers.{slicesOf, leftStitch, stitchAnswered}
 
 -- what stitching an accepted body leaves, whatever the work area holds in the end
 pub record BodyStitched (s : StitchedBody) (R R' : List ℕ) (P P' N N' : List Float) (I I' : List ℕ) (needed : ℕ) (W E : List ℕ) (r : Stitched) : Type 0 where

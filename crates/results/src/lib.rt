@@ -1,8 +1,5 @@
-// The result of stitching: what stitch answers, and checks 33 and 32.
+// Checks 33 and 32 of the result of stitching.
 
-mod answer;
 mod sizes;
 
-pub use answer::Sizes;
-pub use answer::Stitched;
 pub use sizes::result_failing;

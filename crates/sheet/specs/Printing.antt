@@ -5,7 +5,7 @@ use Rattle.answer.specs.declared.Sizes.{Sizes}
 use Rattle.answer.specs.declared.Tallies.{Tallies}
 use Rattle.answer.specs.Answer.{countText, meshText}
 use Rattle.orientation.specs.Orient.{AfterTurn}
-use Rattle.results.specs.Slices.{AfterStitch}
+use Rattle.stitched.specs.Slices.{AfterStitch}
 use Rattle.assembled.specs.Assemble.{AfterAssemble}
 
 -- how much assemble wrote

@@ -14,12 +14,13 @@ use Rattle.body.specs.Rows.{Total}
 use Rattle.checks.specs.Accepted.{Passed}
 use Rattle.checks.specs.Cleared.{cleared-is}
 use Rattle.geometry.specs.Geometry.{zero64}
-use Rattle.results.specs.declared.answer.Stitched.{Stitched}
-use Rattle.results.specs.declared.answer.Stitched.the-variants.{Done, Refused}
-use Rattle.results.specs.Slices.{StitchSlices, refuseStitch, clearedSlices, stitchOrRefuse}
+use Rattle.stitched.specs.declared.Stitched.{Stitched}
+use Rattle.stitched.specs.declared.Stitched.the-variants.{Done, Refused}
+use Rattle.stitched.specs.Slices.{StitchSlices, refuseStitch, clearedSlices, stitchOrRefuse}
 use Rattle.stitched.specs.StitchedBody.{StitchedBody, stitchedBody}
-use Rattle.stitch.specs.Stitch.{stitchBody, stitchOf, stitchAccepted}
-use Rattle.results.specs.Stitched.{slicesOf, leftStitch, stitchAnswered, StitchReady, BodyStitched, words-needed}
+use Rattle.stitched.specs.Stitch.{stitchBody, stitchOf, stitchAccepted}
+use Rattle.stitched.specs.Answers.{slicesOf, leftStitch, stitchAnswered}
+use Rattle.results.specs.Stitched.{StitchReady, BodyStitched, words-needed}
 
 -- ---- the sag decides
 

@@ -2,7 +2,7 @@
 
 use closing::stitch_nothing;
 use closing::stitch_open;
-use results::Stitched;
+use stitched::Stitched;
 ghost use mathlib.Core.Path.{_≡_};
 ghost use Prim.Native.Nat.{_+_, _*_};
 ghost use lib.ListN.{length};
@@ -10,8 +10,9 @@ ghost use Rattle.points.specs.Rule.{names};
 ghost use Rattle.points.specs.Points.{key};
 ghost use Rattle.body.specs.Body.{rowsOf, patchesOf};
 ghost use Rattle.checks.specs.Accepted.{Passed};
-ghost use Rattle.stitch.specs.Stitch.{stitchBody, stitchOf, stitchAccepted};
-ghost use Rattle.results.specs.Stitched.{slicesOf, leftStitch, stitchAnswered, StitchReady, BodyStitched};
+ghost use Rattle.stitched.specs.Stitch.{stitchBody, stitchOf, stitchAccepted};
+ghost use Rattle.stitched.specs.Answers.{slicesOf, leftStitch, stitchAnswered};
+ghost use Rattle.results.specs.Stitched.{StitchReady, BodyStitched};
 
 // A body of v vertices and m rows is stitched; a sag not above 0 splits nothing.
 fn stitch_rows(

@@ -1,5 +1,7 @@
--- The stitched body by the definition, that what the code sees of a triangle and of a row is it, and the definitions computed.
+-- Stitching by definition: the stitched body, the slices and checks of the result, the call and its answer; the definitions computed, and small bodies stitched.
 pub mod StitchedBody
-pub mod TriangleViews
-pub mod ViewLaws
+pub mod Slices
+pub mod Stitch
+pub mod Answers
 pub mod Evaluation
+pub mod Claims

@@ -11,12 +11,12 @@ use Rattle.floats.specs.Floats.{f32}
 use Rattle.geometry.specs.declared.Aabb.{Aabb}
 use Rattle.geometry.specs.Geometry.{zero64}
 use Rattle.orientation.specs.declared.Counts.{Counts}
-use Rattle.results.specs.declared.answer.Sizes.{Sizes}
-use Rattle.results.specs.declared.answer.Stitched.{Stitched}
-use Rattle.results.specs.declared.answer.Stitched.the-variants as StitchCase
-use Rattle.results.specs.Slices.{AfterStitch, StitchSlices}
-use Rattle.stitch.specs.Stitch.{stitchOf}
-use Rattle.results.specs.Stitched.{LeftStitch, leftStitch, slicesOf, stitchAnswered}
+use Rattle.stitched.specs.declared.Sizes.{Sizes}
+use Rattle.stitched.specs.declared.Stitched.{Stitched}
+use Rattle.stitched.specs.declared.Stitched.the-variants as StitchCase
+use Rattle.stitched.specs.Slices.{AfterStitch, StitchSlices}
+use Rattle.stitched.specs.Stitch.{stitchOf}
+use Rattle.stitched.specs.Answers.{LeftStitch, leftStitch, slicesOf, stitchAnswered}
 use Rattle.finish.specs.Finish.{benchRoom, area, stitchSlices}
 use Rattle.call_texts.specs.Cases.{Cases, told-done, told-refused}
 use Rattle.call_texts.specs.Zeros.{zero-same}

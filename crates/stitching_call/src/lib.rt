@@ -6,8 +6,8 @@ use fronts::front;
 use fronts::front_floats;
 use geometry::Aabb;
 use orientation::Counts;
-use results::Stitched;
 use stitch::stitch;
+use stitched::Stitched;
 ghost use Rattle.call_texts.specs.Told.{Told};
 ghost use Rattle.call_texts.specs.Texts.{StitchSaid, stitchedText};
 

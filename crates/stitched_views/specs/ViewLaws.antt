@@ -18,9 +18,9 @@ use Rattle.loose.specs.Open.{flagOf}
 use Rattle.splits.specs.Splits.{SplitTriangle, splitTriangle}
 use Rattle.splits.specs.FoundPoints.{Distinct}
 use Rattle.rings.specs.Rings.{fanGo, ringAfter}
 use Rattle.stitched.specs.StitchedBody.{newNormal, coordinates, fanned, stitchedPatch, stitchedPatches, stitchedBodyOf, stitchedBody}
 use Rattle.counting.specs.Views.{View, rowViews, bodyViews, foundIn, keptIn, rowPositions, rowNormals, rowIndices, viewedRow, viewedRows, viewedPositions, viewedNormals, viewedIndices}
-use Rattle.stitched.specs.TriangleViews.{Seen, triangle-seen, seen-count, seen-positions, seen-normals, seen-fan}
+use Rattle.stitched_views.specs.TriangleViews.{Seen, triangle-seen, seen-count, seen-positions, seen-normals, seen-fan}
 use Rattle.loose.specs.Based.{flag, flags-drop, PointsFrom, NamesFrom, points-from, names-from}
 
 -- ---- one row

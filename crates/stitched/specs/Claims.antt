@@ -9,14 +9,15 @@ use Rattle.lists.specs.Lists.{all}
 use Rattle.lists.specs.Table.{Case, case, agrees}
 use Rattle.floats.specs.Floats.{f32, f64, bits32, bits64}
 use Rattle.points.specs.Points.{key}
+use Rattle.body.specs.Body.{Row, firstFailing}
 use Rattle.body.specs.Given.{Given, at, below, row, triangle, triangleIn, givenTable, givenPositions, givenIndices, K8}
 use Rattle.geometry.specs.Geometry.{sub, zero64, one64}
 use Rattle.projection.specs.Projection.{near-end, least-length, far-end}
 use Rattle.splits.specs.Splits.{near-last}
-use Rattle.results.specs.Slices.{StitchSlices, AfterStitch}
-use Rattle.stitch.specs.Stitch.{stitchOf}
+use Rattle.stitched.specs.Slices.{StitchSlices, AfterStitch, stitchChecks}
+use Rattle.stitched.specs.Stitch.{stitchOf}
 use Rattle.faces.specs.Faces.{faceIndices}
-use Rattle.stitch.specs.Evaluation.{evaluation}
+use Rattle.stitched.specs.Evaluation.{evaluation}
 
 -- slices with room for 9 rows, 99 vertices and 99 indices
 unfoldable pub roomy : StitchSlices
@@ -34,6 +35,14 @@ stitched n gs sag = let s = stitchGiven gs sag in s .splits ∷ s .vertices ∷ 
 -- the bits of the coordinates of vertex n
 vertex : ℕ → AfterStitch → List ℕ
 vertex n s = map bits32 (take 3 (drop (3 * n) (s .slices .positions)))
+
+-- no room for a vertex
+tight : StitchSlices
+tight = record { table = replicate 45 9; positions = []; normals = replicate 297 zero64; indices = replicate 99 9; work = replicate 999 7 }
+
+-- a row beyond the limit of 13, with more indices than there is room for
+wide : Row
+wide = record { shell = 0; face = 0; outcome = 0; vertices = 262145; indices = 300 }
 
 -- 0.25
 quarter : Float
@@ -100,6 +109,10 @@ fifthNormals = map f32 (0x3F800000 ∷ 0 ∷ 0 ∷ 0 ∷ 0x3F800000 ∷ 0 ∷ 0 
 mixedNormal : List ℕ
 mixedNormal = map bits32 (take 3 (drop 9 (stitchOf key (givenTable fifth) (givenPositions fifth) fifthNormals (givenIndices fifth) quarter roomy .slices .normals)))
 
+-- K8 refused for want of room: the number, and the table as it was
+refused : List ℕ
+refused = let s = stitchOf key (givenTable K8) (givenPositions K8) (givenPositions K8) (givenIndices K8) quarter tight in s .refusal ∷ take 2 (s .slices .table)
+
 -- the constants as they are written and as they are meant: 1e-6, 1e-9 and 1e-30 to nearest, and the f64 difference 1 − 1e-6
 constants : List Float
 constants = near-end ∷ near-last ∷ least-length ∷ far-end ∷ []
@@ -108,7 +121,7 @@ constants = near-end ∷ near-last ∷ least-length ∷ far-end ∷ []
 meant : List Float
 meant = round binary64 false 1 (10 ^ 6) ∷ round binary64 false 1 (10 ^ 9) ∷ round binary64 false 1 (10 ^ 30) ∷ sub one64 (round binary64 false 1 (10 ^ 6)) ∷ []
 
--- splits, V, I and the first indices; new vertices; the new normal; a stretch of the old list or the new
+-- splits, V, I and the first indices; new vertices; the new normal; a stretch of the old list or the new; what stands behind the written indices; a refusal; 33 before 32
 pub claims : List Case
 claims =
     case 1 (map bits64 constants) (map bits64 meant)
@@ -123,9 +136,12 @@ claims =
     ∷ case 19 (faceIndices true (1 ∷ 2 ∷ 3 ∷ []) (4 ∷ 5 ∷ 6 ∷ 7 ∷ []) 1 2 ++ faceIndices false (1 ∷ 2 ∷ 3 ∷ []) (4 ∷ 5 ∷ 6 ∷ 7 ∷ []) 1 2) (5 ∷ 6 ∷ 2 ∷ 3 ∷ [])
     ∷ case 18 (sameKeySplits ∷ []) (0 ∷ [])
     ∷ case 17 mixedNormal (0x3F785B42 ∷ 0x3E785B42 ∷ 0 ∷ [])
+    ∷ case 20 (take 2 (drop 12 (stitchGiven K8 quarter .slices .indices))) (9 ∷ 9 ∷ [])
+    ∷ case 32 refused (32 ∷ 9 ∷ 9 ∷ [])
+    ∷ case 33 (firstFailing (stitchChecks (wide ∷ []) roomy) ∷ []) (33 ∷ [])
     ∷ []
 
 -- The definitions yield each.
 pub claims-hold : T (all agrees claims)
-unfolding evaluation roomy stitchGiven stitched vertex quarter two six twoZeros nearest tied distant shells apex fifth fifthNormals mixedNormal sameKey sameKeySplits constants meant claims
+unfolding evaluation roomy stitchGiven stitched vertex tight wide refused quarter two six twoZeros nearest tied distant shells apex fifth fifthNormals mixedNormal sameKey sameKeySplits constants meant claims
 claims-hold = tt

@@ -10,8 +10,8 @@ use Rattle.body.specs.Body.{Patch, rowsOf, patchesOf, firstFailing}
 use Rattle.refusals.specs.BodyChecks.{bodyChecks}
 use Rattle.geometry.specs.Geometry.{zero64}
 use Rattle.points.specs.Points.{key}
 use Rattle.stitched.specs.StitchedBody.{StitchedBody, stitchedBody}
-use Rattle.results.specs.Slices.{StitchSlices, AfterStitch, refuseStitch, clearedSlices, stitchOrRefuse}
+use Rattle.stitched.specs.Slices.{StitchSlices, AfterStitch, refuseStitch, clearedSlices, stitchOrRefuse}
 
 -- A sag not above 0 splits nothing; the body is copied.
 unfoldable pub stitchBody : Float → List ℕ → List Patch → StitchedBody
