@@ -21,13 +21,13 @@ use Rattle.body.specs.Rows.{Total}
 use Rattle.body.specs.Patches.{noPatch, length-patches, shapes}
 use Rattle.checks.specs.Accepted.{Passed, passed-rows}
 use Rattle.geometry.specs.declared.Aabb.{Aabb}
-use Rattle.acceptance.specs.declared.totals.Totals.{Totals}
+use Rattle.judging.specs.declared.totals.Totals.{Totals}
 use Rattle.acceptance.specs.Acceptance.{Accepted, Failed, Acceptance, acceptance, acceptedVertices, acceptedIndices, failureNumbers}
 use Rattle.materials.specs.Materials.{badMaterials}
 use Rattle.materials.specs.Small.{SmallMaterials}
 use Rattle.acceptance.specs.Judged.{decisionOf, Judgeable, acceptedBy, decisionsIn, failedOf}
 use Rattle.acceptance.specs.JudgedLaws.{accepted-by, failed-by, decisions-bare, failed-bare, accepted-count, accepted-vertices, accepted-indices, accepted-few, decision-low, decision-tells, small-materials}
-use Rattle.acceptance.specs.Totals.{TotalsReady, Totalled}
+use Rattle.judging.specs.Totals.{TotalsReady, Totalled}
 use Rattle.mesh.specs.Mesh.{Laid, verticesOf, writtenVertices, laidFrom, materialsOf, runsOf, partOf, rangesFrom}
 use Rattle.mesh.specs.JudgedRows.{judgedIn, numbersBy}
 use Rattle.mesh.specs.LaidLaws.{laid-by, positions-by, normals-by}

@@ -38,8 +38,8 @@ fn assemble_rows(
     if materials::bad_materials(materials, default) {
         return Assembled::Refused(42);
     }
-    acceptance::judge_rows(rows, positions, indices, reference, materials, default, w);
-    let t = acceptance::accepted_totals(rows, w, 0);
+    judging::judge_rows(rows, positions, indices, reference, materials, default, w);
+    let t = judging::accepted_totals(rows, w, 0);
     if too_short(
         t.vertices,
         t.indices,
