@@ -1,9 +1,9 @@
 -- `assemble_rows` meets its contract. 42, then 41, then the mesh. Assumes nothing.
 use native.Mathlib.Omega.{arith}
-use Rattle.assemble.proofs.CallLaws.{body-42, judge-ready, totals-ready, room-asked, body-41, write-ready, body-done}
+use Rattle.assemble_rows.proofs.BodyLaws.{body-42, judge-ready, totals-ready, room-asked, body-41, write-ready, body-done}
 use borrow.Author.Needs.{needs}
-use Rattle.assemble.proofs.assembling.assemble_rows.Statement.{statement}
-use Rattle.assemble.proofs.assembling.assemble_rows.Tie as tie
+use Rattle.assemble_rows.proofs.assemble_rows.Statement.{statement}
+use Rattle.assemble_rows.proofs.assemble_rows.Tie as tie
 
 bad-materials-requires : tie.Need-bad-materials-requires
 bad-materials-requires c κs = search needs

@@ -1,4 +1,4 @@
--- What the functions of assembling ask of each other and leave. Assumes nothing.
+-- What assembling a body that passed its checks asks and leaves. Assumes nothing.
 use mathlib.Core.Path.{_≡_}
 use mathlib.Core.List.{List}
 use Prim.Native.Nat.{ℕ}
@@ -8,15 +8,9 @@ use Rattle.body.specs.Body.{rowsOf, patchesOf, workNeeded}
 use Rattle.checks.specs.Accepted.{Passed}
 use Rattle.geometry.specs.declared.Aabb.{Aabb}
 use Rattle.acceptance.specs.Acceptance.{acceptance}
-use Rattle.room.specs.Slices.{MeshSlices}
 use Rattle.assembled.specs.declared.Assembled.{Assembled}
-use Rattle.assembled.specs.Assemble.{AfterAssemble, clearedMesh, assembleOrRefuse}
+use Rattle.assembled.specs.Assemble.{assembleOrRefuse}
 use Rattle.assembled.specs.Assembled.{slicesOf, leftMesh, assembleAnswered}
-
--- an accepted body assembled, by the definition
-abbrev pub assembleAccepted : List ℕ → List Float → List Float → List ℕ → Aabb → List ℕ → ℕ → MeshSlices → AfterAssemble
-assembleAccepted table ps ns is box materials default out =
-    assembleOrRefuse (rowsOf table) materials default (acceptance box materials default (patchesOf (rowsOf table) ps ns is)) (clearedMesh (rowsOf table) out)
 
 -- what assembling an accepted body asks: m rows and the slices of a body that passed its checks
 pub record AssembleReady (table : List ℕ) (ps ns : List Float) (is W : List ℕ) (m : ℕ) : Type 0 where
