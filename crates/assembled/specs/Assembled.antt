@@ -4,11 +4,14 @@ use mathlib.Core.List.{List}
 use Prim.Native.Nat.{ℕ}
 use lib.Dec.{eqb}
 use lib.Ieee.{Float}
+use Rattle.body.specs.Body.{rowsOf, patchesOf}
+use Rattle.geometry.specs.declared.Aabb.{Aabb}
+use Rattle.acceptance.specs.Acceptance.{acceptance}
 use Rattle.assembled.specs.declared.MeshCounts.{MeshCounts}
 use Rattle.assembled.specs.declared.Assembled.{Assembled}
 use Rattle.assembled.specs.declared.Assembled.the-variants.{Done, Refused}
 use Rattle.room.specs.Slices.{MeshSlices}
-use Rattle.assembled.specs.Assemble.{AfterAssemble}
+use Rattle.assembled.specs.Assemble.{AfterAssemble, clearedMesh, assembleOrRefuse}
 
 -- assemble's answer, and what the lent slices hold
 pub record LeftMesh : Type 0 where
@@ -45,3 +48,8 @@ assembleAnswer t = elim (eqb (t .refusal) 0) [ true ↦ Done (countsAnswered t) 
 -- what the definition says of the call, with the answer as assemble gives it
 abbrev pub assembleAnswered : AfterAssemble → LeftMesh
 assembleAnswered t = leftMesh (assembleAnswer t) (t .slices)
+
+-- an accepted body assembled, by the definition
+abbrev pub assembleAccepted : List ℕ → List Float → List Float → List ℕ → Aabb → List ℕ → ℕ → MeshSlices → AfterAssemble
+assembleAccepted table ps ns is box materials default out =
+    assembleOrRefuse (rowsOf table) materials default (acceptance box materials default (patchesOf (rowsOf table) ps ns is)) (clearedMesh (rowsOf table) out)

@@ -29,7 +29,7 @@ pub fn write_tables(
 {
     let p = mesh_runs::write_runs(rows, indices, w, 0, m, mesh_indices, parts);
     let r = mesh_rows::write_ranges(rows, w, 0, m, ranges);
-    let f = acceptance::write_failures(rows, positions, indices, reference, w, 0, failures);
+    let f = failures::write_failures(rows, positions, indices, reference, w, 0, failures);
     Tables {
         parts: p,
         ranges: r,

@@ -16,7 +16,7 @@ use Rattle.body.specs.Rows.{rowAt}
 use Rattle.checks.specs.Accepted.{Passed, passed-rows}
 use Rattle.edges.specs.RowUses.{Inside}
 use Rattle.geometry.specs.declared.Aabb.{Aabb}
-use Rattle.acceptance.specs.declared.totals.Totals.{Totals}
+use Rattle.judging.specs.declared.totals.Totals.{Totals}
 use Rattle.acceptance.specs.Judged.{decisionsIn}
 use Rattle.acceptance.specs.JudgedLaws.{accepted-few, accepted-fewer, accepted-most}
 use Rattle.mesh.specs.Mesh.{Laid, runsOf}

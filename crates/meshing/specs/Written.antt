@@ -9,10 +9,10 @@ use Rattle.points.specs.Points.{bits}
 use Rattle.body.specs.Body.{rowsOf}
 use Rattle.body.specs.Patches.{shapes}
 use Rattle.geometry.specs.declared.Aabb.{Aabb}
-use Rattle.acceptance.specs.declared.totals.Totals.{Totals}
+use Rattle.judging.specs.declared.totals.Totals.{Totals}
 use Rattle.acceptance.specs.Acceptance.{failureNumbers}
 use Rattle.acceptance.specs.Judged.{acceptedRows, decisionsIn, failedOf}
-use Rattle.acceptance.specs.Totals.{Totalled}
+use Rattle.judging.specs.Totals.{Totalled}
 use Rattle.mesh.specs.Mesh.{materialsOf, runsOf, partOf, rangesFrom}
 use Rattle.mesh.specs.JudgedRows.{judgedIn, numbersBy}
 use Rattle.mesh.specs.Parts.{laidIn}

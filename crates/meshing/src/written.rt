@@ -1,8 +1,8 @@
 // The mesh of the accepted rows written to the lent slices.
 
-use acceptance::Totals;
 use assembled::MeshCounts;
 use geometry::Aabb;
+use judging::Totals;
 ghost use Rattle.meshing.specs.Written.{CountReady, Counted, WriteReady, MeshWritten};
 
 // The edges of the mesh that stands at the front of the slices are counted.

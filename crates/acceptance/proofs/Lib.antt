@@ -1,4 +1,0 @@
--- The laws that the proofs of this crate cite, by subject.
-pub mod JudgeLaws
-pub mod TotalLaws
-pub mod FailureLaws

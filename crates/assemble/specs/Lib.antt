@@ -1,2 +1,0 @@
--- What the functions of this crate ask of each other and leave.
-pub mod Steps
