@@ -11,8 +11,8 @@ use lib.ListN.{length, take, drop, drop-of-length-le, take-append-drop}
 use lib.Seq.{length-take-le, take-all}
 use Rattle.floats.specs.Floats.{bits32}
 use Rattle.digits.specs.Bytes.{bytes}
-use Rattle.digits.specs.Given.{Wrote}
-use Rattle.digits.specs.Wrote.{wrote-then}
+use Rattle.digit_writing.specs.Writing.{Wrote}
+use Rattle.digit_writing.specs.Wrote.{wrote-then}
 use Rattle.lines.specs.Forms.{line, numbers, triangleForm}
 use Rattle.lines.specs.Pattern.{piece, pieces, split}
 use Rattle.answer.specs.declared.Sizes.{Sizes}

@@ -14,7 +14,7 @@ ghost use mathlib.Core.List.{_∷_, []};
 ghost use mathlib.Core.Path.{_≡_};
 ghost use Prim.Native.Nat.{_*_, _≤_};
 ghost use lib.ListN.{length};
-ghost use Rattle.digits.specs.Given.{Wrote};
+ghost use Rattle.digit_writing.specs.Writing.{Wrote};
 ghost use Rattle.lines.specs.Forms.{line};
 ghost use Rattle.lines.specs.Pattern.{pieces};
 ghost use Rattle.answer.specs.Answer.{countText, meshText};
