@@ -20,7 +20,7 @@ use Rattle.reader_state.specs.Slices.{Lent, ended, fitsIn, inLimits, lent, read
 use Rattle.sheet.specs.Bench.{bench, printed}
 use Rattle.sheet.specs.Meaning.{meant}
 use Rattle.finish.specs.Finish.{finish}
-use Rattle.answer.specs.Answer.{refusalLine}
+use Rattle.answer_text.specs.Answer.{refusalLine}
 use Rattle.sheet.specs.Answered.{answerIn}
 use Rattle.feeding.specs.declared.Fed.{Fed}
 use Rattle.feeding.specs.Feeding.{Ended, Fed-on, SoFar}

@@ -6,7 +6,7 @@ use Prim.Native.Nat.{ℕ, _*_}
 use lib.Dec.{eqb}
 use lib.ListN.{length, take}
 use Rattle.floats.specs.Floats.{f32}
-use Rattle.answer.specs.Answer.{refusalLine}
+use Rattle.answer_text.specs.Answer.{refusalLine}
 use Rattle.points.specs.Points.{key}
 use Rattle.orient.specs.Orient.{AfterTurn, turnOf}
 use Rattle.results.specs.Slices.{AfterStitch}

@@ -1,23 +1,36 @@
-// The mesh, and the counts.
+// What the program prints as text, and its counts, written at a place of a slice.
 
-use crate::Sizes;
-use crate::Tallies;
-use answer_rows::put_failures;
-use answer_rows::put_threes;
-use answer_rows::put_vertices;
-use fronts::front;
-use fronts::front_floats;
-use fronts::front_long;
 use lines::put_line;
 ghost use mathlib.Core.Bool.{cond};
 ghost use mathlib.Core.List.{_∷_, []};
 ghost use mathlib.Core.Path.{_≡_};
-ghost use Prim.Native.Nat.{_*_, _≤_};
+ghost use Prim.Native.Nat.{_≤_};
 ghost use lib.ListN.{length};
 ghost use Rattle.digit_writing.specs.Writing.{Wrote};
 ghost use Rattle.lines.specs.Forms.{line};
 ghost use Rattle.lines.specs.Pattern.{pieces};
-ghost use Rattle.answer.specs.Answer.{countText, meshText};
+ghost use Rattle.answer_text.specs.Answer.{countText};
+
+// How much of the mesh's slices is written.
+pub struct Sizes {
+    pub vertices: u32,
+    pub indices: u32,
+    pub parts: u32,
+    pub ranges: u32,
+    pub failures: u32,
+}
+
+// What was counted: rows turned, pairs against, splits, accepted rows; edges of the mesh, those used once, those used more than twice; and closed.
+pub struct Tallies {
+    pub turned: u64,
+    pub against: u64,
+    pub split: u64,
+    pub ok: u64,
+    pub edges: u64,
+    pub single: u64,
+    pub over: u64,
+    pub closed: bool,
+}
 
 // A line with one number; answers the place after it.
 pub fn put_count(out: &mut [u8], at: usize, form: &[u8], n: u64) -> usize
@@ -47,28 +60,4 @@ pub fn put_counts(out: &mut [u8], at: usize, t: Tallies) -> usize
     let f = put_count(out, e, b"(open#)", t.single);
     let g = put_count(out, f, b"(over#)", t.over);
     put_count(out, g, b"(closed#)", number_of(t.closed))
-}
-
-// The mesh; answers the place after it.
-pub fn put_mesh(
-    out: &mut [u8],
-    at: usize,
-    z: Sizes,
-    positions: &[f32],
-    normals: &[f32],
-    indices: &[u32],
-    parts: &[u32],
-    ranges: &[u32],
-    failures: &[u64],
-) -> usize
-    requires { ⌜ at ≤ length (now out) ⌝ }
-    ensures { λ r. ⌜ Wrote (now (out .entry)) at (meshText z (now (positions .entry)) (now (normals .entry)) (now (indices .entry)) (now (parts .entry)) (now (ranges .entry)) (now (failures .entry))) (now (out .exit)) r ⌝ }
-{
-    let n = 3 * z.vertices as usize;
-    let a = put_line(out, at, b"(mesh##)", &[z.vertices as u64, z.indices as u64]);
-    let b = put_vertices(out, a, front_floats(positions, n), front_floats(normals, n));
-    let c = put_threes(out, b, b"(part###)", front(parts, 3 * z.parts as usize));
-    let d = put_threes(out, c, b"(t###)", front(indices, z.indices as usize));
-    let e = put_threes(out, d, b"(range###)", front(ranges, 3 * z.ranges as usize));
-    put_failures(out, e, front_long(failures, 4 * z.failures as usize))
 }

@@ -8,7 +8,7 @@ use Rattle.digits.specs.Digits.{digitOf}
 use Rattle.lines.specs.Forms.{Piece, numbers, print, read, triangleForm, vertexForm}
 use Rattle.lines.specs.ReadBack.{fits, read-print, readable}
 use Rattle.answer_rows.specs.Rows.{emptyForm, escapeForm, upstreamForm}
-use Rattle.answer.specs.Answer.{againstForm, closedForm, edgesForm, meshForm, okForm, openForm, overForm, partForm, rangeForm, refusedForm, splitForm, turnedForm}
+use Rattle.answer_text.specs.Answer.{againstForm, closedForm, edgesForm, meshForm, okForm, openForm, overForm, partForm, rangeForm, refusedForm, splitForm, turnedForm}
 
 -- the forms of the lines that are printed
 pub data Printed : List Piece → Type 0 where

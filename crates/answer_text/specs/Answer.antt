@@ -9,8 +9,8 @@ use Rattle.floats.specs.Floats.{bits32}
 use Rattle.digits.specs.Bytes.{bytes}
 use Rattle.lines.specs.Forms.{Piece, Word, line, numbers, triangleForm}
 use Rattle.answer_rows.specs.Rows.{failureLines, threes, vertexLines}
-use Rattle.answer.specs.declared.Sizes.{Sizes}
-use Rattle.answer.specs.declared.Tallies.{Tallies}
+use Rattle.answer_text.specs.declared.Sizes.{Sizes}
+use Rattle.answer_text.specs.declared.Tallies.{Tallies}
 
 -- ---- the forms that are printed only
 

@@ -11,10 +11,10 @@ use Rattle.digits.specs.Digits.{digits, decimalTo, decimal, hex}
 use Rattle.floats.specs.Floats.{bits32}
 use Rattle.lines.specs.Forms.{Piece, Word, Bits, Number, print, line, numbers, vertexForm, triangleForm}
 use Rattle.lines.specs.Lengths.{longest}
-use Rattle.answer.specs.declared.Sizes.{Sizes}
-use Rattle.answer.specs.declared.Tallies.{Tallies}
+use Rattle.answer_text.specs.declared.Sizes.{Sizes}
+use Rattle.answer_text.specs.declared.Tallies.{Tallies}
 use Rattle.answer_rows.specs.Rows.{emptyForm, escapeForm, failureLine, failureLines, threes, upstreamForm, vertexLines}
-use Rattle.answer.specs.Answer.{againstForm, closedForm, countText, edgesForm, meshForm, meshText, okForm, openForm, overForm, partForm, rangeForm, refusalLine, refusedForm, splitForm, turnedForm}
+use Rattle.answer_text.specs.Answer.{againstForm, closedForm, countText, edgesForm, meshForm, meshText, okForm, openForm, overForm, partForm, rangeForm, refusalLine, refusedForm, splitForm, turnedForm}
 
 -- ---- numbers
 

@@ -1,8 +1,8 @@
 -- `write_answer` meets its contract. Assumes nothing.
-use Rattle.answer.proofs.TextLaws.{answer-written}
+use Rattle.answer.proofs.WholeLaws.{answer-written}
 use borrow.Author.Needs.{needs}
-use Rattle.answer.proofs.whole.write_answer.Statement.{statement}
-use Rattle.answer.proofs.whole.write_answer.Tie as tie
+use Rattle.answer.proofs.write_answer.Statement.{statement}
+use Rattle.answer.proofs.write_answer.Tie as tie
 
 put-mesh-requires : tie.Need-put-mesh-requires
 put-mesh-requires c κs = search needs

@@ -1,8 +1,8 @@
 -- `write_refusal` meets its contract. Assumes nothing.
-use Rattle.answer.proofs.TextLaws.{refusal-written}
+use Rattle.answer.proofs.WholeLaws.{refusal-written}
 use borrow.Author.Needs.{needs}
-use Rattle.answer.proofs.whole.write_refusal.Statement.{statement}
-use Rattle.answer.proofs.whole.write_refusal.Tie as tie
+use Rattle.answer.proofs.write_refusal.Statement.{statement}
+use Rattle.answer.proofs.write_refusal.Tie as tie
 
 slice-aggregate-put-count : tie.Need-slice-aggregate-put-count
 slice-aggregate-put-count c = search needs

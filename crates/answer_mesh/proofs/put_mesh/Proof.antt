@@ -1,9 +1,9 @@
 -- `put_mesh` meets its contract. Assumes nothing.
 use mathlib.Core.Path.{_∙_}
-use Rattle.answer.proofs.TextLaws.{mesh-written}
+use Rattle.answer_mesh.proofs.MeshLaws.{mesh-written}
 use borrow.Author.Needs.{needs}
-use Rattle.answer.proofs.text.put_mesh.Statement.{statement}
-use Rattle.answer.proofs.text.put_mesh.Tie as tie
+use Rattle.answer_mesh.proofs.put_mesh.Statement.{statement}
+use Rattle.answer_mesh.proofs.put_mesh.Tie as tie
 
 cast-n : tie.Need-cast-n
 cast-n c = search needs

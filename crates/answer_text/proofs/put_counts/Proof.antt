@@ -1,9 +1,9 @@
 -- `put_counts` meets its contract. Assumes nothing.
 use mathlib.Core.Path.{_∙_}
-use Rattle.answer.proofs.TextLaws.{counts-written}
+use Rattle.answer_text.proofs.CountLaws.{counts-written}
 use borrow.Author.Needs.{needs}
-use Rattle.answer.proofs.text.put_counts.Statement.{statement}
-use Rattle.answer.proofs.text.put_counts.Tie as tie
+use Rattle.answer_text.proofs.put_counts.Statement.{statement}
+use Rattle.answer_text.proofs.put_counts.Tie as tie
 
 slice-aggregate-put-count : tie.Need-slice-aggregate-put-count
 slice-aggregate-put-count c = search needs

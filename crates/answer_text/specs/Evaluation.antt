@@ -3,7 +3,7 @@ use Prim.Native.Nat.{ℕ}
 use Rattle.floats.specs.Evaluation as Floats
 use Rattle.lines.specs.Evaluation as Lines
 use Rattle.answer_rows.specs.Rows.{threes, vertexLines, failureLine, failureLines}
-use Rattle.answer.specs.Answer.{meshText, countText, refusalLine}
+use Rattle.answer_text.specs.Answer.{meshText, countText, refusalLine}
 
 -- every definition that computes
 unfoldable pub evaluation : ℕ
