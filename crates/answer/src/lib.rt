@@ -1,28 +1,44 @@
-// What the program prints, written into a lent slice; what passes its end is left off.
+// All that the program prints, written into a lent slice; what passes its end is left off.
 
-mod text;
-mod whole;
+use answer_mesh::put_mesh;
+use answer_text::Sizes;
+use answer_text::Tallies;
+use answer_text::put_count;
+use answer_text::put_counts;
+ghost use mathlib.Core.List.{_++_};
+ghost use Rattle.answer_text.specs.Answer.{Written, countText, meshText, refusalLine};
 
-pub use whole::write_answer;
-pub use whole::write_refusal;
-
-// How much of the mesh's slices is written.
-pub struct Sizes {
-    pub vertices: u32,
-    pub indices: u32,
-    pub parts: u32,
-    pub ranges: u32,
-    pub failures: u32,
+// The mesh and the counts, cut off where `out` ends; answers how many bytes were written.
+pub fn write_answer(
+    out: &mut [u8],
+    z: Sizes,
+    t: Tallies,
+    positions: &[f32],
+    normals: &[f32],
+    indices: &[u32],
+    parts: &[u32],
+    ranges: &[u32],
+    failures: &[u64],
+) -> usize
+    ensures { λ r. ⌜ Written (now (out .entry)) (meshText z (now (positions .entry)) (now (normals .entry)) (now (indices .entry)) (now (parts .entry)) (now (ranges .entry)) (now (failures .entry)) ++ countText t) (now (out .exit)) r ⌝ }
+{
+    let next = put_mesh(
+        out,
+        0,
+        z,
+        positions,
+        normals,
+        indices,
+        parts,
+        ranges,
+        failures,
+    );
+    put_counts(out, next, t)
 }
 
-// What was counted: rows turned, pairs against, splits, accepted rows; edges of the mesh, those used once, those used more than twice; and closed.
-pub struct Tallies {
-    pub turned: u64,
-    pub against: u64,
-    pub split: u64,
-    pub ok: u64,
-    pub edges: u64,
-    pub single: u64,
-    pub over: u64,
-    pub closed: bool,
+// The line of a refusal, cut off where `out` ends; answers how many bytes were written.
+pub fn write_refusal(out: &mut [u8], n: u32) -> usize
+    ensures { λ r. ⌜ Written (now (out .entry)) (refusalLine n) (now (out .exit)) r ⌝ }
+{
+    put_count(out, 0, b"(refused#)", n as u64)
 }

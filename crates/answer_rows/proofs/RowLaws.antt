@@ -7,9 +7,9 @@ use borrow.Author.Tests.{eq-eqb, ne-eqb}
 use lib.Ieee.{Float, nan}
 use lib.ListN.{length, getD, drop, length-drop, length-map}
 use Rattle.floats.specs.Floats.{bits32}
-use Rattle.digits.specs.Given.{Wrote}
+use Rattle.digit_writing.specs.Writing.{Wrote}
 use Rattle.digits.specs.Next.{next}
-use Rattle.digits.specs.Wrote.{wrote-none, wrote-then}
+use Rattle.digit_writing.specs.Wrote.{wrote-none, wrote-then}
 use Rattle.lines.specs.Forms.{Piece, line, vertexForm}
 use Rattle.lines.specs.Pattern.{pieces}
 use Rattle.answer_rows.specs.Rows.{cornerAt, threeAt, emptyForm, escapeForm, failureLine, failureLines, threes, upstreamForm, vertexLines}

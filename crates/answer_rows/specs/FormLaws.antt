@@ -2,7 +2,7 @@
 use mathlib.Core.List.{List, [], _∷_, _++_}
 use mathlib.Core.Path.{_≡_, refl, _∙_, ap, subst}
 use Prim.Native.Nat.{ℕ}
-use Rattle.digits.specs.Given.{Wrote}
+use Rattle.digit_writing.specs.Writing.{Wrote}
 use Rattle.lines.specs.Forms.{Piece, line}
 use Rattle.lines.specs.Pattern.{line-of-form, pieces, split}
 use Rattle.answer_rows.specs.Rows.{threes}

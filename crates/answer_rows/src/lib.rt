@@ -7,7 +7,7 @@ ghost use mathlib.Core.List.{map};
 ghost use Prim.Native.Nat.{_+_, _≤_};
 ghost use lib.ListN.{length};
 ghost use Rattle.floats.specs.Floats.{bits32};
-ghost use Rattle.digits.specs.Given.{Wrote};
+ghost use Rattle.digit_writing.specs.Writing.{Wrote};
 ghost use Rattle.lines.specs.Forms.{line, vertexForm};
 ghost use Rattle.lines.specs.Pattern.{pieces};
 ghost use Rattle.answer_rows.specs.Rows.{cornerAt, failureLine, failureLines, threeAt, threes, vertexLines};

@@ -5,10 +5,10 @@ use Prim.Native.Nat.{ℕ}
 use native.Mathlib.Omega.{arith}
 use lib.Ieee.{Float}
 use lib.ListN.{replicate}
-use Rattle.answer.specs.declared.Sizes.{Sizes}
-use Rattle.answer.specs.declared.Tallies.{Tallies}
-use Rattle.answer.specs.Longest.{MeshInLimits, answer-length}
-use Rattle.answer.specs.Answer.{Written, meshText, countText, refusalLine}
+use Rattle.answer_text.specs.declared.Sizes.{Sizes}
+use Rattle.answer_text.specs.declared.Tallies.{Tallies}
+use Rattle.answer_text.specs.Longest.{MeshInLimits, answer-length}
+use Rattle.answer_text.specs.Answer.{Written, meshText, countText, refusalLine}
 use Rattle.assembled.specs.declared.MeshCounts.{MeshCounts}
 use Rattle.assembled.specs.declared.Assembled.{Assembled}
 use Rattle.assembled.specs.declared.Assembled.the-variants as A

@@ -1,16 +1,16 @@
 // The last of the three calls, in arrays for results to 16 rows, 192 vertices and 192 indices, and what is printed of its answer.
 
-use answer::Sizes;
-use answer::Tallies;
 use answer::write_answer;
 use answer::write_refusal;
+use answer_text::Sizes;
+use answer_text::Tallies;
 use assemble::assemble;
 use assembled::Assembled;
 use assembled::MeshCounts;
 use geometry::Aabb;
 use orientation::Counts;
 ghost use mathlib.Core.Path.{_≡_};
-ghost use Rattle.answer.specs.Longest.{MeshInLimits};
+ghost use Rattle.answer_text.specs.Longest.{MeshInLimits};
 ghost use Rattle.call_texts.specs.Told.{Told};
 ghost use Rattle.call_texts.specs.Texts.{MeshSaid, assembledText, sizedFrom, talliedFrom};
 

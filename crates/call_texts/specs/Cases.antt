@@ -4,7 +4,7 @@ use mathlib.Core.List.{List}
 use mathlib.Core.Path.{_≡_, refl, sym, _∙_, ap, subst}
 use Prim.Native.Nat.{ℕ}
 use lib.Dec.{eqb}
-use Rattle.answer.specs.Answer.{Written, refusalLine}
+use Rattle.answer_text.specs.Answer.{Written, refusalLine}
 use Rattle.call_texts.specs.Told.{Told, told-refusal}
 
 -- the two cases of a call's answer are told apart, and each by what it carries

@@ -6,9 +6,9 @@ use Prim.Native.Nat.{ℕ, _*_}
 use lib.ListN.{length, take}
 use lib.Dec.{eqb}
 use lib.Ieee.{Float}
-use Rattle.answer.specs.declared.Sizes.{Sizes}
-use Rattle.answer.specs.declared.Tallies.{Tallies}
-use Rattle.answer.specs.Answer.{meshText, countText, refusalLine}
+use Rattle.answer_text.specs.declared.Sizes.{Sizes}
+use Rattle.answer_text.specs.declared.Tallies.{Tallies}
+use Rattle.answer_text.specs.Answer.{meshText, countText, refusalLine}
 use Rattle.points.specs.Points.{key}
 use Rattle.geometry.specs.declared.Aabb.{Aabb}
 use Rattle.orientation.specs.declared.Counts.{Counts}

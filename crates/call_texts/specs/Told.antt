@@ -2,8 +2,8 @@
 use mathlib.Core.List.{List}
 use Prim.Native.Nat.{ℕ, _≤_}
 use lib.ListN.{length}
-use Rattle.answer.specs.Answer.{Written, refusalLine}
-use Rattle.answer.specs.Longest.{refusal-length}
+use Rattle.answer_text.specs.Answer.{Written, refusalLine}
+use Rattle.answer_text.specs.Longest.{refusal-length}
 
 -- a text was written into E, cut off where E ends, and has at most 21,504 bytes
 pub record Told (E text W : List ℕ) (r : ℕ) : Type 0 where

@@ -5,7 +5,7 @@ use Prim.Native.Nat.{ℕ}
 use native.Mathlib.Omega.{arith}
 use lib.Ieee.{Float}
 use lib.ListN.{replicate}
-use Rattle.answer.specs.Answer.{Written, refusalLine}
+use Rattle.answer_text.specs.Answer.{Written, refusalLine}
 use Rattle.points.specs.Points.{key}
 use Rattle.geometry.specs.declared.Aabb.{Aabb}
 use Rattle.orientation.specs.declared.Counts.{Counts}

@@ -5,6 +5,5 @@ pub mod ReadBack
 pub mod Lengths
 pub mod Exact
 pub mod Next
-pub mod Given
-pub mod Wrote
 pub mod Evaluation
+pub mod Claims

@@ -10,8 +10,8 @@ use lib.Dec.{T, leb, eqb}
 use lib.Ieee.Fits.{and-i, and-l, and-r}
 use lib.ListN.{length, getD, take, length-take}
 use lib.Seq.{length-take-le, take-all, take-nil, take-suc}
-use Rattle.digits.specs.Given.{Wrote}
-use Rattle.digits.specs.Wrote.{take-again}
+use Rattle.digit_writing.specs.Writing.{Wrote}
+use Rattle.digit_writing.specs.Wrote.{take-again}
 use Rattle.line_order.specs.Laws.{long-line, noLF, read-end, read-line}
 use Rattle.line_order.specs.Reading.{State, cut, finished, readFrom, readLine, sheetOf}
 use Rattle.reader_state.specs.declared.Reader.{Reader}
@@ -20,7 +20,7 @@ use Rattle.reader_state.specs.Slices.{Lent, ended, fitsIn, inLimits, lent, read
 use Rattle.sheet.specs.Bench.{bench, printed}
 use Rattle.sheet.specs.Meaning.{meant}
 use Rattle.finish.specs.Finish.{finish}
-use Rattle.answer.specs.Answer.{refusalLine}
+use Rattle.answer_text.specs.Answer.{refusalLine}
 use Rattle.sheet.specs.Answered.{answerIn}
 use Rattle.feeding.specs.declared.Fed.{Fed}
 use Rattle.feeding.specs.Feeding.{Ended, Fed-on, SoFar}

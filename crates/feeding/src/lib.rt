@@ -1,6 +1,6 @@
 // A text taken in byte by byte: a line feed has the line before it read.
 
-use digits::put_byte;
+use digit_writing::put_byte;
 use fronts::front_bytes;
 use reader::read_line;
 use reader_state::Reader;

@@ -8,7 +8,7 @@ use borrow.Author.Tests.{eq-eqb, ne-eqb, not-true, not-false}
 use lib.Ieee.{Float}
 use lib.ListN.{length, take, drop, length-map, length-take}
 use lib.Seq.{length-take-le, take-all, take-at}
-use Rattle.answer.specs.Answer.{Written, refusalLine}
+use Rattle.answer_text.specs.Answer.{Written, refusalLine}
 use Rattle.floats.specs.Floats.{f32, f64}
 use Rattle.geometry.specs.declared.Aabb.{Aabb}
 use Rattle.finish.specs.Finish.{finish}

@@ -6,7 +6,7 @@ use Prim.Native.Nat.{ℕ, _*_}
 use lib.Dec.{eqb}
 use lib.ListN.{length, take}
 use Rattle.floats.specs.Floats.{f32}
-use Rattle.answer.specs.Answer.{refusalLine}
+use Rattle.answer_text.specs.Answer.{refusalLine}
 use Rattle.points.specs.Points.{key}
 use Rattle.orientation.specs.Orient.{AfterTurn, turnOf}
 use Rattle.stitched.specs.Slices.{AfterStitch}

@@ -10,8 +10,8 @@ use lib.Dec.{eqb}
 use lib.ListN.{length, getD, drop, drop-of-length-le}
 use Rattle.digits.specs.Digits.{Found, found}
 use Rattle.digits.specs.Next.{next}
-use Rattle.digits.specs.Given as Digits
-use Rattle.digits.specs.declared.reading.Taken.{Taken}
+use Rattle.digit_reading.specs.Given as Digits
+use Rattle.digit_reading.specs.declared.Taken.{Taken}
 use Rattle.lines.specs.Forms.{Piece, Word, Bits, Number, afterWord, spaced}
 use Rattle.lines.specs.Pattern.{numbersOf, piece, readByte, readNumber, readPiece}
 use Rattle.lines.specs.Scan.{Numbers, PieceTaken}

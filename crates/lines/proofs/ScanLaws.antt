@@ -12,9 +12,9 @@ use lib.Dec.{eqb}
 use lib.ListN.{length, getD, take, drop, set, length-set, drop-of-length-le}
 use lib.Seq.{take-set-le, take-suc-set}
 use Rattle.digits.specs.Digits.{Found, found, readDecimal, readHex}
-use Rattle.digits.specs.Given as Digits
+use Rattle.digit_reading.specs.Given as Digits
 use Rattle.digits.specs.Next.{next}
-use Rattle.digits.specs.declared.reading.Taken.{Taken}
+use Rattle.digit_reading.specs.declared.Taken.{Taken}
 use Rattle.lines.specs.Forms.{Piece, Word, Bits, Number, afterWord, read, spaced}
 use Rattle.lines.specs.Counted.{countIn}
 use Rattle.lines.specs.Pattern.{numbersOf, piece, pieces, readPiece}

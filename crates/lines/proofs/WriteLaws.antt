@@ -5,9 +5,9 @@ use Prim.Native.Nat.{ℕ, _+_, _-_, _≤_, _<_}
 use native.Mathlib.Nat.{add-zero}
 use native.Mathlib.Omega.{arith}
 use lib.ListN.{length, getD, drop, drop-of-length-le, List·getD-eq-default}
-use Rattle.digits.specs.Given.{Wrote}
+use Rattle.digit_writing.specs.Writing.{Wrote}
 use Rattle.digits.specs.Next.{next}
-use Rattle.digits.specs.Wrote.{wrote-none, wrote-then}
+use Rattle.digit_writing.specs.Wrote.{wrote-none, wrote-then}
 use Rattle.lines.specs.Forms.{Piece, Word, Bits, Number, line, print}
 use Rattle.lines.specs.Pattern.{numbersOf, piece, pieces, printNumber, printPiece}
 use Rattle.lines.specs.Scan.{Numbers}

@@ -6,8 +6,8 @@ use mathlib.Core.Path.{_≡_}
 use Prim.Native.Nat.{ℕ, _≤_}
 use lib.ListN.{length, take}
 use Rattle.digits.specs.Digits.{Found}
-use Rattle.digits.specs.Given as Digits
-use Rattle.digits.specs.declared.reading.Taken.{Taken}
+use Rattle.digit_reading.specs.Given as Digits
+use Rattle.digit_reading.specs.declared.Taken.{Taken}
 use Rattle.lines.specs.declared.kinds.Given.{Given}
 use Rattle.lines.specs.declared.kinds.Given.the-variants as Given
 use Rattle.lines.specs.Forms.{Piece, Line, read, form}

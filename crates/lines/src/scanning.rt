@@ -1,9 +1,9 @@
 // A line read by a form.
 
-use digits::Taken;
-use digits::missing;
-use digits::read_decimal;
-use digits::read_hex;
+use digit_reading::Taken;
+use digit_reading::missing;
+use digit_reading::read_decimal;
+use digit_reading::read_hex;
 ghost use Prim.Native.Nat.{_+_, _<_, _≤_};
 ghost use lib.ListN.{length, drop};
 ghost use Rattle.lines.specs.Counted.{countIn};

@@ -1,13 +1,13 @@
 // A line written by a form; what passes the end of the slice is left off.
 
 use crate::scanning::numbers_of;
-use digits::put_byte;
-use digits::put_decimal;
-use digits::put_hex;
+use digit_writing::put_byte;
+use digit_writing::put_decimal;
+use digit_writing::put_hex;
 ghost use mathlib.Core.Path.{_≡_};
 ghost use Prim.Native.Nat.{_≤_};
 ghost use lib.ListN.{length, getD};
-ghost use Rattle.digits.specs.Given.{Wrote};
+ghost use Rattle.digit_writing.specs.Writing.{Wrote};
 ghost use Rattle.lines.specs.Forms.{line, print};
 ghost use Rattle.lines.specs.Pattern.{piece, pieces, printNumber, printPiece};
 

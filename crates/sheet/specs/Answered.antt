@@ -4,7 +4,7 @@ use mathlib.Core.List.{List}
 use Prim.Native.Nat.{ℕ}
 use lib.ListN.{length}
 use lib.Dec.{eqb}
-use Rattle.answer.specs.Answer.{refusalLine}
+use Rattle.answer_text.specs.Answer.{refusalLine}
 use Rattle.finish.specs.Finish.{finish}
 use Rattle.reader_state.specs.Slices.{Lent, inLimits, patternsOf}
 use Rattle.sheet.specs.Meaning.{meant}

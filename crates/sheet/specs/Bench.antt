@@ -7,7 +7,7 @@ use Rattle.finish.specs.Finish.{Outcome, Refused, Finished, finish}
 use Rattle.line_order.specs.Reading.{sheetOf}
 use Rattle.sheet.specs.Meaning.{meant}
 use Rattle.sheet.specs.Printing.{meshLines, countLines}
-use Rattle.answer.specs.Answer.{refusalLine}
+use Rattle.answer_text.specs.Answer.{refusalLine}
 
 -- what is printed of the three calls: a refusal prints only its number
 unfoldable pub printed : Outcome → List ℕ

@@ -2,7 +2,7 @@
 use Prim.Native.Nat.{ℕ}
 use Rattle.finish.specs.Evaluation as Finish
 use Rattle.line_order.specs.Evaluation as Reading
-use Rattle.answer.specs.Evaluation as Answer
+use Rattle.answer_text.specs.Evaluation as Answer
 use Rattle.sheet.specs.Meaning.{boxOf, meant}
 use Rattle.sheet.specs.Printing.{meshLines, countLines}
 use Rattle.sheet.specs.Parts.{corner, stateNumbers}

@@ -1,9 +1,9 @@
 -- What the program prints of what the calls give. Assumes nothing.
 use mathlib.Core.List.{List}
 use Prim.Native.Nat.{ℕ}
-use Rattle.answer.specs.declared.Sizes.{Sizes}
-use Rattle.answer.specs.declared.Tallies.{Tallies}
-use Rattle.answer.specs.Answer.{countText, meshText}
+use Rattle.answer_text.specs.declared.Sizes.{Sizes}
+use Rattle.answer_text.specs.declared.Tallies.{Tallies}
+use Rattle.answer_text.specs.Answer.{countText, meshText}
 use Rattle.orientation.specs.Orient.{AfterTurn}
 use Rattle.stitched.specs.Slices.{AfterStitch}
 use Rattle.assembled.specs.Assemble.{AfterAssemble}

@@ -9,7 +9,7 @@ use lib.Dec.{T, ltb, ltb→lt}
 use lib.Ieee.Fits.{and-l}
 use lib.ListN.{length, getD, take}
 use Rattle.digits.specs.Bytes.{bytes}
-use Rattle.digits.specs.Given.{Wrote}
+use Rattle.digit_writing.specs.Writing.{Wrote}
 use Rattle.lines.specs.Forms.{Piece, read}
 use Rattle.lines.specs.Counted.{countIn}
 use Rattle.lines.specs.Exact.{read-fits}

@@ -1,8 +1,8 @@
 // One line of the program `steps`, without its line feed: the name of a float step and the bits of its operands in hex, read and answered.
 
-use digits::put_byte;
-use digits::put_hex;
-use digits::put_text;
+use digit_writing::put_byte;
+use digit_writing::put_hex;
+use digit_writing::put_text;
 use floats::larger;
 use floats::widen;
 use integral::round;
@@ -13,7 +13,7 @@ ghost use mathlib.Core.List.{_++_, _∷_, []};
 ghost use mathlib.Core.Path.{_≡_};
 ghost use Prim.Native.Nat.{_≤_};
 ghost use Rattle.digits.specs.Digits.{hex};
-ghost use Rattle.digits.specs.Given.{Wrote};
+ghost use Rattle.digit_writing.specs.Writing.{Wrote};
 ghost use Rattle.step_lines.specs.Lines.{printed, replyTo};
 
 // What a line comes to: the bits of an f64 or of an f32, or a refusal.

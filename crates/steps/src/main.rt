@@ -1,6 +1,6 @@
 // Reads float steps from standard input, one a line, and prints the bits of each result; `(refused 51)` for a line that is none. A line feed ends a line.
 
-use digits::put_byte;
+use digit_writing::put_byte;
 use libc::STDIN_FILENO;
 use libc::STDOUT_FILENO;
 ghost use Prim.Native.Nat.{_≤_};

@@ -5,7 +5,7 @@ use Prim.Native.Nat.{ℕ, _*_}
 use native.Mathlib.Omega.{arith}
 use lib.Ieee.{Float}
 use lib.ListN.{length, take, replicate}
-use Rattle.answer.specs.Answer.{Written, refusalLine}
+use Rattle.answer_text.specs.Answer.{Written, refusalLine}
 use Rattle.points.specs.Points.{key}
 use Rattle.floats.specs.Floats.{f32}
 use Rattle.geometry.specs.declared.Aabb.{Aabb}

@@ -1,5 +1,5 @@
 -- `put_bits` meets its contract. Assumes nothing.
-use Rattle.digits.specs.Wrote.{wrote-then}
+use Rattle.digit_writing.specs.Wrote.{wrote-then}
 use borrow.Author.Needs.{needs}
 use Rattle.step_lines.proofs.put_bits.Statement.{statement}
 use Rattle.step_lines.proofs.put_bits.Tie as tie
