@@ -1,10 +1,9 @@
 -- Small numbers written and read, each of which tells a reading of document 01 from a near miss. Assumes nothing.
-use mathlib.Core.List.{List, [], _∷_}
-use mathlib.Core.Option.{Option, none, some}
+use mathlib.Core.List.{[], _∷_}
+use mathlib.Core.Option.{none, some}
 use mathlib.Core.Path.{_≡_, refl}
-use Prim.Native.Nat.{ℕ}
 use Rattle.digits.specs.Bytes.{bytes}
-use Rattle.digits.specs.Digits.{Found, found, hex, decimal, readHex, readDecimal}
+use Rattle.digits.specs.Digits.{found, hex, decimal, readHex, readDecimal}
 use Rattle.digits.specs.Evaluation.{evaluation}
 
 -- bits are written in upper-case hex, as many digits as are asked for
