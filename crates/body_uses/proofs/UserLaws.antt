@@ -9,7 +9,7 @@ use Rattle.lists.specs.Sets.{take-sets, drop-sets}
 use Rattle.lists.specs.Stretches.{stretch-sets}
 use Rattle.body.specs.Body.{rowsOf}
 use Rattle.body.specs.Rows.{rowAt}
-use Rattle.join.specs.Join.{joined, JoinedAt}
+use Rattle.joining.specs.Join.{joined, JoinedAt}
 use Rattle.edges.specs.Named.{useName}
 use Rattle.edges.specs.RowUses.{uses-all}
 use Rattle.edges.specs.FirstUsers.{UsersReady, FirstUsers, usesIn}

@@ -11,7 +11,7 @@ use Rattle.lists.specs.Stretches.{stretch-at, stretch-kept, front-less, rest-le
 use Rattle.points.specs.Rule.{names}
 use Rattle.points.specs.Points.{key}
 use Rattle.points.specs.Names.{names-length}
-use Rattle.join.specs.Join.{joined}
+use Rattle.joining.specs.Join.{joined}
 use Rattle.body.specs.Body.{Row, rowsOf, tableOf, patchesOf, allVertices, allIndices}
 use Rattle.body.specs.Rows.{noRow, rowAt}
 use Rattle.edges.specs.Edges.{Use, usesFrom}

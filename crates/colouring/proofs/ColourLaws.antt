@@ -10,7 +10,7 @@ use Rattle.body.specs.Patches.{shapes}
 use Rattle.lists.specs.Stretches.{part-stretch, part-rest, rest-less}
 use Rattle.points.specs.Rule.{names}
 use Rattle.points.specs.Points.{key}
-use Rattle.join.specs.Join.{joined}
+use Rattle.joining.specs.Join.{joined}
 use Rattle.walk.specs.Uses.{pairsBy}
 use Rattle.walk.specs.Area.{usesOf, Sound}
 use Rattle.walk.specs.Links.{uses-front, sound-kept}

@@ -7,7 +7,7 @@ use lib.Ieee.{Float}
 use Rattle.body.specs.Patches.{shapes}
 use Rattle.points.specs.Rule.{names}
 use Rattle.points.specs.Points.{key}
-use Rattle.join.specs.Join.{joined}
+use Rattle.joining.specs.Join.{joined}
 use Rattle.orientation.specs.Orient.{walksOf}
 
 -- where the colours stand in the work area of a body of v vertices, m rows and n indices

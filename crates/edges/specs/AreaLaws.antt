@@ -13,8 +13,8 @@ use Rattle.points.specs.Points.{key}
 use Rattle.points.specs.Names.{names-length}
 use Rattle.body.specs.Body.{Row, rowsOf, patchesOf}
 use Rattle.body.specs.Rows.{rowAt}
-use Rattle.join.specs.Join.{joined}
-use Rattle.join.specs.Representatives.{joined-below, joined-low}
+use Rattle.joining.specs.Join.{joined}
+use Rattle.joining.specs.Representatives.{joined-below, joined-low}
 use Rattle.edges.specs.Edges.{usesFrom}
 use Rattle.edges.specs.Named.{useRun, rowUses, BodyReady}
 use Rattle.edges.specs.Counted.{CountReady}

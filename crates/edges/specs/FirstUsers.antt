@@ -4,7 +4,7 @@ use mathlib.Core.List.{List, map}
 use Prim.Native.Nat.{ℕ, _+_, _*_, _≤_}
 use lib.ListN.{length, take, drop}
 use Rattle.body.specs.Body.{rowsOf, allIndices}
-use Rattle.join.specs.Join.{joined}
+use Rattle.joining.specs.Join.{joined}
 use Rattle.edges.specs.Edges.{Use}
 use Rattle.edges.specs.Named.{useName, rowUses, NamesReady}
 

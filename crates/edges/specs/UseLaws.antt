@@ -15,8 +15,8 @@ use Rattle.lists.specs.Lists.{countIf}
 use Rattle.lists.specs.Any.{each-append}
 use Rattle.body.specs.Body.{Row, Patch, Triangle, trianglesOf, patchesOf}
 use Rattle.body.specs.Rows.{noRow}
-use Rattle.join.specs.Join.{indexOf, joined, firstIndex}
-use Rattle.join.specs.Representatives.{same-name-rep, same-rep-name, joined-length, joined-at}
+use Rattle.joining.specs.Join.{indexOf, joined, firstIndex}
+use Rattle.joining.specs.Representatives.{same-name-rep, same-rep-name, joined-length, joined-at}
 use Rattle.edges.specs.Edges.{Use, triangleUses, usesFrom, sameEdge, firstUser, usesOf}
 use Rattle.edges.specs.Laws.{Names, first-user}
 use Rattle.edges.specs.Named.{useName, rowUses}

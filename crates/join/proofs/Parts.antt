@@ -8,7 +8,7 @@ use lib.ListN.{length, take, drop}
 use lib.Seq.{take-take}
 use borrow.Rule.Slice.PartMut.{midOf, putMid}
 use Rattle.lists.specs.Stretches.{part-stretch, part-front, part-rest}
-use Rattle.join.specs.Join.{joined, Joined, RoomAt, JoinedAt}
+use Rattle.joining.specs.Join.{joined, Joined, RoomAt, JoinedAt}
 
 -- a part that was joined came back
 pub joined-part : {at n : ℕ} {W ys : List ℕ} → RoomAt at n W → Joined (take n (midOf at (at + 4 * n - at) W)) n (midOf at (at + 4 * n - at) W) ys

@@ -11,13 +11,13 @@ use Rattle.points.specs.Rule.{names, Within}
 use Rattle.points.specs.Names.{names-length, names-below}
 use Rattle.points.specs.Points.{key, bits}
 use Rattle.points.specs.Bits.{digest}
-use Rattle.join.specs.declared.table.Source.{Source}
+use Rattle.name_table.specs.declared.Source.{Source}
 use Rattle.join.specs.declared.vertices.Rule.{Rule}
 use Rattle.join.specs.declared.vertices.Rule.the-variants.{Key, Bits}
-use Rattle.join.specs.Join.{joined, firstIndex, Joined, Room}
-use Rattle.join.specs.Naming.{namesOf}
+use Rattle.joining.specs.Join.{joined, firstIndex, Joined, Room}
+use Rattle.name_table.specs.Naming.{namesOf}
 use Rattle.join.specs.Rules.{ruleOf, wordsOf, sourceOf, Fit, JoinedPoints}
-use Rattle.join.specs.Table.{Named, Ready}
+use Rattle.name_table.specs.Table.{Named, Ready}
 use Rattle.join.proofs.Loops.{Written, written-more, written-all}
 
 -- ---- words that are the names

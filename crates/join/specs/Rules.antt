@@ -8,11 +8,11 @@ use Rattle.points.specs.Rule as Naming
 use Rattle.points.specs.Rule.{names}
 use Rattle.points.specs.Points.{key, bits}
 use Rattle.points.specs.Bits.{digest}
-use Rattle.join.specs.declared.table.Source.{Source}
-use Rattle.join.specs.declared.table.Source.the-variants as source
+use Rattle.name_table.specs.declared.Source.{Source}
+use Rattle.name_table.specs.declared.Source.the-variants as source
 use Rattle.join.specs.declared.vertices.Rule.{Rule}
 use Rattle.join.specs.declared.vertices.Rule.the-variants.{Key, Bits}
-use Rattle.join.specs.Join.{joined, firstIndex}
+use Rattle.joining.specs.Join.{joined, firstIndex}
 
 -- the rule of each case
 unfoldable pub ruleOf : Rule → Naming.Rule

@@ -1,4 +1,3 @@
 // Joining: for each of n named items, the first item of the same name.
-pub mod table;
 pub mod vertices;
 pub mod words;

@@ -4,10 +4,10 @@ ghost use mathlib.Core.List.{_++_};
 ghost use lib.ListN.{getD, drop};
 ghost use Rattle.points.specs.Rule.{Within};
 ghost use Rattle.join.specs.Rules.{sourceOf, wordsOf, Fit, JoinedPoints};
-use crate::table::Source;
-use crate::table::join_table;
 use keys::vertex::digest_at;
 use keys::vertex::key_at;
+use name_table::Source;
+use name_table::join_table;
 
 // A rule that says which points are the same.
 pub enum Rule {

@@ -1,8 +1,8 @@
 // Joining by names of 64 bits.
 ghost use lib.ListN.{take};
-ghost use Rattle.join.specs.Join.{Joined, JoinedAt, Room, RoomAt};
-use crate::table::Source;
-use crate::table::join_table;
+ghost use Rattle.joining.specs.Join.{Joined, JoinedAt, Room, RoomAt};
+use name_table::Source;
+use name_table::join_table;
 
 // For each of the n items whose names are the first words of w, the first item of the same name, in the next n words.
 pub fn join_words(w: &mut [u64], n: usize)

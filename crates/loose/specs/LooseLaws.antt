@@ -9,7 +9,7 @@ use lib.Seq.{drop-drop, length-take-le}
 use lib.Dec.{ltb, eqb}
 use lib.Ieee.{Float}
 use Rattle.lists.specs.Lists.{sumOf}
-use Rattle.join.specs.Join.{joined}
+use Rattle.joining.specs.Join.{joined}
 use Rattle.body.specs.Body.{Row, trianglesOf, rowsOf, patchesOf, allIndices}
 use Rattle.edges.specs.Edges.{Use, usesFrom, isOpen}
 use Rattle.edges.specs.RowUses.{Inside, inside-first, inside-rest}

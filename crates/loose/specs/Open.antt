@@ -8,7 +8,7 @@ use lib.Dec.{eqb}
 use lib.Ieee.{Float}
 use Rattle.points.specs.Rule.{names}
 use Rattle.points.specs.Points.{key}
-use Rattle.join.specs.Join.{joined}
+use Rattle.joining.specs.Join.{joined}
 use Rattle.body.specs.Body.{rowsOf, patchesOf}
 use Rattle.edges.specs.Edges.{Use, usesFrom, isOpen}
 use Rattle.edges.specs.Named.{useName, useRun}

@@ -15,8 +15,8 @@ use Rattle.points.specs.Points.{bits}
 use Rattle.points.specs.Names.{names-length}
 use Rattle.body.specs.Body.{trianglesOf}
 use Rattle.join.specs.declared.vertices.Rule.the-variants.{Bits}
-use Rattle.join.specs.Join.{joined, RoomAt, JoinedAt}
-use Rattle.join.specs.Representatives.{joined-at, joined-low}
+use Rattle.joining.specs.Join.{joined, RoomAt, JoinedAt}
+use Rattle.joining.specs.Representatives.{joined-at, joined-low}
 use Rattle.join.specs.Rules.{ruleOf, JoinedPoints}
 use Rattle.edges.specs.Edges.{Use, triangleUses}
 use Rattle.edges.specs.Named.{useName, useRun, RowReady, NameReady}

@@ -8,7 +8,7 @@ use lib.Ieee.{Float}
 use Rattle.lists.specs.Lists.{countIf}
 use Rattle.points.specs.Rule.{names}
 use Rattle.points.specs.Points.{bits}
-use Rattle.join.specs.Join.{joined}
+use Rattle.joining.specs.Join.{joined}
 use Rattle.body.specs.Body.{trianglesOf}
 use Rattle.edges.specs.Edges.{Use, triangleUses}
 use Rattle.edges.specs.Named.{useName}

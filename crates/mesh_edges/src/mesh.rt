@@ -3,7 +3,7 @@
 use join::vertices::Rule;
 use tally::EdgeCounts;
 use tally::tally;
-ghost use Rattle.join.specs.Join.{RoomAt};
+ghost use Rattle.joining.specs.Join.{RoomAt};
 ghost use Rattle.mesh_edges.specs.Mesh.{MeshReady, MeshCounted, EdgesNamed, FirstsCounted};
 
 // The v vertices are joined by bits, and behind their table each use of an edge is named.

@@ -13,8 +13,8 @@ use Rattle.lists.specs.Stretches.{front-less, stretch-at, rest-less}
 use Rattle.points.specs.Rule.{names}
 use Rattle.points.specs.Points.{key}
 use Rattle.body.specs.Body.{Row, rowsOf, patchesOf}
-use Rattle.join.specs.Join.{joined, firstIndex}
-use Rattle.join.specs.Representatives.{rep-below, joined-at}
+use Rattle.joining.specs.Join.{joined, firstIndex}
+use Rattle.joining.specs.Representatives.{rep-below, joined-at}
 use Rattle.edges.specs.Edges.{Use, usesOf}
 use Rattle.edges.specs.Named.{useName, useRun}
 use Rattle.edges.specs.FirstUsers.{UsersReady, usesIn}

@@ -9,7 +9,7 @@ use lib.Dec.{eqb}
 use lib.Ieee.{Float}
 use Rattle.lists.specs.Lists.{countIf}
 use Rattle.points.specs.Rule.{Rule, names}
-use Rattle.join.specs.Join.{joined}
+use Rattle.joining.specs.Join.{joined}
 use Rattle.body.specs.Body.{Row, Patch, rowsOf, patchesOf, firstFailing, cleared}
 use Rattle.refusals.specs.BodyChecks.{bodyChecks}
 use Rattle.edges.specs.Edges.{usesFrom}

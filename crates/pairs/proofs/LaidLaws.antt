@@ -11,8 +11,8 @@ use Rattle.points.specs.Rule.{names}
 use Rattle.points.specs.Points.{key}
 use Rattle.body.specs.Body.{Row, rowsOf, patchesOf}
 use Rattle.body.specs.Rows.{noRow}
-use Rattle.join.specs.Join.{indexOf, joined}
-use Rattle.join.specs.Representatives.{index-found, joined-below, joined-low}
+use Rattle.joining.specs.Join.{indexOf, joined}
+use Rattle.joining.specs.Representatives.{index-found, joined-below, joined-low}
 use Rattle.edges.specs.Edges.{Use}
 use Rattle.edges.specs.Named.{useName, useRun, useRow, rowNumbers}
 use Rattle.edges.specs.FirstUsers.{UsersReady, usesIn}

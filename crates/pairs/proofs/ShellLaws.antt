@@ -10,7 +10,7 @@ use lib.Seq.{paste, paste-zero, paste-suc, drop-paste, length-take-le, take-all,
 use Rattle.lists.specs.Stretches.{rest-less}
 use Rattle.body.specs.Body.{Row, rowsOf}
 use Rattle.body.specs.Rows.{noRow, rowAt}
-use Rattle.join.specs.Join.{joined, JoinedAt}
+use Rattle.joining.specs.Join.{joined, JoinedAt}
 use Rattle.pairs.specs.Laid.{shellsOf, ShellsRoom, ShellsListed, ShellsJoined}
 
 -- a number for each row

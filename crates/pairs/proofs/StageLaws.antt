@@ -11,7 +11,7 @@ use Rattle.lists.specs.Stretches.{front-less, rest-less, stretch-kept, stretch-
 use Rattle.body.specs.Body.{rowsOf}
 use Rattle.body.specs.Rows.{rowAt}
 use Rattle.join.specs.declared.vertices.Rule.the-variants.{Key}
-use Rattle.join.specs.Join.{joined}
+use Rattle.joining.specs.Join.{joined}
 use Rattle.join.specs.Rules.{ruleOf, Fit, JoinedPoints}
 use Rattle.edges.specs.Named.{useRun, useRow, rowUses, rowNumbers, BodyReady, RowsRoom}
 use Rattle.edges.specs.FirstUsers.{UsersReady, FirstUsers, usesIn}

@@ -9,7 +9,7 @@ use lib.ListN.{length, take, drop}
 use lib.Ieee.{Float}
 use Rattle.points.specs.Rule.{names}
 use Rattle.points.specs.Points.{key}
-use Rattle.join.specs.Join.{joined}
+use Rattle.joining.specs.Join.{joined}
 use Rattle.body.specs.Body.{Row, rowsOf, patchesOf}
 use Rattle.body.specs.Rows.{WholeRows}
 use Rattle.edges.specs.Edges.{Use, usesFrom}

@@ -12,8 +12,8 @@ use lib.Dec.{eqb}
 use borrow.Author.Tests.{eq-eqb, ne-eqb, lt-ltb, le-ltb}
 use Rattle.lists.specs.Lists.{itemAt}
 use Rattle.lists.specs.Any.{item-at}
-use Rattle.join.specs.Join.{joined, firstIndex}
-use Rattle.join.specs.Representatives.{rep-below, rep-name, joined-at}
+use Rattle.joining.specs.Join.{joined, firstIndex}
+use Rattle.joining.specs.Representatives.{rep-below, rep-name, joined-at}
 use Rattle.edges.specs.Edges.{Use, skipped, firstUser}
 use Rattle.edges.specs.Named.{runOf, useRun, useRow}
 use Rattle.edges.specs.NameLaws.{SameEnds, ends-same, run-equal, run-apart}

@@ -12,8 +12,8 @@ use lib.ListN.{length, getD, drop}
 use lib.Seq.{drop-cons}
 use lib.Dec.{eqb}
 use Rattle.lists.specs.Lists.{any, countIf}
-use Rattle.join.specs.Join.{joined, firstIndex}
-use Rattle.join.specs.Representatives.{rep-low, rep-name, same-name-rep}
+use Rattle.joining.specs.Join.{joined, firstIndex}
+use Rattle.joining.specs.Representatives.{rep-low, rep-name, same-name-rep}
 use Rattle.edges.specs.Edges.{Use, skipped, sameEdge, usesOf, firstUses}
 use Rattle.edges.specs.Named.{useName}
 use Rattle.edges.specs.NameLaws.{run-equal, run-apart}

@@ -6,7 +6,7 @@ use Prim.Native.Nat.{ℕ, _+_, _*_, _<_, _≤_}
 use lib.ListN.{length, getD}
 use lib.Dec.{eqb, ltb}
 use Rattle.lists.specs.Lists.{countIf}
-use Rattle.join.specs.Join.{joined, firstIndex}
+use Rattle.joining.specs.Join.{joined, firstIndex}
 use Rattle.edges.specs.Edges.{Use, usesOf, firstUses}
 use Rattle.edges.specs.Named.{useName, useRun}
 use Rattle.edges.specs.UseLaws.{noUse, Apart}

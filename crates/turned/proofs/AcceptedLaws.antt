@@ -11,7 +11,7 @@ use Rattle.body.specs.Patches.{shapes}
 use Rattle.lists.specs.Lists.{countIf}
 use Rattle.points.specs.Rule.{names}
 use Rattle.points.specs.Points.{key}
-use Rattle.join.specs.Join.{joined}
+use Rattle.joining.specs.Join.{joined}
 use Rattle.body.specs.Body.{rowsOf, patchesOf, allVertices, workNeeded, cleared}
 use Rattle.checks.specs.Cleared.{words-are, cleared-is}
 use Rattle.body.specs.Rows.{Total}

@@ -23,7 +23,7 @@ use Rattle.refusals.specs.BodyChecks.{bodyChecks}
 use Rattle.orientation.specs.Inversion.{patchAt}
 use Rattle.orientation.specs.Orient.{AfterTurn, refuseTurn, turnOf, turnBody, walksOf}
 use Rattle.points.specs.Rule.{Rule, names}
-use Rattle.join.specs.Join.{joined}
+use Rattle.joining.specs.Join.{joined}
 use Rattle.volume.specs.Exact.{wholeOf, wholeAt, largest, largestOf}
 use Rattle.rounding.specs.Tri.{Coord}
 use Rattle.volume.specs.Det.{coord, whole-size, size-under, Corner}

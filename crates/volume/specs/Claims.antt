@@ -8,7 +8,7 @@ use Rattle.lists.specs.Lists.{all}
 use Rattle.lists.specs.Table.{Case, case, agrees}
 use Rattle.floats.specs.Floats.{bits64}
 use Rattle.points.specs.Rule.{names}
-use Rattle.join.specs.Join.{joined}
+use Rattle.joining.specs.Join.{joined}
 use Rattle.points.specs.Points.{key}
 use Rattle.body.specs.Body.{Patch, rowsOf, patchesOf}
 use Rattle.body.specs.Given.{Given, at, row, triangle, givenTable, givenPositions, givenIndices, K6-reversed}

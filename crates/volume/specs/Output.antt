@@ -10,7 +10,7 @@ use lib.Seq.{take-at, drop-at, length-take-le}
 use lib.Ieee.{Float, neg}
 use Rattle.lists.specs.Lists.{sumOf}
 use Rattle.points.specs.Rule.{Rule, names}
-use Rattle.join.specs.Join.{joined}
+use Rattle.joining.specs.Join.{joined}
 use Rattle.body.specs.Body.{Row, Patch, rowsOf, patchesOf, allVertices, allIndices, firstFailing}
 use Rattle.refusals.specs.BodyChecks.{bodyChecks}
 use Rattle.checks.specs.Accepted.{Clean}

@@ -9,7 +9,7 @@ use lib.Dec.{T}
 use lib.Ieee.{Float, fin}
 use Rattle.lists.specs.Lists.{all}
 use Rattle.points.specs.Rule.{Rule, names}
-use Rattle.join.specs.Join.{joined}
+use Rattle.joining.specs.Join.{joined}
 use Rattle.points.specs.Points.{key}
 use Rattle.body.specs.Body.{rowsOf, patchesOf}
 use Rattle.orientation.specs.Orient.{walksOf, turnOf}

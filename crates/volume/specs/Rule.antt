@@ -13,7 +13,7 @@ use borrow.Author.Tests.{eqb-true, not-false}
 use Rattle.lists.specs.Lists.{any, all}
 use Rattle.lists.specs.Any.{any-none}
 use Rattle.points.specs.Rule.{names}
-use Rattle.join.specs.Join.{joined}
+use Rattle.joining.specs.Join.{joined}
 use Rattle.body.specs.Body.{Patch, trianglesOf, rowsOf, patchesOf}
 use Rattle.refusals.specs.PatchChecks.{badIndices}
 use Rattle.patch_checks.specs.PatchTests.{partTriangle, notFinite}

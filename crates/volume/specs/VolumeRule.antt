@@ -17,7 +17,7 @@ use lib.ListN.{length}
 use lib.Ieee.{Float}
 use Rattle.lists.specs.Lists.{all}
 use Rattle.points.specs.Rule.{Rule, names}
-use Rattle.join.specs.Join.{joined}
+use Rattle.joining.specs.Join.{joined}
 use Rattle.body.specs.Body.{Patch, rowsOf, patchesOf}
 use Rattle.orientation.specs.Groups.{Group}
 use Rattle.orientation.specs.Orient.{walksOf, turnOf}

@@ -1,6 +1,6 @@
 -- `join::words::join_words` meets its contract. Assumes nothing.
 use Rattle.join.proofs.Rules.{words-ready}
-use Rattle.join.specs.Naming.{namesOf}
+use Rattle.name_table.specs.Naming.{namesOf}
 use borrow.Author.Needs.{needs}
 use Rattle.join.proofs.words.join_words.Statement.{statement}
 use Rattle.join.proofs.words.join_words.Tie as tie

@@ -1,10 +1,10 @@
--- `join::table::join_table` meets its contract. Assumes nothing.
-use Rattle.join.proofs.Chains.{Progress, progress-none, progress-turn, progress-more, progress-all}
-use Rattle.join.specs.Naming.{namesOf}
+-- `name_table::join_table` meets its contract. Assumes nothing.
+use Rattle.name_table.proofs.Chains.{Progress, progress-none, progress-turn, progress-more, progress-all}
+use Rattle.name_table.specs.Naming.{namesOf}
 use Prim.Native.Nat.{_-_}
 use borrow.Author.Needs.{needs}
-use Rattle.join.proofs.table.join_table.Statement.{statement}
-use Rattle.join.proofs.table.join_table.Tie as tie
+use Rattle.name_table.proofs.join_table.Statement.{statement}
+use Rattle.name_table.proofs.join_table.Tie as tie
 
 abbrev Inv-loop : tie.InvT-loop
 Inv-loop source positions w₀ n i₀ w i = Progress (namesOf source positions) n w₀ i w

@@ -1,10 +1,10 @@
--- `join::table::join_one` meets its contract. Assumes nothing.
-use Rattle.join.proofs.Chains.{walk-start, step-new, step-found}
+-- `name_table::join_one` meets its contract. Assumes nothing.
+use Rattle.name_table.proofs.Chains.{walk-start, step-new, step-found}
 use lib.ListN.{length-set}
 use native.Mathlib.Omega.{arith}
 use borrow.Author.Needs.{needs}
-use Rattle.join.proofs.table.join_one.Statement.{statement}
-use Rattle.join.proofs.table.join_one.Tie as tie
+use Rattle.name_table.proofs.join_one.Statement.{statement}
+use Rattle.name_table.proofs.join_one.Tie as tie
 
 mul-at : tie.Need-mul-at
 mul-at c = search needs

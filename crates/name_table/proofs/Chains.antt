@@ -13,9 +13,9 @@ use lib.Seq.{getD-take, getD-drop, getD-append-add, length-take-le, take-take, g
 use borrow.Author.Count.{below-more}
 use borrow.Author.Tests.{eqb-true, eqb-false}
 use borrow.Rule.Slice.PartMut.{midOf, putMid, take-put, drop-put, mid-len}
-use Rattle.join.specs.Join.{joined, firstIndex, First, IsFirst, Joined}
-use Rattle.join.specs.Representatives.{first-is, joined-length, joined-at}
-use Rattle.join.specs.Table.{bucketOf, Bucket, Named, Latest, Table, Walk, Compared, Search, Hit, Turn, Step, Begun, Ready}
+use Rattle.joining.specs.Join.{joined, firstIndex, First, IsFirst, Joined}
+use Rattle.joining.specs.Representatives.{first-is, joined-length, joined-at}
+use Rattle.name_table.specs.Table.{bucketOf, Bucket, Named, Latest, Table, Walk, Compared, Search, Hit, Turn, Step, Begun, Ready}
 
 -- ---- `find`, at the link p
 module _ {ns W : List ℕ} {n i q : ℕ} (s : Search ns n i W q) where

@@ -4,8 +4,8 @@ use Prim.Native.Nat.{ℕ}
 use lib.Ieee.{Float}
 use Rattle.points.specs.Rule.{names}
 use Rattle.points.specs.Points.{bits}
-use Rattle.join.specs.declared.table.Source.{Source}
-use Rattle.join.specs.declared.table.Source.the-variants.{Words, Bits}
+use Rattle.name_table.specs.declared.Source.{Source}
+use Rattle.name_table.specs.declared.Source.the-variants.{Words, Bits}
 
 -- the names of the items, from the positions or from the words of the table
 unfoldable pub namesOf : Source → List Float → List ℕ → List ℕ

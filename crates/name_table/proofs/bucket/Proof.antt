@@ -1,9 +1,9 @@
--- `join::table::bucket` meets its contract. Assumes nothing.
-use Rattle.join.proofs.Naming.{share-fits, bucket-is}
+-- `name_table::bucket` meets its contract. Assumes nothing.
+use Rattle.name_table.proofs.Naming.{share-fits, bucket-is}
 use native.Mathlib.Omega.{arith}
 use borrow.Author.Needs.{needs}
-use Rattle.join.proofs.table.bucket.Statement.{statement}
-use Rattle.join.proofs.table.bucket.Tie as tie
+use Rattle.name_table.proofs.bucket.Statement.{statement}
+use Rattle.name_table.proofs.bucket.Tie as tie
 
 wrapping-mul-requires : tie.Need-wrapping-mul-requires
 wrapping-mul-requires c κs = search needs

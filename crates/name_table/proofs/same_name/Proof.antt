@@ -1,8 +1,8 @@
--- `join::table::same_name` meets its contract. Assumes nothing.
-use Rattle.join.proofs.Naming.{digests-differ, bits-both, words-decide, bits-decide}
+-- `name_table::same_name` meets its contract. Assumes nothing.
+use Rattle.name_table.proofs.Naming.{digests-differ, bits-both, words-decide, bits-decide}
 use borrow.Author.Needs.{needs}
-use Rattle.join.proofs.table.same_name.Statement.{statement}
-use Rattle.join.proofs.table.same_name.Tie as tie
+use Rattle.name_table.proofs.same_name.Statement.{statement}
+use Rattle.name_table.proofs.same_name.Tie as tie
 
 mul-if1 : tie.Need-mul-if1
 mul-if1 c = search needs

@@ -1,8 +1,8 @@
--- `join::table::start` meets its contract. Assumes nothing.
-use Rattle.join.proofs.Chains.{begun}
+-- `name_table::start` meets its contract. Assumes nothing.
+use Rattle.name_table.proofs.Chains.{begun}
 use borrow.Author.Needs.{needs}
-use Rattle.join.proofs.table.start.Statement.{statement}
-use Rattle.join.proofs.table.start.Tie as tie
+use Rattle.name_table.proofs.start.Statement.{statement}
+use Rattle.name_table.proofs.start.Tie as tie
 
 mul-a : tie.Need-mul-a
 mul-a c = search needs

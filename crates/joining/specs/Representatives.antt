@@ -9,7 +9,7 @@ use native.Mathlib.Decide.{ℕ-discrete, decLt}
 use lib.ListN.{length, getD, length-map, List·getD-eq-default}
 use lib.Seq.{ext-getD}
 use borrow.Author.Tests.{eq-eqb, ne-eqb}
-use Rattle.join.specs.Join.{indexOf, joined, firstIndex, IsFirst}
+use Rattle.joining.specs.Join.{indexOf, joined, firstIndex, IsFirst}
 
 -- ---- where a name stands first
 

@@ -1,11 +1,11 @@
--- `join::table::find` meets its contract. Assumes nothing.
-use Rattle.join.proofs.Chains.{walk-compares, walk-less, walk-more, walk-hit, walk-miss}
-use Rattle.join.specs.Table.{Walk}
-use Rattle.join.specs.Naming.{namesOf}
+-- `name_table::find` meets its contract. Assumes nothing.
+use Rattle.name_table.proofs.Chains.{walk-compares, walk-less, walk-more, walk-hit, walk-miss}
+use Rattle.name_table.specs.Table.{Walk}
+use Rattle.name_table.specs.Naming.{namesOf}
 use lib.ListN.{take}
 use borrow.Author.Needs.{needs}
-use Rattle.join.proofs.table.find.Statement.{statement}
-use Rattle.join.proofs.table.find.Tie as tie
+use Rattle.name_table.proofs.find.Statement.{statement}
+use Rattle.name_table.proofs.find.Tie as tie
 
 abbrev Inv-loop : tie.InvT-loop
 Inv-loop source positions w n i start p₀ p = Walk (namesOf source positions (take n w)) (take n w) n i p

@@ -18,10 +18,10 @@ use Rattle.points.specs.Points.{bits}
 use Rattle.points.specs.Rule.{names, Both}
 use Rattle.points.specs.Names.{names-within}
 use Rattle.points.specs.Halves.{halves-below}
-use Rattle.join.specs.declared.table.Source.{Source}
-use Rattle.join.specs.declared.table.Source.the-variants.{Words, Bits}
-use Rattle.join.specs.Naming.{namesOf}
-use Rattle.join.specs.Table.{bucketOf, Sized, Bucket, Compared}
+use Rattle.name_table.specs.declared.Source.{Source}
+use Rattle.name_table.specs.declared.Source.the-variants.{Words, Bits}
+use Rattle.name_table.specs.Naming.{namesOf}
+use Rattle.name_table.specs.Table.{bucketOf, Sized, Bucket, Compared}
 
 -- ---- `bucket`
 pub share-fits : {h n : ℕ} → Sized n → h < 2 ^ 32 → Fits w64 (h * n)

@@ -5,7 +5,7 @@ use mathlib.Core.List.{List}
 use Prim.Native.Nat.{ℕ, _+_, _-_, _*_, _/_, _%_, _^_, _<_, _≤_}
 use lib.Bits.{bitXor}
 use lib.ListN.{length, getD, take, drop}
-use Rattle.join.specs.Join.{First, IsFirst}
+use Rattle.joining.specs.Join.{First, IsFirst}
 
 -- which of n chains the items with digest d are in
 unfoldable pub bucketOf : ℕ → ℕ → ℕ
