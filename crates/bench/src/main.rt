@@ -1,14 +1,14 @@
 // Reads a bench sheet from standard input and prints the finished mesh and its counts, or only the refusal.
 
-use feeding::Fed;
-use feeding::end_text;
-use finisher::answer_sheet;
-use input::read_all;
+use bench_feed::Fed;
+use bench_feed::end_text;
+use bench_finish::answer_sheet;
+use bench_input::read_all;
 use libc::STDOUT_FILENO;
 use sheet_ends::begin;
 ghost use Prim.Native.Nat.{_≤_};
 ghost use lib.ListN.{length};
-ghost use Rattle.feeding.specs.Feeding.{Answered};
+ghost use Rattle.bench_feed.specs.Feeding.{Answered};
 
 // Finishes the sheet on standard input; answers how many bytes of `out` are what the program prints of it.
 fn finish_input(out: &mut [u8]) -> usize

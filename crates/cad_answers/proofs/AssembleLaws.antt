@@ -2,9 +2,9 @@
 use mathlib.Core.Path.{_≡_, sym, ap, _∙_}
 use mathlib.Core.Bool.{cond}
 use Prim.Native.Nat.{ℕ}
-use Rattle.assembled.specs.declared.MeshCounts.{MeshCounts}
-use Rattle.assembled.specs.declared.Assembled.{Assembled}
-use Rattle.assembled.specs.declared.Assembled.the-variants.{Done}
+use Rattle.mesh_definition.specs.declared.MeshCounts.{MeshCounts}
+use Rattle.mesh_definition.specs.declared.Assembled.{Assembled}
+use Rattle.mesh_definition.specs.declared.Assembled.the-variants.{Done}
 use Rattle.cad_answers.specs.Assembling.{cadAssembled}
 
 -- the struct of a call that is done

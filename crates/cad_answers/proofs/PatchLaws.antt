@@ -1,9 +1,9 @@
 -- Laws of the struct of a verdict. Assumes nothing.
 use mathlib.Core.Path.{_≡_, sym, ap, _∙_}
 use mathlib.Core.Bool.{Bool}
-use Rattle.alone.specs.declared.alone.Judged.{Judged}
-use Rattle.alone.specs.declared.alone.Judged.the-variants.{Verdict}
-use Rattle.alone.specs.Answers.{judgedAs}
+use Rattle.patch_alone.specs.declared.alone.Judged.{Judged}
+use Rattle.patch_alone.specs.declared.alone.Judged.the-variants.{Verdict}
+use Rattle.patch_alone.specs.Answers.{judgedAs}
 use Rattle.cad_answers.specs.declared.patch.CadJudged.{CadJudged}
 use Rattle.cad_answers.specs.Answers.{cadJudged}
 

@@ -1,8 +1,8 @@
 -- The definitions' answers as the C structs. Assumes nothing.
 use mathlib.Core.Bool.{Bool, cond}
 use lib.Ieee.{Float}
-use Rattle.geometry.specs.declared.Aabb.{Aabb}
-use Rattle.alone.specs.Alone.{Alone}
+use Rattle.patch_geometry.specs.declared.Aabb.{Aabb}
+use Rattle.patch_alone.specs.Alone.{Alone}
 use Rattle.cad_answers.specs.declared.patch.CadMeasured.{CadMeasured}
 use Rattle.cad_answers.specs.declared.patch.CadJudged.{CadJudged}
 

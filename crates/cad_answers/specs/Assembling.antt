@@ -1,10 +1,10 @@
 -- What cad_assemble answers and leaves. Assumes nothing.
 use mathlib.Core.Bool.{not, cond}
 use lib.Dec.{eqb}
-use Rattle.assembled.specs.declared.Assembled.{Assembled}
-use Rattle.assembled.specs.declared.Assembled.the-variants.{Done, Refused}
-use Rattle.room.specs.Slices.{MeshSlices}
-use Rattle.assembled.specs.Assemble.{AfterAssemble}
+use Rattle.mesh_definition.specs.declared.Assembled.{Assembled}
+use Rattle.mesh_definition.specs.declared.Assembled.the-variants.{Done, Refused}
+use Rattle.mesh_room.specs.Slices.{MeshSlices}
+use Rattle.mesh_definition.specs.Assemble.{AfterAssemble}
 use Rattle.cad_answers.specs.declared.assembling.CadAssembled.{CadAssembled}
 
 -- 01's number and values for each answer

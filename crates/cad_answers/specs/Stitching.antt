@@ -1,7 +1,7 @@
 -- What cad_stitch answers and leaves. Assumes nothing.
-use Rattle.stitched.specs.declared.Stitched.{Stitched}
-use Rattle.stitched.specs.declared.Stitched.the-variants.{Done, Refused}
-use Rattle.stitched.specs.Slices.{StitchSlices, AfterStitch}
+use Rattle.stitch_definition.specs.declared.Stitched.{Stitched}
+use Rattle.stitch_definition.specs.declared.Stitched.the-variants.{Done, Refused}
+use Rattle.stitch_definition.specs.Slices.{StitchSlices, AfterStitch}
 use Rattle.cad_answers.specs.declared.stitching.CadStitched.{CadStitched}
 
 -- 01's number and values for each answer

@@ -2,9 +2,9 @@
 use mathlib.Core.List.{List}
 use Prim.Native.Nat.{ℕ}
 use lib.Ieee.{Float}
-use Rattle.orientation.specs.declared.Turned.{Turned}
-use Rattle.orientation.specs.declared.Turned.the-variants.{Done, Refused}
-use Rattle.orientation.specs.Orient.{AfterTurn}
+use Rattle.turn_definition.specs.declared.Turned.{Turned}
+use Rattle.turn_definition.specs.declared.Turned.the-variants.{Done, Refused}
+use Rattle.turn_definition.specs.Orient.{AfterTurn}
 use Rattle.cad_answers.specs.declared.turning.CadTurned.{CadTurned}
 
 -- 01's number and values for each answer

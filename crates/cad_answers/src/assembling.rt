@@ -1,6 +1,6 @@
 // assemble's answer as its struct.
 
-use assembled::Assembled;
+use mesh_definition::Assembled;
 ghost use mathlib.Core.Path.{_≡_};
 ghost use mathlib.Core.Bool.{cond};
 ghost use Rattle.cad_answers.specs.Assembling.{cadAssembled};

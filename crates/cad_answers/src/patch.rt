@@ -1,11 +1,11 @@
 // The answers about a patch alone as their structs, and the box of six numbers, minimum first.
 
-use alone::Judged;
-use alone::Measured;
-use geometry::Aabb;
-use geometry::Vec3;
+use patch_alone::Judged;
+use patch_alone::Measured;
+use patch_geometry::Aabb;
+use patch_geometry::Vec3;
 ghost use mathlib.Core.Path.{_≡_};
-ghost use Rattle.alone.specs.Answers.{measuredAs, judgedAs};
+ghost use Rattle.patch_alone.specs.Answers.{measuredAs, judgedAs};
 ghost use Rattle.cad_answers.specs.Answers.{boxOf, cadMeasured, cadJudged};
 
 // A number: 0 for the refusal, or the refusal's number and 0.

@@ -1,6 +1,6 @@
 // stitch's answer as its struct.
 
-use stitched::Stitched;
+use stitch_definition::Stitched;
 ghost use mathlib.Core.Path.{_≡_};
 ghost use Rattle.cad_answers.specs.Stitching.{cadStitched};
 

@@ -1,6 +1,6 @@
 // turn's answer as its struct.
 
-use orientation::Turned;
+use turn_definition::Turned;
 ghost use mathlib.Core.Path.{_≡_};
 ghost use Rattle.cad_answers.specs.Turning.{cadTurned};
 

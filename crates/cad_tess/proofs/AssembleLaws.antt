@@ -6,15 +6,15 @@ use Prim.Native.Nat.{ℕ}
 use lib.Dec.{eqb}
 use lib.ListN.{length}
 use lib.Ieee.{Float}
-use Rattle.body.specs.Body.{Row, rowsOf, patchesOf, firstFailing}
-use Rattle.refusals.specs.BodyChecks.{bodyChecks}
-use Rattle.geometry.specs.declared.Aabb.{Aabb}
-use Rattle.acceptance.specs.Acceptance.{Acceptance, acceptance}
-use Rattle.assembled.specs.declared.Assembled.{Assembled}
-use Rattle.assembled.specs.declared.Assembled.the-variants.{Done, Refused}
-use Rattle.room.specs.Slices.{MeshSlices, meshChecks}
-use Rattle.assembled.specs.Assemble.{AfterAssemble, writeMesh, refuseMesh, clearedMesh, assembleOrRefuse, assembleOf}
-use Rattle.assembled.specs.Assembled.{LeftMesh, leftMesh, countsAnswered, assembleAnswered}
+use Rattle.body_rows.specs.Body.{Row, rowsOf, patchesOf, firstFailing}
+use Rattle.body_refusals.specs.BodyChecks.{bodyChecks}
+use Rattle.patch_geometry.specs.declared.Aabb.{Aabb}
+use Rattle.mesh_acceptance.specs.Acceptance.{Acceptance, acceptance}
+use Rattle.mesh_definition.specs.declared.Assembled.{Assembled}
+use Rattle.mesh_definition.specs.declared.Assembled.the-variants.{Done, Refused}
+use Rattle.mesh_room.specs.Slices.{MeshSlices, meshChecks}
+use Rattle.mesh_definition.specs.Assemble.{AfterAssemble, writeMesh, refuseMesh, clearedMesh, assembleOrRefuse, assembleOf}
+use Rattle.mesh_definition.specs.Assembled.{LeftMesh, leftMesh, countsAnswered, assembleAnswered}
 use Rattle.cad_answers.specs.declared.assembling.CadAssembled.{CadAssembled}
 use Rattle.cad_answers.specs.Assembling.{cadAssembled, leftAfterAssemble}
 use Rattle.cad_tess.proofs.Told.{either}

@@ -7,18 +7,18 @@ use native.Mathlib.Omega.{arith}
 use lib.Dec.{eqb}
 use lib.Ieee.{Float}
 use borrow.Author.Tests.{ne-eqb}
-use Rattle.body.specs.Body.{firstFailing}
-use Rattle.refusals.specs.BodyChecks.{loneChecks}
-use Rattle.geometry.specs.declared.Aabb.{Aabb}
-use Rattle.alone.specs.declared.alone.Measured.{Measured}
-use Rattle.alone.specs.declared.alone.Judged.{Judged}
-use Rattle.alone.specs.declared.alone.Measured.the-variants as Measure
-use Rattle.alone.specs.declared.alone.Judged.the-variants as Judge
-use Rattle.geometry.specs.Geometry.{zero64}
-use Rattle.alone.specs.Alone.{Alone, alone, volumeAlone, farthestAlone, escapesAlone}
-use Rattle.measures.specs.Volume.{patchVolume}
-use Rattle.measures.specs.Reach.{farthest, escapesBody}
-use Rattle.alone.specs.Answers.{answerOr, measuredOf, judgedOf, measuredAs, judgedAs}
+use Rattle.body_rows.specs.Body.{firstFailing}
+use Rattle.body_refusals.specs.BodyChecks.{loneChecks}
+use Rattle.patch_geometry.specs.declared.Aabb.{Aabb}
+use Rattle.patch_alone.specs.declared.alone.Measured.{Measured}
+use Rattle.patch_alone.specs.declared.alone.Judged.{Judged}
+use Rattle.patch_alone.specs.declared.alone.Measured.the-variants as Measure
+use Rattle.patch_alone.specs.declared.alone.Judged.the-variants as Judge
+use Rattle.patch_geometry.specs.Geometry.{zero64}
+use Rattle.patch_alone.specs.Alone.{Alone, alone, volumeAlone, farthestAlone, escapesAlone}
+use Rattle.patch_measures.specs.Volume.{patchVolume}
+use Rattle.patch_measures.specs.Reach.{farthest, escapesBody}
+use Rattle.patch_alone.specs.Answers.{answerOr, measuredOf, judgedOf, measuredAs, judgedAs}
 use Rattle.cad_answers.specs.declared.patch.CadMeasured.{CadMeasured}
 use Rattle.cad_answers.specs.declared.patch.CadJudged.{CadJudged}
 use Rattle.cad_answers.specs.Answers.{cadMeasured, cadJudged}

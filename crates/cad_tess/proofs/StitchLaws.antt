@@ -6,15 +6,15 @@ use Prim.Native.Nat.{ℕ}
 use lib.Dec.{eqb}
 use lib.ListN.{length}
 use lib.Ieee.{Float}
-use Rattle.points.specs.Rule.{Rule, names}
-use Rattle.body.specs.Body.{rowsOf, patchesOf, firstFailing}
-use Rattle.refusals.specs.BodyChecks.{bodyChecks}
-use Rattle.stitched.specs.declared.Stitched.{Stitched}
-use Rattle.stitched.specs.declared.Stitched.the-variants.{Done, Refused}
-use Rattle.stitched.specs.Slices.{StitchSlices, AfterStitch, stitchChecks, writeBody, refuseStitch, clearedSlices, stitchOrRefuse}
-use Rattle.stitched.specs.StitchedBody.{StitchedBody}
-use Rattle.stitched.specs.Stitch.{stitchBody, stitchOf}
-use Rattle.stitched.specs.Answers.{LeftStitch, leftStitch, stitchAnswered}
+use Rattle.point_rules.specs.Rule.{Rule, names}
+use Rattle.body_rows.specs.Body.{rowsOf, patchesOf, firstFailing}
+use Rattle.body_refusals.specs.BodyChecks.{bodyChecks}
+use Rattle.stitch_definition.specs.declared.Stitched.{Stitched}
+use Rattle.stitch_definition.specs.declared.Stitched.the-variants.{Done, Refused}
+use Rattle.stitch_definition.specs.Slices.{StitchSlices, AfterStitch, stitchChecks, writeBody, refuseStitch, clearedSlices, stitchOrRefuse}
+use Rattle.stitch_definition.specs.StitchedBody.{StitchedBody}
+use Rattle.stitch_definition.specs.Stitch.{stitchBody, stitchOf}
+use Rattle.stitch_definition.specs.Answers.{LeftStitch, leftStitch, stitchAnswered}
 use Rattle.cad_answers.specs.declared.stitching.CadStitched.{CadStitched}
 use Rattle.cad_answers.specs.Stitching.{cadStitched, leftAfterStitch}
 use Rattle.cad_tess.proofs.Told.{either}

@@ -6,14 +6,14 @@ use Prim.Native.Nat.{ℕ}
 use lib.Dec.{eqb}
 use lib.ListN.{length}
 use lib.Ieee.{Float}
-use Rattle.points.specs.Rule.{Rule, names}
-use Rattle.joining.specs.Join.{joined}
-use Rattle.body.specs.Body.{rowsOf, patchesOf, firstFailing}
-use Rattle.refusals.specs.BodyChecks.{bodyChecks}
-use Rattle.orientation.specs.declared.Turned.{Turned}
-use Rattle.orientation.specs.declared.Turned.the-variants.{Done, Refused}
-use Rattle.orientation.specs.Orient.{AfterTurn, walksOf, turnBody, refuseTurn, turnOf}
-use Rattle.orientation.specs.Answers.{Left, left, answered}
+use Rattle.point_rules.specs.Rule.{Rule, names}
+use Rattle.join_definition.specs.Join.{joined}
+use Rattle.body_rows.specs.Body.{rowsOf, patchesOf, firstFailing}
+use Rattle.body_refusals.specs.BodyChecks.{bodyChecks}
+use Rattle.turn_definition.specs.declared.Turned.{Turned}
+use Rattle.turn_definition.specs.declared.Turned.the-variants.{Done, Refused}
+use Rattle.turn_definition.specs.Orient.{AfterTurn, walksOf, turnBody, refuseTurn, turnOf}
+use Rattle.turn_definition.specs.Answers.{Left, left, answered}
 use Rattle.cad_answers.specs.declared.turning.CadTurned.{CadTurned}
 use Rattle.cad_answers.specs.Turning.{cadTurned, leftAfterTurn}
 use Rattle.cad_tess.proofs.Told.{either}

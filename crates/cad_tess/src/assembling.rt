@@ -4,8 +4,8 @@ use cad_answers::CadAssembled;
 use cad_answers::assembled_answer;
 use cad_answers::box_of;
 ghost use mathlib.Core.Path.{_≡_};
-ghost use Rattle.assembled.specs.Assemble.{assembleOf};
-ghost use Rattle.assembled.specs.Assembled.{slicesOf};
+ghost use Rattle.mesh_definition.specs.Assemble.{assembleOf};
+ghost use Rattle.mesh_definition.specs.Assembled.{slicesOf};
 ghost use Rattle.cad_answers.specs.Answers.{boxOf};
 ghost use Rattle.cad_answers.specs.Assembling.{leftAfterAssemble};
 
@@ -38,7 +38,7 @@ pub extern "C" fn cad_assemble(
         (slicesOf (now («mesh_positions» .entry)) (now («mesh_normals» .entry)) (now («mesh_indices» .entry)) (now (parts .entry)) (now (ranges .entry)) (now (failures .entry)) (now (work .entry))) ⌝ }
 {
     let reference = box_of(x0, y0, z0, x1, y1, z1);
-    assembled_answer(assemble::assemble(
+    assembled_answer(mesh_assemble::assemble(
         rows,
         positions,
         normals,

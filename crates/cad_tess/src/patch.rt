@@ -6,7 +6,7 @@ use cad_answers::box_of;
 use cad_answers::judged_answer;
 use cad_answers::measured_answer;
 ghost use mathlib.Core.Path.{_≡_};
-ghost use Rattle.alone.specs.Alone.{volumeAlone, farthestAlone, escapesAlone};
+ghost use Rattle.patch_alone.specs.Alone.{volumeAlone, farthestAlone, escapesAlone};
 ghost use Rattle.cad_answers.specs.Answers.{boxOf, cadMeasured, cadJudged};
 
 // The volume of a patch, reversed where flip says so.
@@ -19,7 +19,7 @@ pub extern "C" fn cad_patch_volume(
 ) -> CadMeasured
     ensures { λ r. ⌜ r ≡ cadMeasured (volumeAlone (now (positions .entry)) (now (normals .entry)) (now (indices .entry)) flip) ⌝ }
 {
-    measured_answer(alone::patch_volume_alone(positions, normals, indices, flip))
+    measured_answer(patch_alone::patch_volume_alone(positions, normals, indices, flip))
 }
 
 // How far a patch's farthest vertex is from the box's centre.
@@ -38,7 +38,7 @@ pub extern "C" fn cad_farthest(
     ensures { λ r. ⌜ r ≡ cadMeasured (farthestAlone (now (positions .entry)) (now (normals .entry)) (now (indices .entry)) (boxOf x0 y0 z0 x1 y1 z1)) ⌝ }
 {
     let reference = box_of(x0, y0, z0, x1, y1, z1);
-    measured_answer(alone::farthest_alone(positions, normals, indices, reference))
+    measured_answer(patch_alone::farthest_alone(positions, normals, indices, reference))
 }
 
 // Whether a patch reaches beyond the box's diagonal.
@@ -57,5 +57,5 @@ pub extern "C" fn cad_escapes_body(
     ensures { λ r. ⌜ r ≡ cadJudged (escapesAlone (now (positions .entry)) (now (normals .entry)) (now (indices .entry)) (boxOf x0 y0 z0 x1 y1 z1)) ⌝ }
 {
     let reference = box_of(x0, y0, z0, x1, y1, z1);
-    judged_answer(alone::escapes_alone(positions, normals, indices, reference))
+    judged_answer(patch_alone::escapes_alone(positions, normals, indices, reference))
 }

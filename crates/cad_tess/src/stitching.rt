@@ -3,9 +3,9 @@
 use cad_answers::CadStitched;
 use cad_answers::stitched_answer;
 ghost use mathlib.Core.Path.{_≡_};
-ghost use Rattle.points.specs.Points as Points;
-ghost use Rattle.stitched.specs.Stitch.{stitchOf};
-ghost use Rattle.stitched.specs.Answers.{slicesOf};
+ghost use Rattle.point_rules.specs.Points as Points;
+ghost use Rattle.stitch_definition.specs.Stitch.{stitchOf};
+ghost use Rattle.stitch_definition.specs.Answers.{slicesOf};
 ghost use Rattle.cad_answers.specs.Stitching.{leftAfterStitch};
 
 // The stitched body goes to the second slices; the work area needs 16 words an index and a row and 4 a vertex, which come back zero.

@@ -3,8 +3,8 @@
 use cad_answers::CadTurned;
 use cad_answers::turned_answer;
 ghost use mathlib.Core.Path.{_≡_};
-ghost use Rattle.points.specs.Points as Points;
-ghost use Rattle.orientation.specs.Orient.{turnOf};
+ghost use Rattle.point_rules.specs.Points as Points;
+ghost use Rattle.turn_definition.specs.Orient.{turnOf};
 ghost use Rattle.cad_answers.specs.Turning.{leftAfterTurn};
 
 // The rows of a body are turned to agree where they stand; the work area needs 16 words an index and a row and 4 a vertex, which come back zero.
@@ -19,5 +19,5 @@ pub extern "C" fn cad_turn(
     ensures { λ r. ⌜ leftAfterTurn r (now (normals .exit)) (now (indices .exit)) (now (work .exit))
         ≡ turnOf Points.key (now (rows .entry)) (now (positions .entry)) (now (normals .entry)) (now (indices .entry)) (now (work .entry)) ⌝ }
 {
-    turned_answer(orient::turn(rows, positions, normals, indices, work))
+    turned_answer(turn::turn(rows, positions, normals, indices, work))
 }

@@ -13,6 +13,6 @@ pub extern "C" fn speed_join_words(w: &mut [u64], n: usize) -> u32
     if w.len() / 4 < n {
         return 1;
     }
-    join::words::join_words(w, n);
+    join_points::words::join_words(w, n);
     0
 }

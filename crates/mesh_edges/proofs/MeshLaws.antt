@@ -10,23 +10,23 @@ use lib.Ieee.{Float}
 use Rattle.lists.specs.Lists.{countIf}
 use Rattle.lists.specs.Sets.{take-sets, drop-sets}
 use Rattle.lists.specs.Stretches.{front-at, front-less, rest-less, stretch-at, stretch-kept, stretch-sets}
-use Rattle.points.specs.Rule.{names}
-use Rattle.points.specs.Points.{bits}
-use Rattle.points.specs.Names.{names-length}
-use Rattle.body.specs.Body.{trianglesOf}
-use Rattle.join.specs.declared.vertices.Rule.the-variants.{Bits}
-use Rattle.joining.specs.Join.{joined, RoomAt, JoinedAt}
-use Rattle.joining.specs.Representatives.{joined-at, joined-low}
-use Rattle.join.specs.Rules.{ruleOf, JoinedPoints}
-use Rattle.edges.specs.Edges.{Use, triangleUses}
-use Rattle.edges.specs.Named.{useName, useRun, RowReady, NameReady}
-use Rattle.edges.specs.Counted.{CountReady, Counted}
-use Rattle.edges.specs.RowUses.{uses-agree, uses-count}
-use Rattle.edges.specs.AreaLaws.{count-ready}
-use Rattle.edges.specs.UseLaws.{Apart, low-triangles, getD-map, length-named}
-use Rattle.tally.specs.declared.EdgeCounts.{EdgeCounts}
-use Rattle.counts.specs.Counts.{countsOf}
-use Rattle.tally.specs.Tally.{countsIn, UseWords, CountsOver, Tallied}
+use Rattle.point_rules.specs.Rule.{names}
+use Rattle.point_rules.specs.Points.{bits}
+use Rattle.point_rules.specs.Names.{names-length}
+use Rattle.body_rows.specs.Body.{trianglesOf}
+use Rattle.join_points.specs.declared.vertices.Rule.the-variants.{Bits}
+use Rattle.join_definition.specs.Join.{joined, RoomAt, JoinedAt}
+use Rattle.join_definition.specs.Representatives.{joined-at, joined-low}
+use Rattle.join_points.specs.Rules.{ruleOf, JoinedPoints}
+use Rattle.edge_uses.specs.Edges.{Use, triangleUses}
+use Rattle.edge_uses.specs.Named.{useName, useRun, RowReady, NameReady}
+use Rattle.edge_uses.specs.Counted.{CountReady, Counted}
+use Rattle.edge_uses.specs.RowUses.{uses-agree, uses-count}
+use Rattle.edge_uses.specs.AreaLaws.{count-ready}
+use Rattle.edge_uses.specs.UseLaws.{Apart, low-triangles, getD-map, length-named}
+use Rattle.mesh_tally.specs.declared.EdgeCounts.{EdgeCounts}
+use Rattle.mesh_counts.specs.Counts.{countsOf}
+use Rattle.mesh_tally.specs.Tally.{countsIn, UseWords, CountsOver, Tallied}
 use Rattle.mesh_edges.specs.Mesh.{MeshReady, MeshCounted, meshUses, EdgesNamed, FirstsCounted}
 
 -- ---- names joined and counted

@@ -6,15 +6,15 @@ use lib.ListN.{length, getD, take, drop}
 use lib.Dec.{eqb}
 use lib.Ieee.{Float}
 use Rattle.lists.specs.Lists.{countIf}
-use Rattle.points.specs.Rule.{names}
-use Rattle.points.specs.Points.{bits}
-use Rattle.joining.specs.Join.{joined}
-use Rattle.body.specs.Body.{trianglesOf}
-use Rattle.edges.specs.Edges.{Use, triangleUses}
-use Rattle.edges.specs.Named.{useName}
-use Rattle.tally.specs.declared.EdgeCounts.{EdgeCounts}
-use Rattle.counts.specs.Counts.{countsOf}
-use Rattle.tally.specs.Tally.{countsIn}
+use Rattle.point_rules.specs.Rule.{names}
+use Rattle.point_rules.specs.Points.{bits}
+use Rattle.join_definition.specs.Join.{joined}
+use Rattle.body_rows.specs.Body.{trianglesOf}
+use Rattle.edge_uses.specs.Edges.{Use, triangleUses}
+use Rattle.edge_uses.specs.Named.{useName}
+use Rattle.mesh_tally.specs.declared.EdgeCounts.{EdgeCounts}
+use Rattle.mesh_counts.specs.Counts.{countsOf}
+use Rattle.mesh_tally.specs.Tally.{countsIn}
 
 -- what counting the edges of a mesh of v vertices asks: 01's limits, whole triangles, each index of a vertex, and room
 pub record MeshReady (ps : List Float) (is : List ℕ) (v : ℕ) (W : List ℕ) : Type 0 where

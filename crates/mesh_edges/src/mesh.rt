@@ -1,9 +1,9 @@
 // The edges of a mesh counted in the work area.
 
-use join::vertices::Rule;
-use tally::EdgeCounts;
-use tally::tally;
-ghost use Rattle.joining.specs.Join.{RoomAt};
+use join_points::vertices::Rule;
+use mesh_tally::EdgeCounts;
+use mesh_tally::tally;
+ghost use Rattle.join_definition.specs.Join.{RoomAt};
 ghost use Rattle.mesh_edges.specs.Mesh.{MeshReady, MeshCounted, EdgesNamed, FirstsCounted};
 
 // The v vertices are joined by bits, and behind their table each use of an edge is named.
@@ -12,8 +12,8 @@ fn name_edges(positions: &[f32], indices: &[u32], w: &mut [u64], v: usize)
     ensures { λ _. ⌜ EdgesNamed (now (positions .entry)) (now (indices .entry)) v (now (w .entry)) (now (w .exit)) ⌝ }
 {
     let n = indices.len();
-    join::vertices::join_points(Rule::Bits, positions, w, v);
-    use_words::name_row(indices, w, v, v, 0, n, 4 * v, 0);
+    join_points::vertices::join_points(Rule::Bits, positions, w, v);
+    edge_use_words::name_row(indices, w, v, v, 0, n, 4 * v, 0);
 }
 
 // Behind n names at `at` come their first uses, and then how many have each as their first use.
@@ -21,8 +21,8 @@ fn count_firsts(w: &mut [u64], at: usize, n: usize)
     requires { ⌜ RoomAt at n (now w) ⌝ }
     ensures { λ _. ⌜ FirstsCounted at n (now (w .entry)) (now (w .exit)) ⌝ }
 {
-    join::words::join_words_at(w, at, n);
-    use_counts::count_uses(w, at + n, at + 2 * n, n);
+    join_points::words::join_words_at(w, at, n);
+    edge_use_counts::count_uses(w, at + n, at + 2 * n, n);
 }
 
 // The edges of a mesh of v vertices are counted, points being the same exactly if their bits agree and edges with equal ends being skipped.
@@ -34,6 +34,6 @@ pub fn count_edges(positions: &[f32], indices: &[u32], w: &mut [u64], v: usize) 
     let n = indices.len();
     name_edges(positions, indices, w, v);
     count_firsts(w, 4 * v, n);
-    use_words::run_row(indices, w, v, v, 0, n, 4 * v + 3 * n);
+    edge_use_words::run_row(indices, w, v, v, 0, n, 4 * v + 3 * n);
     tally(w, 4 * v + n, n)
 }

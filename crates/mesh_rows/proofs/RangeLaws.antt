@@ -7,14 +7,14 @@ use lib.ListN.{length, getD, take, drop, length-append, length-drop, drop-of-len
 use lib.Seq.{length-take-le, drop-cons}
 use Rattle.lists.specs.Lists.{written}
 use Rattle.lists.specs.Stretches.{stretch-at}
-use Rattle.body.specs.Body.{Row, rowsOf}
-use Rattle.body.specs.Rows.{rowAt, rows-here}
-use Rattle.append.specs.Appended.{Appended, appended-none, appended-written, appended-long, behind}
-use Rattle.acceptance.specs.Judged.{acceptedRows, decisionsIn}
-use Rattle.acceptance.specs.RestLaws.{decisions-here, rows-no, rows-yes, rows-none}
-use Rattle.mesh.specs.JudgedRows.{judgedIn, baseAfter, keptIf, rangesWith}
-use Rattle.mesh.specs.RowLaws.{judged-here, judged-long}
-use Rattle.mesh.specs.Ranges.{RowRangeable, RowRanged, RangesWritable, RangesWritten}
+use Rattle.body_rows.specs.Body.{Row, rowsOf}
+use Rattle.body_rows.specs.Rows.{rowAt, rows-here}
+use Rattle.slice_append.specs.Appended.{Appended, appended-none, appended-written, appended-long, behind}
+use Rattle.mesh_acceptance.specs.Judged.{acceptedRows, decisionsIn}
+use Rattle.mesh_acceptance.specs.RestLaws.{decisions-here, rows-no, rows-yes, rows-none}
+use Rattle.mesh_layout.specs.JudgedRows.{judgedIn, baseAfter, keptIf, rangesWith}
+use Rattle.mesh_layout.specs.RowLaws.{judged-here, judged-long}
+use Rattle.mesh_layout.specs.Ranges.{RowRangeable, RowRanged, RangesWritable, RangesWritten}
 
 -- ---- one row
 

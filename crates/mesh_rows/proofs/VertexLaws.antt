@@ -7,14 +7,14 @@ use lib.ListN.{length, getD, take, drop, length-append, length-drop, drop-of-len
 use lib.Seq.{drop-drop, length-take-le}
 use lib.Ieee.{Float}
 use Rattle.lists.specs.Lists.{sumOf, written}
-use Rattle.body.specs.Body.{Row, rowsOf, allVertices}
-use Rattle.body.specs.Rows.{rowAt, verticesBefore}
-use Rattle.body.specs.Patches.{vertices-next, vertices-room}
-use Rattle.append.specs.Appended.{Appended, appended-none, appended-written, appended-long, behind, part-low}
-use Rattle.append.specs.Ready.{StretchReady}
-use Rattle.mesh.specs.JudgedRows.{JudgedRow, judgedIn, baseAfter, keptIf, numbersBy}
-use Rattle.mesh.specs.RowLaws.{judged-here, judged-long}
-use Rattle.mesh.specs.Written.{RowCopyable, RowCopied, VerticesWritable, VerticesWritten}
+use Rattle.body_rows.specs.Body.{Row, rowsOf, allVertices}
+use Rattle.body_rows.specs.Rows.{rowAt, verticesBefore}
+use Rattle.body_rows.specs.Patches.{vertices-next, vertices-room}
+use Rattle.slice_append.specs.Appended.{Appended, appended-none, appended-written, appended-long, behind, part-low}
+use Rattle.slice_append.specs.Ready.{StretchReady}
+use Rattle.mesh_layout.specs.JudgedRows.{JudgedRow, judgedIn, baseAfter, keptIf, numbersBy}
+use Rattle.mesh_layout.specs.RowLaws.{judged-here, judged-long}
+use Rattle.mesh_layout.specs.Written.{RowCopyable, RowCopied, VerticesWritable, VerticesWritten}
 
 -- ---- one row
 

@@ -1,18 +1,18 @@
 // The ranges of the mesh: where each accepted row's indices stand, in row order.
 
-use materials::FaceId;
+use mesh_materials::FaceId;
 ghost use mathlib.Core.List.{[], _∷_};
 ghost use Prim.Native.Nat.{_+_, _*_, _≤_};
 ghost use lib.ListN.{length};
-ghost use Rattle.append.specs.Appended.{Appended};
-ghost use Rattle.mesh.specs.Ranges.{RowRangeable, RowRanged, RangesWritable, RangesWritten};
+ghost use Rattle.slice_append.specs.Appended.{Appended};
+ghost use Rattle.mesh_layout.specs.Ranges.{RowRangeable, RowRanged, RangesWritable, RangesWritten};
 
 // Range r of the table: face, first index, one past the last.
 fn put_range(ranges: &mut [u32], r: usize, face: FaceId, first: u32, end: u32)
     requires { ⌜ 3 * r + 3 ≤ length (now ranges) ⌝ }
     ensures { λ _. ⌜ Appended (3 * r) (face .0 ∷ first ∷ end ∷ []) (now (ranges .entry)) (now (ranges .exit)) ⌝ }
 {
-    append::put_three(ranges, 3 * r, face.0, first, end);
+    slice_append::put_three(ranges, 3 * r, face.0, first, end);
 }
 
 // Row k's range, if its decision isn't 0, is written as range r of the table; the answer is how many there are then.
@@ -35,9 +35,9 @@ fn append_range(
     put_range(
         ranges,
         r,
-        FaceId(body::face(rows, k)),
+        FaceId(body_rows::face(rows, k)),
         first,
-        first + body::indices(rows, k),
+        first + body_rows::indices(rows, k),
     );
     r + 1
 }
@@ -48,7 +48,7 @@ pub fn write_ranges(rows: &[u32], w: &[u64], at: usize, starts: usize, ranges: &
     requires { ⌜ RangesWritable (now rows) (now w) at starts (now ranges) ⌝ }
     ensures { λ r. ⌜ RangesWritten (now (rows .entry)) (now (w .entry)) at starts (now (ranges .entry)) (now (ranges .exit)) r ⌝ }
 {
-    let m = body::row_count(rows);
+    let m = body_rows::row_count(rows);
     let mut r = 0usize;
     let mut k = 0usize;
     while k < m {

@@ -1,6 +1,6 @@
 // The vertices of the accepted rows, in row order.
 
-ghost use Rattle.mesh.specs.Written.{RowCopyable, RowCopied, VerticesWritable, VerticesWritten};
+ghost use Rattle.mesh_layout.specs.Written.{RowCopyable, RowCopied, VerticesWritable, VerticesWritten};
 
 // A row's numbers, three for each of its vertices from `base` on, are written to `out` behind o vertices, if its decision d isn't 0.
 // The answer is how many vertices stand there then.
@@ -18,7 +18,7 @@ fn append_row(
     if d == 0 {
         return o;
     }
-    append::append_stretch(numbers, 3 * base, 3 * (base + vertices), out, 3 * o);
+    slice_append::append_stretch(numbers, 3 * base, 3 * (base + vertices), out, 3 * o);
     o + vertices
 }
 
@@ -27,12 +27,12 @@ pub fn write_vertices(rows: &[u32], numbers: &[f32], w: &[u64], at: usize, out: 
     requires { ⌜ VerticesWritable (now rows) (now numbers) (now w) at (now out) ⌝ }
     ensures { λ _. ⌜ VerticesWritten (now (rows .entry)) (now (numbers .entry)) (now (w .entry)) at (now (out .entry)) (now (out .exit)) ⌝ }
 {
-    let m = body::row_count(rows);
+    let m = body_rows::row_count(rows);
     let mut o = 0usize;
     let mut base = 0usize;
     let mut k = 0usize;
     while k < m {
-        let vertices = body::vertices(rows, k) as usize;
+        let vertices = body_rows::vertices(rows, k) as usize;
         o = append_row(numbers, base, vertices, w[at + k], out, o);
         base += vertices;
         k += 1;

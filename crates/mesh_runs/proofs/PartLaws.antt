@@ -11,16 +11,16 @@ use lib.Dec.{leb}
 use Rattle.lists.specs.Lists.{sumOf, filter, written}
 use Rattle.lists.specs.Members.{Has, has-place, has-item}
 use Rattle.lists.specs.Stretches.{stretch-kept, stretch-at, front-at, rest-at, rest-less}
-use Rattle.body.specs.Body.{rowsOf}
-use Rattle.append.specs.Appended.{Appended, appended-none, appended-written, appended-long, behind}
-use Rattle.acceptance.specs.Judged.{decisionsIn}
-use Rattle.mesh.specs.Mesh.{Laid, materialsOf, runOf, runsOf, startOf, partOf}
-use Rattle.mesh.specs.JudgedRows.{JudgedRow, judgedRows, judgedIn, laidBy, runBy, indicesWith}
-use Rattle.mesh.specs.RowLaws.{judged-long}
-use Rattle.mesh.specs.LaidLaws.{run-by, run-long, judged-indices, laid-low, laid-few, laid-has, has-laid}
-use Rattle.mesh.specs.MaterialLaws.{materials-have, have-materials, materials-rise, rising-all, rising-from, rising-none, start-same, start-next, start-low, start-none, materials-few}
-use Rattle.mesh.specs.Parts.{laidIn, RunsWritable, RunsWritten}
-use Rattle.material_order.specs.Order.{placeWord, orderWord, Orderable, RowAt, Ordered, RowsOrdered, OrderRoom, FirstAccepted}
+use Rattle.body_rows.specs.Body.{rowsOf}
+use Rattle.slice_append.specs.Appended.{Appended, appended-none, appended-written, appended-long, behind}
+use Rattle.mesh_acceptance.specs.Judged.{decisionsIn}
+use Rattle.mesh_layout.specs.Mesh.{Laid, materialsOf, runOf, runsOf, startOf, partOf}
+use Rattle.mesh_layout.specs.JudgedRows.{JudgedRow, judgedRows, judgedIn, laidBy, runBy, indicesWith}
+use Rattle.mesh_layout.specs.RowLaws.{judged-long}
+use Rattle.mesh_layout.specs.LaidLaws.{run-by, run-long, judged-indices, laid-low, laid-few, laid-has, has-laid}
+use Rattle.mesh_layout.specs.MaterialLaws.{materials-have, have-materials, materials-rise, rising-all, rising-from, rising-none, start-same, start-next, start-low, start-none, materials-few}
+use Rattle.mesh_layout.specs.Parts.{laidIn, RunsWritable, RunsWritten}
+use Rattle.mesh_material_order.specs.Order.{placeWord, orderWord, Orderable, RowAt, Ordered, RowsOrdered, OrderRoom, FirstAccepted}
 use Rattle.mesh_runs.specs.Runs.{RunWritable, RunWritten}
 use Rattle.mesh_runs.specs.declared.runs.RunEnd.{RunEnd}
 use Rattle.mesh_runs.proofs.RunLaws.{not-above}

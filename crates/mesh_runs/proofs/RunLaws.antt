@@ -11,16 +11,16 @@ use lib.Seq.{drop-drop, length-take-le, getD-set-same, getD-set-other, take-set-
 use lib.Dec.{eqb}
 use Rattle.lists.specs.Lists.{sumOf}
 use Rattle.lists.specs.Any.{sum-front, sum-all}
-use Rattle.body.specs.Body.{rowsOf, allIndices}
-use Rattle.body.specs.Rows.{rowAt, indicesBefore}
-use Rattle.body.specs.Patches.{indices-next, indices-room, vertices-room}
-use Rattle.append.specs.Appended.{Appended, appended-none, appended-long, appended-twice}
-use Rattle.acceptance.specs.Judged.{decisionsIn}
-use Rattle.mesh.specs.JudgedRows.{JudgedRow, judgedIn, sameIf, runBy, indicesWith}
-use Rattle.mesh.specs.RowLaws.{judged-here, judged-long, sum-here}
-use Rattle.material_order.specs.Order.{basesBefore}
+use Rattle.body_rows.specs.Body.{rowsOf, allIndices}
+use Rattle.body_rows.specs.Rows.{rowAt, indicesBefore}
+use Rattle.body_rows.specs.Patches.{indices-next, indices-room, vertices-room}
+use Rattle.slice_append.specs.Appended.{Appended, appended-none, appended-long, appended-twice}
+use Rattle.mesh_acceptance.specs.Judged.{decisionsIn}
+use Rattle.mesh_layout.specs.JudgedRows.{JudgedRow, judgedIn, sameIf, runBy, indicesWith}
+use Rattle.mesh_layout.specs.RowLaws.{judged-here, judged-long, sum-here}
+use Rattle.mesh_material_order.specs.Order.{basesBefore}
 use Rattle.mesh_runs.specs.Runs.{RowRunnable, RowRun, RunWritable}
-use Rattle.material_order.specs.Bases.{bases-next, bases-low}
+use Rattle.mesh_material_order.specs.Bases.{bases-next, bases-low}
 use native.Mathlib.Nat.{le-of-suc-le-suc, lt-of-not-le}
 
 -- what isn't above is at most as high

@@ -7,11 +7,11 @@ use native.Mathlib.Decide.{ℕ-discrete}
 use borrow.Author.Count.{below-more}
 use lib.ListN.{length, getD}
 use Rattle.lists.specs.Stretches.{front-at, rest-at}
-use Rattle.body.specs.Body.{rowsOf}
-use Rattle.body.specs.Rows.{rowAt, indicesBefore}
-use Rattle.body.specs.Patches.{indices-room}
-use Rattle.mesh.specs.JudgedRows.{judgedIn}
-use Rattle.material_order.specs.Order.{basesBefore, orderWord, RowAt}
+use Rattle.body_rows.specs.Body.{rowsOf}
+use Rattle.body_rows.specs.Rows.{rowAt, indicesBefore}
+use Rattle.body_rows.specs.Patches.{indices-room}
+use Rattle.mesh_layout.specs.JudgedRows.{judgedIn}
+use Rattle.mesh_material_order.specs.Order.{basesBefore, orderWord, RowAt}
 use Rattle.mesh_runs.specs.Runs.{RowRunnable, RowRun, RunWritable, RunWritten}
 use Rattle.mesh_runs.proofs.RunLaws.{Reached, reached-none, reached-ready, reached-row, reached-skip, reached-run, reached-end, not-above}
 

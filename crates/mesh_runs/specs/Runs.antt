@@ -3,11 +3,11 @@ use mathlib.Core.Path.{_≡_}
 use mathlib.Core.List.{List, map}
 use Prim.Native.Nat.{ℕ, _+_, _-_, _*_, _≤_, _<_}
 use lib.ListN.{length, getD, take, drop, set}
-use Rattle.body.specs.Body.{rowsOf}
-use Rattle.append.specs.Appended.{Appended}
-use Rattle.mesh.specs.JudgedRows.{judgedIn, runBy, indicesWith}
-use Rattle.mesh.specs.Parts.{Runnable}
-use Rattle.material_order.specs.Order.{placeWord, Ordered}
+use Rattle.body_rows.specs.Body.{rowsOf}
+use Rattle.slice_append.specs.Appended.{Appended}
+use Rattle.mesh_layout.specs.JudgedRows.{judgedIn, runBy, indicesWith}
+use Rattle.mesh_layout.specs.Parts.{Runnable}
+use Rattle.mesh_material_order.specs.Order.{placeWord, Ordered}
 use Rattle.mesh_runs.specs.declared.runs.RunEnd.{RunEnd}
 
 -- what a row's part in a run asks: its indices are there and fit when moved, and there is room

@@ -1,22 +1,22 @@
 // The parts of the mesh: one run of indices for each material, ascending.
 
 use crate::runs::write_run;
-use material_order::ROWS;
-use material_order::first_accepted;
-use material_order::order_rows;
-use materials::MaterialId;
+use mesh_material_order::ROWS;
+use mesh_material_order::first_accepted;
+use mesh_material_order::order_rows;
+use mesh_materials::MaterialId;
 ghost use mathlib.Core.List.{[], _∷_};
 ghost use Prim.Native.Nat.{_+_, _*_, _≤_};
 ghost use lib.ListN.{length};
-ghost use Rattle.append.specs.Appended.{Appended};
-ghost use Rattle.mesh.specs.Parts.{RunsWritable, RunsWritten};
+ghost use Rattle.slice_append.specs.Appended.{Appended};
+ghost use Rattle.mesh_layout.specs.Parts.{RunsWritable, RunsWritten};
 
 // Part p of the table: material, start, count.
 fn put_part(parts: &mut [u32], p: usize, material: MaterialId, start: u32, count: u32)
     requires { ⌜ 3 * p + 3 ≤ length (now parts) ⌝ }
     ensures { λ _. ⌜ Appended (3 * p) (material .0 ∷ start ∷ count ∷ []) (now (parts .entry)) (now (parts .exit)) ⌝ }
 {
-    append::put_three(parts, 3 * p, material.0, start, count);
+    slice_append::put_three(parts, 3 * p, material.0, start, count);
 }
 
 // The runs of all materials are written to the front of `out`, their parts to the front of the table, and where each row's indices begin from `starts` on.
@@ -33,7 +33,7 @@ pub fn write_runs(
     requires { ⌜ RunsWritable (now rows) (now indices) (now w) at starts (now out) (now parts) ⌝ }
     ensures { λ r. ⌜ RunsWritten (now (rows .entry)) (now (indices .entry)) (now (w .entry)) (now (w .exit)) at starts (now (out .entry)) (now (out .exit)) (now (parts .entry)) (now (parts .exit)) r ⌝ }
 {
-    let m = body::row_count(rows);
+    let m = body_rows::row_count(rows);
     let order = starts + m;
     order_rows(rows, w, at, starts, order, m);
     let mut o = 0usize;

@@ -1,7 +1,7 @@
 // The run of one material: the indices of its rows, in row order.
 
-use material_order::INDICES;
-use material_order::ROWS;
+use mesh_material_order::INDICES;
+use mesh_material_order::ROWS;
 ghost use Rattle.mesh_runs.specs.Runs.{RowRunnable, RowRun, RunWritable, RunWritten};
 
 // Where a run's words and its indices end.
@@ -25,7 +25,7 @@ fn append_row(
     ensures { λ r. ⌜ RowRun (now (indices .entry)) from to base (now (w .entry)) (now (w .exit)) place (now (out .entry)) (now (out .exit)) o r ⌝ }
 {
     w[place] = o as u64;
-    append::append_moved(indices, from, to, base as u32, out, o);
+    slice_append::append_moved(indices, from, to, base as u32, out, o);
     o + (to - from)
 }
 
@@ -55,7 +55,7 @@ pub fn write_run(
         }
         let found = w[starts + k];
         let from = (found % INDICES) as usize;
-        let to = from + body::indices(rows, k) as usize;
+        let to = from + body_rows::indices(rows, k) as usize;
         o = append_row(
             indices,
             from,

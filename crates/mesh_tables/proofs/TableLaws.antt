@@ -12,19 +12,19 @@ use lib.Ieee.{Float}
 use Rattle.lists.specs.Lists.{sumOf, written}
 use Rattle.lists.specs.Any.{sum-front}
 use Rattle.lists.specs.Stretches.{front-at, stretch-kept, stretch-at}
-use Rattle.body.specs.Body.{rowsOf, workNeeded}
-use Rattle.body.specs.Rows.{rowAt}
-use Rattle.checks.specs.Accepted.{Passed, passed-rows}
-use Rattle.geometry.specs.declared.Aabb.{Aabb}
-use Rattle.acceptance.specs.Judged.{acceptedRows, decisionsIn, FailuresReady, FailuresWritten}
-use Rattle.mesh.specs.Mesh.{Laid, runOf, startOf, rangesFrom}
-use Rattle.mesh.specs.JudgedRows.{JudgedRow, judgedRows, judgedIn, indicesWith, rangesWith}
-use Rattle.mesh.specs.RowLaws.{noJudged, judged-long, judged-at, sum-here}
-use Rattle.mesh.specs.LaidLaws.{run-by, run-long, judged-indices, laid-low}
-use Rattle.mesh.specs.MaterialLaws.{start-next, start-low}
-use Rattle.mesh.specs.RangeLaws.{Same, Begun, ranges-are}
-use Rattle.mesh.specs.Parts.{laidIn, RunsWritable, RunsWritten}
-use Rattle.mesh.specs.Ranges.{RangesWritable, RangesWritten}
+use Rattle.body_rows.specs.Body.{rowsOf, workNeeded}
+use Rattle.body_rows.specs.Rows.{rowAt}
+use Rattle.body_checks.specs.Accepted.{Passed, passed-rows}
+use Rattle.patch_geometry.specs.declared.Aabb.{Aabb}
+use Rattle.mesh_acceptance.specs.Judged.{acceptedRows, decisionsIn, FailuresReady, FailuresWritten}
+use Rattle.mesh_layout.specs.Mesh.{Laid, runOf, startOf, rangesFrom}
+use Rattle.mesh_layout.specs.JudgedRows.{JudgedRow, judgedRows, judgedIn, indicesWith, rangesWith}
+use Rattle.mesh_layout.specs.RowLaws.{noJudged, judged-long, judged-at, sum-here}
+use Rattle.mesh_layout.specs.LaidLaws.{run-by, run-long, judged-indices, laid-low}
+use Rattle.mesh_layout.specs.MaterialLaws.{start-next, start-low}
+use Rattle.mesh_layout.specs.RangeLaws.{Same, Begun, ranges-are}
+use Rattle.mesh_layout.specs.Parts.{laidIn, RunsWritable, RunsWritten}
+use Rattle.mesh_layout.specs.Ranges.{RangesWritable, RangesWritten}
 use Rattle.mesh_tables.specs.Tables.{TablesReady, TablesWritten}
 
 -- item k of a list's decisions

@@ -6,15 +6,15 @@ use Prim.Native.Nat.{ℕ, _+_, _*_, _≤_, _<_}
 use lib.ListN.{length, getD, drop}
 use lib.Ieee.{Float}
 use Rattle.lists.specs.Lists.{sumOf, written}
-use Rattle.body.specs.Body.{rowsOf}
-use Rattle.checks.specs.Accepted.{Passed}
-use Rattle.body.specs.Patches.{noPatch, shapes}
-use Rattle.geometry.specs.declared.Aabb.{Aabb}
-use Rattle.verdicts.specs.Failures.{failureOf}
-use Rattle.acceptance.specs.Acceptance.{failureNumbers}
-use Rattle.acceptance.specs.Judged.{acceptedRows, decisionsIn, failedOf}
-use Rattle.mesh.specs.Mesh.{materialsOf, runsOf, partOf, rangesFrom}
-use Rattle.mesh.specs.Parts.{laidIn}
+use Rattle.body_rows.specs.Body.{rowsOf}
+use Rattle.body_checks.specs.Accepted.{Passed}
+use Rattle.body_rows.specs.Patches.{noPatch, shapes}
+use Rattle.patch_geometry.specs.declared.Aabb.{Aabb}
+use Rattle.mesh_verdicts.specs.Failures.{failureOf}
+use Rattle.mesh_acceptance.specs.Acceptance.{failureNumbers}
+use Rattle.mesh_acceptance.specs.Judged.{acceptedRows, decisionsIn, failedOf}
+use Rattle.mesh_layout.specs.Mesh.{materialsOf, runsOf, partOf, rangesFrom}
+use Rattle.mesh_layout.specs.Parts.{laidIn}
 use Rattle.mesh_tables.specs.declared.Tables.{Tables}
 
 -- the decisions on the m rows of an accepted body, at the front of the work area W

@@ -1,6 +1,6 @@
 // The runs, parts, ranges and failures of the accepted rows written to the lent slices.
 
-use geometry::Aabb;
+use patch_geometry::Aabb;
 ghost use Rattle.mesh_tables.specs.Tables.{TablesReady, TablesWritten};
 
 // How many parts, ranges and failures were written.
@@ -29,7 +29,7 @@ pub fn write_tables(
 {
     let p = mesh_runs::write_runs(rows, indices, w, 0, m, mesh_indices, parts);
     let r = mesh_rows::write_ranges(rows, w, 0, m, ranges);
-    let f = failures::write_failures(rows, positions, indices, reference, w, 0, failures);
+    let f = mesh_failures::write_failures(rows, positions, indices, reference, w, 0, failures);
     Tables {
         parts: p,
         ranges: r,

@@ -8,12 +8,12 @@ use native.Mathlib.Omega.{arith}
 use lib.ListN.{length, getD, take, drop}
 use lib.Ieee.{Float}
 use denote.Ref.{RefT, now}
-use Rattle.body.specs.Body.{Row, Patch, Triangle, patchesOf, trianglesOf}
-use Rattle.body.specs.Rows.{noRow, verticesBefore, indicesBefore}
-use Rattle.body.specs.Patches.{noPatch, patch-at}
-use Rattle.alone.specs.declared.alone.Measured.{Measured}
-use Rattle.alone.specs.Answers.{measuredOf}
-use Rattle.alone.specs.Alone.{volumeAlone}
+use Rattle.body_rows.specs.Body.{Row, Patch, Triangle, patchesOf, trianglesOf}
+use Rattle.body_rows.specs.Rows.{noRow, verticesBefore, indicesBefore}
+use Rattle.body_rows.specs.Patches.{noPatch, patch-at}
+use Rattle.patch_alone.specs.declared.alone.Measured.{Measured}
+use Rattle.patch_alone.specs.Answers.{measuredOf}
+use Rattle.patch_alone.specs.Alone.{volumeAlone}
 use Rattle.patch_view.specs.declared.PatchView.{PatchView}
 
 -- the view of three lent stretches

@@ -1,10 +1,10 @@
 // A patch read through a view of its three stretches: positions, normals and indices.
 
-use alone::Measured;
+use patch_alone::Measured;
 ghost use mathlib.Core.Path.{_≡_};
 ghost use lib.ListN.{getD};
-ghost use Rattle.alone.specs.Answers.{measuredOf};
-ghost use Rattle.alone.specs.Alone.{volumeAlone};
+ghost use Rattle.patch_alone.specs.Answers.{measuredOf};
+ghost use Rattle.patch_alone.specs.Alone.{volumeAlone};
 ghost use Rattle.patch_view.specs.Views.{cornerOf, viewOf, volumeOf};
 
 // A patch's stretches of a body's slices; three coordinates a vertex, indices from 0 within the patch.
@@ -58,7 +58,7 @@ fn volume_alone<'a>(
 ) -> Measured
     ensures { λ r. ⌜ r ≡ measuredOf (volumeAlone (now (positions .entry)) (now (normals .entry)) (now (indices .entry)) flip) ⌝ }
 {
-    alone::patch_volume_alone(positions, normals, indices, flip)
+    patch_alone::patch_volume_alone(positions, normals, indices, flip)
 }
 
 // The volume of the patch alone, its triangles reversed if `flip`; or the number of the check that refuses it.

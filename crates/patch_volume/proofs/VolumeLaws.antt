@@ -8,10 +8,10 @@ use native.Mathlib.Numerals.{towards-suc}
 use lib.ListN.{length, getD, drop, length-drop}
 use lib.Seq.{drop-cons}
 use lib.Ieee.{Float}
-use Rattle.geometry.specs.declared.Vec3.{Vec3}
-use Rattle.body.specs.Body.{trianglesOf}
-use Rattle.measures.specs.Volume.{det, triangleVolume, sumVolumes, patchVolume, Within, Corners}
-use Rattle.geometry.specs.Geometry.{pointAt, add, div, zero64, six64}
+use Rattle.patch_geometry.specs.declared.Vec3.{Vec3}
+use Rattle.body_rows.specs.Body.{trianglesOf}
+use Rattle.patch_measures.specs.Volume.{det, triangleVolume, sumVolumes, patchVolume, Within, Corners}
+use Rattle.patch_geometry.specs.Geometry.{pointAt, add, div, zero64, six64}
 
 -- the triangle at k, and those behind it
 pub triangles-more : (is : List ℕ) (k : ℕ) → k + 2 < length is → trianglesOf (drop k is) ≡ record { a = getD is k 0; b = getD is (k + 1) 0; c = getD is (k + 2) 0 } ∷ trianglesOf (drop (k + 3) is)

@@ -1,11 +1,11 @@
 // A patch's signed volume: six times the volume of each triangle with the origin, summed and divided by 6 once.
 
-use geometry::Vec3;
-use geometry::point;
+use patch_geometry::Vec3;
+use patch_geometry::point;
 ghost use mathlib.Core.Path.{_≡_};
 ghost use Prim.Native.Nat.{_+_, _*_};
-ghost use Rattle.measures.specs.Volume.{Corners, Within, det, patchVolume, triangleVolume};
-ghost use Rattle.geometry.specs.Geometry.{pointAt};
+ghost use Rattle.patch_measures.specs.Volume.{Corners, Within, det, patchVolume, triangleVolume};
+ghost use Rattle.patch_geometry.specs.Geometry.{pointAt};
 
 // The determinant of three points, left to right.
 pub fn triple(a: Vec3, b: Vec3, c: Vec3) -> f64

@@ -6,9 +6,9 @@ use native.Mathlib.Omega.{arith}
 use borrow.Author.Tests.{eq-eqb, ne-eqb, le-leb, lt-leb}
 use lib.ListN.{length, take, drop, replicate, drop-of-length-le}
 use lib.Seq.{take-all}
-use Rattle.reader_state.specs.declared.Reader.{Reader}
-use Rattle.line_order.specs.Reading.{start}
-use Rattle.reader_state.specs.Slices.{Begun, ended, readerOf, refused}
+use Rattle.sheet_reader_state.specs.declared.Reader.{Reader}
+use Rattle.sheet_line_order.specs.Reading.{start}
+use Rattle.sheet_reader_state.specs.Slices.{Begun, ended, readerOf, refused}
 
 -- ---- the beginning
 pub fresh-is : record { refusal = 0; place = 0; rows = 0; vertices = 0; indices = 0; default = 0; sag = 0; minx = 0; miny = 0; minz = 0; maxx = 0; maxy = 0; maxz = 0 } ≡ readerOf start

@@ -1,10 +1,10 @@
 // The reader before the first line of a sheet, with a refusal, and at the end.
 
-use fills::clear;
-use reader_state::Reader;
+use sheet_reader_state::Reader;
+use slice_fill::clear;
 ghost use mathlib.Core.Path.{_≡_};
-ghost use Rattle.line_order.specs.Reading.{start};
-ghost use Rattle.reader_state.specs.Slices.{Begun, ended, readerOf, refused};
+ghost use Rattle.sheet_line_order.specs.Reading.{start};
+ghost use Rattle.sheet_reader_state.specs.Slices.{Begun, ended, readerOf, refused};
 
 // The reader before the first line.
 fn fresh() -> Reader

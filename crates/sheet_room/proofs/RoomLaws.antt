@@ -6,9 +6,9 @@ use Prim.Native.Nat.{ℕ, _-_, _*_, _%_, _≤_, _<_}
 use borrow.Author.Tests.{eq-eqb, ne-eqb, le-leb, lt-leb, not-true, not-false}
 use lib.Dec.{leb}
 use lib.ListN.{length, getD}
-use Rattle.reader_state.specs.declared.Reader.{Reader}
-use Rattle.reader_state.specs.Slices.{fitsIn, inLimits, lastFits}
-use Rattle.reader_state.specs.Limits.{limited}
+use Rattle.sheet_reader_state.specs.declared.Reader.{Reader}
+use Rattle.sheet_reader_state.specs.Slices.{fitsIn, inLimits, lastFits}
+use Rattle.sheet_reader_state.specs.Limits.{limited}
 
 -- ---- the last row
 module _ (place rows : ℕ) (table : List ℕ) (some-row : rows ≡ 0 → ⊥) where

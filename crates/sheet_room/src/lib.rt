@@ -1,10 +1,10 @@
 // Whether the lent slices have room for every sheet, and hold what the reader counts.
 
-use reader_state::Reader;
+use sheet_reader_state::Reader;
 ghost use mathlib.Core.Path.{_≡_};
 ghost use Prim.Native.Nat.{_≤_};
 ghost use lib.ListN.{length};
-ghost use Rattle.reader_state.specs.Slices.{fitsIn, inLimits, lastFits};
+ghost use Rattle.sheet_reader_state.specs.Slices.{fitsIn, inLimits, lastFits};
 
 // Whether the last row's counts are within the limits; without a row no line of a face has been read.
 fn last_fits(place: u32, rows: usize, table: &[u32]) -> bool

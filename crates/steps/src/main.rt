@@ -1,16 +1,16 @@
 // Reads float steps from standard input, one a line, and prints the bits of each result; `(refused 51)` for a line that is none. A line feed ends a line.
 
-use digit_writing::put_byte;
 use libc::STDIN_FILENO;
 use libc::STDOUT_FILENO;
+use sheet_digit_writing::put_byte;
 ghost use Prim.Native.Nat.{_≤_};
 ghost use lib.ListN.{length};
 
 // Prints the answer to a line.
 fn show(line: &[u8]) {
-    let reply = step_lines::answer(line);
+    let reply = float_step_lines::answer(line);
     let mut out = [0u8; 17];
-    let n = step_lines::print(reply, &mut out);
+    let n = float_step_lines::print(reply, &mut out);
     io::write_all(STDOUT_FILENO, &out[..n]);
 }
 

@@ -6,21 +6,21 @@ use Prim.Native.Nat.{ℕ, _+_, _*_}
 use lib.ListN.{length, drop, replicate}
 use lib.Ieee.{Float, lt}
 use borrow.Author.Tests.{eq-eqb, ne-eqb}
-use Rattle.points.specs.Rule.{names}
-use Rattle.points.specs.Points.{key}
-use Rattle.body.specs.Body.{Patch, rowsOf, patchesOf, allVertices, cleared, firstFailing}
-use Rattle.refusals.specs.BodyChecks.{bodyChecks}
-use Rattle.body.specs.Rows.{Total}
-use Rattle.checks.specs.Accepted.{Passed}
-use Rattle.checks.specs.Cleared.{cleared-is}
-use Rattle.geometry.specs.Geometry.{zero64}
-use Rattle.stitched.specs.declared.Stitched.{Stitched}
-use Rattle.stitched.specs.declared.Stitched.the-variants.{Done, Refused}
-use Rattle.stitched.specs.Slices.{StitchSlices, refuseStitch, clearedSlices, stitchOrRefuse}
-use Rattle.stitched.specs.StitchedBody.{StitchedBody, stitchedBody}
-use Rattle.stitched.specs.Stitch.{stitchBody, stitchOf, stitchAccepted}
-use Rattle.stitched.specs.Answers.{slicesOf, leftStitch, stitchAnswered}
-use Rattle.results.specs.Stitched.{StitchReady, BodyStitched, words-needed}
+use Rattle.point_rules.specs.Rule.{names}
+use Rattle.point_rules.specs.Points.{key}
+use Rattle.body_rows.specs.Body.{Patch, rowsOf, patchesOf, allVertices, cleared, firstFailing}
+use Rattle.body_refusals.specs.BodyChecks.{bodyChecks}
+use Rattle.body_rows.specs.Rows.{Total}
+use Rattle.body_checks.specs.Accepted.{Passed}
+use Rattle.body_checks.specs.Cleared.{cleared-is}
+use Rattle.patch_geometry.specs.Geometry.{zero64}
+use Rattle.stitch_definition.specs.declared.Stitched.{Stitched}
+use Rattle.stitch_definition.specs.declared.Stitched.the-variants.{Done, Refused}
+use Rattle.stitch_definition.specs.Slices.{StitchSlices, refuseStitch, clearedSlices, stitchOrRefuse}
+use Rattle.stitch_definition.specs.StitchedBody.{StitchedBody, stitchedBody}
+use Rattle.stitch_definition.specs.Stitch.{stitchBody, stitchOf, stitchAccepted}
+use Rattle.stitch_definition.specs.Answers.{slicesOf, leftStitch, stitchAnswered}
+use Rattle.stitch_result_checks.specs.Stitched.{StitchReady, BodyStitched, words-needed}
 
 -- ---- the sag decides
 

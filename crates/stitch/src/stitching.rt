@@ -1,18 +1,18 @@
 // stitch: cracks between the patches of a body closed, into second slices.
 
-use closing::stitch_nothing;
-use closing::stitch_open;
-use stitched::Stitched;
+use stitch_accepted::stitch_nothing;
+use stitch_accepted::stitch_open;
+use stitch_definition::Stitched;
 ghost use mathlib.Core.Path.{_≡_};
 ghost use Prim.Native.Nat.{_+_, _*_};
 ghost use lib.ListN.{length};
-ghost use Rattle.points.specs.Rule.{names};
-ghost use Rattle.points.specs.Points.{key};
-ghost use Rattle.body.specs.Body.{rowsOf, patchesOf};
-ghost use Rattle.checks.specs.Accepted.{Passed};
-ghost use Rattle.stitched.specs.Stitch.{stitchBody, stitchOf, stitchAccepted};
-ghost use Rattle.stitched.specs.Answers.{slicesOf, leftStitch, stitchAnswered};
-ghost use Rattle.results.specs.Stitched.{StitchReady, BodyStitched};
+ghost use Rattle.point_rules.specs.Rule.{names};
+ghost use Rattle.point_rules.specs.Points.{key};
+ghost use Rattle.body_rows.specs.Body.{rowsOf, patchesOf};
+ghost use Rattle.body_checks.specs.Accepted.{Passed};
+ghost use Rattle.stitch_definition.specs.Stitch.{stitchBody, stitchOf, stitchAccepted};
+ghost use Rattle.stitch_definition.specs.Answers.{slicesOf, leftStitch, stitchAnswered};
+ghost use Rattle.stitch_result_checks.specs.Stitched.{StitchReady, BodyStitched};
 
 // A body of v vertices and m rows is stitched; a sag not above 0 splits nothing.
 fn stitch_rows(
@@ -83,8 +83,8 @@ fn stitch_accepted(
         ≡ stitchAnswered (stitchAccepted (now (rows .entry)) (now (positions .entry)) (now (normals .entry)) (now (indices .entry)) sag
         (slicesOf (now («out_rows» .entry)) (now («out_positions» .entry)) (now («out_normals» .entry)) (now («out_indices» .entry)) (now (work .entry)))) ⌝ }
 {
-    let v = body::total_vertices(rows);
-    let m = body::row_count(rows);
+    let v = body_rows::total_vertices(rows);
+    let m = body_rows::row_count(rows);
     let n = indices.len();
     let answer = stitch_rows(
         rows,
@@ -100,7 +100,7 @@ fn stitch_accepted(
         v,
         m,
     );
-    fills::clear(work, 16 * n + 16 * m + 4 * v);
+    slice_fill::clear(work, 16 * n + 16 * m + 4 * v);
     answer
 }
 
@@ -122,7 +122,7 @@ pub fn stitch(
         ≡ stitchAnswered (stitchOf key (now (rows .entry)) (now (positions .entry)) (now (normals .entry)) (now (indices .entry)) sag
         (slicesOf (now («out_rows» .entry)) (now («out_positions» .entry)) (now («out_normals» .entry)) (now («out_indices» .entry)) (now (work .entry)))) ⌝ }
 {
-    let refusal = checks::first_failing(rows, positions, normals, indices, work.len());
+    let refusal = body_checks::first_failing(rows, positions, normals, indices, work.len());
     if refusal == 0 {
         return stitch_accepted(
             rows,

@@ -2,8 +2,8 @@
 use Prim.Native.Nat.{ℕ}
 use native.Mathlib.Omega.{arith}
 use lib.ListN.{replicate, length-replicate}
-use Rattle.feeding.specs.FeedingLaws.{fed-answered, fed-begin}
-use Rattle.finisher.specs.Whole.{told-count}
+use Rattle.bench_feed.specs.FeedingLaws.{fed-answered, fed-begin}
+use Rattle.bench_finish.specs.Whole.{told-count}
 use borrow.Author.Needs.{needs}
 use Rattle.bench.proofs.finish_input.Statement.{statement}
 use Rattle.bench.proofs.finish_input.Tie as tie

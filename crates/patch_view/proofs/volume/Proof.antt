@@ -42,9 +42,9 @@ use denote.Triple.Table.{entered, cited}
 use denote.Triple.Walked.{says, Stays, stay-none, walkOf, goes-none, Walks, ends-at, walked, walk-meets}
 use denote.Exit.{yes}
 use denote.Triple.Clauses.{ensured, lasts}
-use Rattle.alone.specs.declared.alone.Measured.{Measured}
-use Rattle.alone.proofs.alone.Measured as S
-use Rattle.alone.proofs.alone.Measured.Laws as S′
+use Rattle.patch_alone.specs.declared.alone.Measured.{Measured}
+use Rattle.patch_alone.proofs.alone.Measured as S
+use Rattle.patch_alone.proofs.alone.Measured.Laws as S′
 use Rattle.patch_view.specs.Views.{volumeOf}
 use Rattle.patch_view.specs.declared.PatchView.{PatchView}
 use Rattle.patch_view.proofs.PatchView as T

@@ -1,6 +1,6 @@
 -- `last_fits` meets its contract. Assumes nothing.
 use Rattle.sheet_room.proofs.RoomLaws.{last-indices, last-vertices}
-use Rattle.reader_state.specs.Held.{last-none}
+use Rattle.sheet_reader_state.specs.Held.{last-none}
 use borrow.Author.Needs.{needs}
 use Rattle.sheet_room.proofs.last_fits.Statement.{statement}
 use Rattle.sheet_room.proofs.last_fits.Tie as tie

@@ -1,6 +1,6 @@
 -- `judged_answer` meets its contract, case by case. Assumes nothing.
 use mathlib.Core.Path.{sym, ap}
-use Rattle.alone.specs.Answers.{judgedAs}
+use Rattle.patch_alone.specs.Answers.{judgedAs}
 use Rattle.cad_answers.specs.Answers.{cadJudged}
 use Rattle.cad_answers.proofs.PatchLaws.{verdict-is}
 use borrow.Author.Needs.{needs}

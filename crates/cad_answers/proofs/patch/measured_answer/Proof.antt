@@ -1,6 +1,6 @@
 -- `measured_answer` meets its contract, case by case. Assumes nothing.
 use mathlib.Core.Path.{sym, ap}
-use Rattle.alone.specs.Answers.{measuredAs}
+use Rattle.patch_alone.specs.Answers.{measuredAs}
 use Rattle.cad_answers.specs.Answers.{cadMeasured}
 use borrow.Author.Needs.{needs}
 use Rattle.cad_answers.proofs.patch.measured_answer.Statement.{statement}

@@ -1,7 +1,7 @@
 -- `stitch` meets its contract. Assumes nothing.
 use Rattle.stitch.proofs.StitchLaws.{call-done, call-refused}
 use mathlib.Core.Path.{sym, _∙_}
-use Rattle.checks.specs.Accepted.{passed}
+use Rattle.body_checks.specs.Accepted.{passed}
 use borrow.Author.Needs.{needs}
 use Rattle.stitch.proofs.stitching.stitch.Statement.{statement}
 use Rattle.stitch.proofs.stitching.stitch.Tie as tie

@@ -1,5 +1,5 @@
 -- `stitch_accepted` meets its contract. Assumes nothing.
-use Rattle.checks.specs.Cleared.{clearable}
+use Rattle.body_checks.specs.Cleared.{clearable}
 use Rattle.stitch.proofs.StitchLaws.{accepted-stitched}
 use mathlib.Core.Path.{refl}
 use borrow.Author.Needs.{needs}

@@ -1,0 +1,12 @@
+-- A claim that says `unfolding evaluation` has every definition of this crate and of those below it computed. Assumes nothing.
+use Prim.Native.Nat.{ℕ}
+use Rattle.turn_definition.specs.Evaluation as Turning
+use Rattle.stitch_definition.specs.Evaluation as Stitched
+use Rattle.mesh_definition.specs.Evaluation as Assemble
+use Rattle.bench_definition.specs.Finish.{benchRoom, area, stitchSlices, meshSlices, assembleNext, stitchNext, finishIn, finish}
+use Rattle.bench_definition.specs.Parts.{turnNumbers, sheetPatches, sheetFacets, placedNumbers, splitNumbers, splitsAt, placedAt, placedOf, withSplits, allWithSplits, finishFrom}
+
+-- every definition that computes
+unfoldable pub evaluation : ℕ
+unfolding Turning.evaluation Stitched.evaluation Assemble.evaluation benchRoom area stitchSlices meshSlices assembleNext stitchNext finishIn finish turnNumbers sheetPatches sheetFacets placedNumbers splitNumbers splitsAt placedAt placedOf withSplits allWithSplits finishFrom
+evaluation = 0

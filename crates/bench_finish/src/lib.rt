@@ -1,0 +1,141 @@
+// A sheet that was read, finished: its body turned, stitched and assembled in arrays of the program's limits, and what the program prints written into a
+// lent slice.
+
+use bench_calls::finish_body;
+use patch_geometry::Aabb;
+use sheet_answer::write_refusal;
+use sheet_meaning::box_of;
+use sheet_meaning::floats_of;
+use sheet_meaning::sag_of;
+use sheet_reader_state::Reader;
+use sheet_room::in_limits;
+use slice_front::front;
+use slice_front::front_floats;
+use slice_front::front_long;
+ghost use mathlib.Core.Path.{_≡_};
+ghost use mathlib.Core.List.{_++_};
+ghost use lib.ListN.{length, take, drop};
+ghost use Rattle.bench_definition.specs.Finish.{finish};
+ghost use Rattle.sheet_reader_state.specs.Limits.{Limited};
+ghost use Rattle.sheet_reader_state.specs.Slices.{lent, patternsOf};
+ghost use Rattle.sheet_meaning.specs.Bench.{printed};
+ghost use Rattle.sheet_meaning.specs.Meaning.{meant};
+ghost use Rattle.bench_call_texts.specs.Told.{Told};
+ghost use Rattle.sheet_meaning.specs.Answered.{answerIn};
+ghost use Rattle.bench_finish.specs.Fronts.{FrontsSaid};
+
+// Numbers copied, as many as there is room for.
+fn copy(from: &[u32], to: &mut [u32])
+    ensures { λ _. ⌜ now (to .exit) ≡ take (length (now (to .entry))) (now (from .entry)) ++ drop (length (now (from .entry))) (now (to .entry)) ⌝ }
+{
+    let mut i: usize = 0;
+    while i < from.len() {
+        if to.len() <= i {
+            return;
+        }
+        to[i] = from[i];
+        i += 1;
+    }
+}
+
+// A body in the first n coordinates and m indices of slices, finished; 52 where these are fewer.
+fn finish_fronts(
+    rows: &[u32],
+    positions: &[f32],
+    normals: &mut [f32],
+    indices: &mut [u32],
+    n: usize,
+    m: usize,
+    sag: f64,
+    reference: Aabb,
+    materials: &[u64],
+    default: u64,
+    out: &mut [u8],
+) -> usize
+    ensures { λ r. ⌜ FrontsSaid (now (rows .entry)) (now (positions .entry)) (now (normals .entry)) (now (indices .entry)) n m sag reference (now (materials .entry)) default (now (out .entry)) (now (out .exit)) r ⌝ }
+{
+    if normals.len() < n {
+        return write_refusal(out, 52);
+    }
+    if indices.len() < m {
+        return write_refusal(out, 52);
+    }
+    finish_body(
+        rows,
+        front_floats(positions, n),
+        &mut normals[..n],
+        &mut indices[..m],
+        sag,
+        reference,
+        materials,
+        default,
+        out,
+    )
+}
+
+// The floats made, the indices copied, and the body finished.
+fn answer_body(
+    s: Reader,
+    table: &[u32],
+    positions: &[u32],
+    normals: &[u32],
+    indices: &[u32],
+    materials: &[u64],
+    out: &mut [u8],
+) -> usize
+    requires { ⌜ Limited s (length (now table)) (length (now positions)) (length (now normals)) (length (now indices)) (length (now materials)) ⌝ }
+    ensures { λ r. ⌜ Told (now (out .entry)) (printed (finish (meant (patternsOf (lent s (now (table .entry)) (now (positions .entry)) (now (normals .entry)) (now (indices .entry)) (now (materials .entry))))))) (now (out .exit)) r ⌝ }
+{
+    let n = 3 * s.vertices;
+    let k = 5 * s.rows;
+    let m = s.indices;
+    let mut body_positions = [0.0f32; 288];
+    let mut body_normals = [0.0f32; 288];
+    let mut body_indices = [0u32; 96];
+    floats_of(front(positions, n), &mut body_positions);
+    floats_of(front(normals, n), &mut body_normals);
+    copy(front(indices, m), &mut body_indices);
+    finish_fronts(
+        front(table, k),
+        &body_positions,
+        &mut body_normals,
+        &mut body_indices,
+        n,
+        m,
+        sag_of(s),
+        box_of(s),
+        front_long(materials, 64),
+        s.default,
+        out,
+    )
+}
+
+// What the program prints of a sheet that was read, cut off where `out` ends; answers how many bytes were written. A reader that counts more than the limits
+// is refused with 52.
+pub fn answer_sheet(
+    s: Reader,
+    table: &[u32],
+    positions: &[u32],
+    normals: &[u32],
+    indices: &[u32],
+    materials: &[u64],
+    out: &mut [u8],
+) -> usize
+    ensures { λ r. ⌜ Told (now (out .entry)) (answerIn (lent s (now (table .entry)) (now (positions .entry)) (now (normals .entry)) (now (indices .entry)) (now (materials .entry)))) (now (out .exit)) r ⌝ }
+{
+    let refusal = s.refusal;
+    if refusal != 0 {
+        return write_refusal(out, refusal);
+    }
+    if !in_limits(
+        s,
+        table.len(),
+        positions.len(),
+        normals.len(),
+        indices.len(),
+        materials.len(),
+    ) {
+        return write_refusal(out, 52);
+    }
+    answer_body(s, table, positions, normals, indices, materials, out)
+}

@@ -1,0 +1,169 @@
+-- The checks of a body and of a patch alone, put together from their parts. Assumes nothing.
+use mathlib.Core.Path.{_≡_, refl, sym, ap, _∙_}
+use mathlib.Core.Bool.{Bool, true, false, not, _||_}
+use mathlib.Core.List.{List, [], _∷_, _++_, append-assoc}
+use Prim.Native.Nat.{ℕ, _*_, _/_, _%_, _≤_, _<_}
+use native.Mathlib.Omega.{arith}
+use lib.ListN.{length}
+use lib.Dec.{leb, ltb, eqb}
+use lib.Ieee.{Float}
+use borrow.Author.Tests.{eq-eqb, ne-eqb, lt-ltb, le-ltb, ltb-false}
+use Rattle.lists.specs.Lists.{any, all}
+use Rattle.lists.specs.Any.{any-one}
+use Rattle.body_table_checks.specs.Tabled.{Tabled, tabled}
+use Rattle.body_checks.specs.Accepted.{lone-vertices, lone-indices, lone-inside}
+use Rattle.body_rows.specs.Body.{Row, Patch, check, rowsOf, patchesOf, allVertices, allIndices, firstFailing, workNeeded}
+use Rattle.body_refusals.specs.TableChecks.{badRow, tooLarge, tableChecks}
+use Rattle.body_refusals.specs.PatchChecks.{badIndices, patchChecks}
+use Rattle.body_refusals.specs.BodyChecks.{bodyChecks, loneTable, loneChecks}
+use Rattle.body_table_checks.specs.TableTests.{notWhole}
+use Rattle.body_patch_checks.specs.PatchTests.{partTriangle, notFinite, any-indices}
+use Rattle.body_rows.specs.Checks.{numbered, first-here, first-next, first-none, first-stop, first-on}
+use Rattle.lists.specs.Both.{or-left, or-right}
+use Rattle.body_rows.specs.Rows.{Total, WholeRows}
+use Rattle.body_table_checks.specs.TableFirst as Table
+use Rattle.body_patch_checks.specs.PatchFirst as Patch′
+
+-- ---- every check has a number above 0
+table-numbered : (table : List ℕ) (rows : List Row) (ps ns : List Float) (is : List ℕ) → all numbered (tableChecks table rows ps ns is) ≡ true
+unfolding tableChecks all
+table-numbered table rows ps ns is = refl
+
+-- and of the patches
+patch-numbered : (patches : List Patch) → all numbered (patchChecks patches) ≡ true
+unfolding patchChecks all
+patch-numbered patches = refl
+
+-- ---- the checks of the table have passed
+pub table-passed : (table : List ℕ) (ps ns : List Float) (is : List ℕ) {t : ℕ} → t ≡ firstFailing (tableChecks table (rowsOf table) ps ns is) → t ≡ 0 → Tabled table ps ns is
+table-passed table ps ns is e z = tabled table ps ns is (sym e ∙ z)
+
+-- so the table is whole rows
+pub rows-passed : (table : List ℕ) (ps ns : List Float) (is : List ℕ) {t : ℕ} → t ≡ firstFailing (tableChecks table (rowsOf table) ps ns is) → t ≡ 0 → WholeRows table
+rows-passed table ps ns is e z = tabled table ps ns is (sym e ∙ z) .rows
+
+-- ---- a body
+module _ (table : List ℕ) (ps ns : List Float) (is : List ℕ) (words : ℕ) {t : ℕ} (et : t ≡ firstFailing (tableChecks table (rowsOf table) ps ns is)) where
+  -- a check of the table fails
+  pub body-table : (t ≡ 0 → ⊥) → t ≡ firstFailing (bodyChecks table ps ns is words)
+  unfolding bodyChecks
+  body-table h = et ∙ first-stop (tableChecks table (rowsOf table) ps ns is) _ (λ z. h (et ∙ z)) ∙ ap firstFailing (sym (append-assoc (tableChecks table (rowsOf table) ps ns is) _ _))
+
+  module _ (zt : t ≡ 0) {p : ℕ} (ep : p ≡ firstFailing (patchChecks (patchesOf (rowsOf table) ps ns is))) where
+    -- none does: the rest decides
+    on-table : firstFailing (patchChecks (patchesOf (rowsOf table) ps ns is) ++ check 31 (ltb words (workNeeded (rowsOf table))) ∷ []) ≡ firstFailing (bodyChecks table ps ns is words)
+    unfolding bodyChecks
+    on-table =
+        first-on (tableChecks table (rowsOf table) ps ns is) _ (table-numbered table (rowsOf table) ps ns is) (sym et ∙ zt)
+        ∙ ap firstFailing (sym (append-assoc (tableChecks table (rowsOf table) ps ns is) _ _))
+
+    -- a check of the patches fails
+    pub body-patch : (p ≡ 0 → ⊥) → p ≡ firstFailing (bodyChecks table ps ns is words)
+    body-patch h = ep ∙ first-stop (patchChecks (patchesOf (rowsOf table) ps ns is)) _ (λ z. h (ep ∙ z)) ∙ on-table
+
+    module _ (zp : p ≡ 0) {w : ℕ} (ew : w ≡ workNeeded (rowsOf table)) where
+      -- none does: the words decide
+      on-patch : firstFailing (check 31 (ltb words (workNeeded (rowsOf table))) ∷ []) ≡ firstFailing (bodyChecks table ps ns is words)
+      on-patch = first-on (patchChecks (patchesOf (rowsOf table) ps ns is)) _ (patch-numbered (patchesOf (rowsOf table) ps ns is)) (sym ep ∙ zp) ∙ on-table
+
+      -- the work area is too small
+      pub body-words : words < w → 31 ≡ firstFailing (bodyChecks table ps ns is words)
+      body-words h = first-here 31 [] (ap (ltb words) (sym ew) ∙ lt-ltb words w h) ∙ on-patch
+
+      -- it is large enough
+      pub body-none : w ≤ words → 0 ≡ firstFailing (bodyChecks table ps ns is words)
+      body-none h = first-none ∙ first-next 31 [] (ap (ltb words) (sym ew) ∙ le-ltb words w h) ∙ on-patch
+
+-- ---- a patch alone
+module _ (ps ns : List Float) (is : List ℕ) where
+  -- its table is one whole row
+  lone-whole : false ≡ notWhole (loneTable ps is)
+  unfolding loneTable rowsOf
+  lone-whole = refl
+
+  -- the row is of a patch
+  lone-good : false ≡ any badRow (rowsOf (loneTable ps is))
+  unfolding loneTable rowsOf any badRow
+  lone-good = refl
+
+  -- its triangles are whole if the indices are a multiple of 3
+  lone-parts : not (eqb (length is % 3) 0) ≡ any partTriangle (rowsOf (loneTable ps is))
+  unfolding loneTable rowsOf
+  lone-parts = sym (any-one partTriangle _)
+
+  -- its indices are all of the indices
+  inside-is : any (λ i. leb (length ps / 3) i) is ≡ any badIndices (patchesOf (rowsOf (loneTable ps is)) [] [] is)
+  inside-is = sym (lone-inside ps ns is) ∙ any-indices (rowsOf (loneTable ps is)) ps ns is
+
+  module _ {d : Bool} (ed : d ≡ tooLarge (length ps / 3) (length is)) where
+    -- its counts are those of the slices
+    large-is : d ≡ tooLarge (allVertices (rowsOf (loneTable ps is))) (allIndices (rowsOf (loneTable ps is)))
+    large-is = ed ∙ sym (λ j. tooLarge (lone-vertices ps ns is j) (lone-indices ps ns is j))
+
+    -- they are too large
+    pub lone-13 : d ≡ true → 13 ≡ firstFailing (tableChecks (loneTable ps is) (rowsOf (loneTable ps is)) ps ns is)
+    lone-13 h = Table.fails-13 (loneTable ps is) ps ns is lone-whole refl lone-good refl large-is h
+
+    module _ (pd : d ≡ false) where
+      -- neither count is too large
+      large-not : (ltb 262144 (length ps / 3) || ltb 786432 (length is)) ≡ false
+      unfolding tooLarge
+      large-not = sym ed ∙ pd
+
+      -- the vertices as a total
+      vertices-total : Total (allVertices (rowsOf (loneTable ps is))) (length ps / 3)
+      vertices-total = record { is = sym (lone-vertices ps ns is); small = omega (arith, ltb-false 262144 (length ps / 3) (or-left (ltb 262144 (length ps / 3)) (ltb 786432 (length is)) large-not)) }
+
+      -- the indices as a total
+      indices-total : Total (allIndices (rowsOf (loneTable ps is))) (length is)
+      indices-total = record { is = sym (lone-indices ps ns is); small = omega (arith, ltb-false 786432 (length is) (or-right (ltb 262144 (length ps / 3)) (ltb 786432 (length is)) large-not)) }
+
+      -- the positions are no multiple of 3
+      pub lone-positions : (length ps ≡ 3 * (length ps / 3) → ⊥) → 14 ≡ firstFailing (tableChecks (loneTable ps is) (rowsOf (loneTable ps is)) ps ns is)
+      lone-positions h =
+          Table.fails-14 (loneTable ps is) ps ns is lone-whole refl lone-good refl large-is pd (Table.lengths-positions (rowsOf (loneTable ps is)) ps ns is vertices-total h) refl
+
+      -- the normals are not as many
+      pub lone-normals : length ps ≡ 3 * (length ps / 3) → (length ns ≡ 3 * (length ps / 3) → ⊥) → 14 ≡ firstFailing (tableChecks (loneTable ps is) (rowsOf (loneTable ps is)) ps ns is)
+      lone-normals e h =
+          Table.fails-14 (loneTable ps is) ps ns is lone-whole refl lone-good refl large-is pd (Table.lengths-normals (rowsOf (loneTable ps is)) ps ns is vertices-total e h) refl
+
+      -- the slices have their lengths
+      pub lone-lengths : length ps ≡ 3 * (length ps / 3) → length ns ≡ 3 * (length ps / 3) → 0 ≡ firstFailing (tableChecks (loneTable ps is) (rowsOf (loneTable ps is)) ps ns is)
+      lone-lengths e f =
+          Table.fails-none (loneTable ps is) ps ns is lone-whole refl lone-good refl large-is pd
+          (Table.lengths-indices (rowsOf (loneTable ps is)) ps ns is vertices-total e f indices-total) (ap not (eq-eqb (length is) (length is) refl))
+
+  module _ (ok : Tabled (loneTable ps is) ps ns is) where
+    -- the indices are no multiple of 3
+    pub lone-21 : (length is % 3 ≡ 0 → ⊥) → 21 ≡ firstFailing (patchChecks (patchesOf (rowsOf (loneTable ps is)) ps ns is))
+    lone-21 h = Patch′.fails-21 (loneTable ps is) ps ns is ok lone-parts (ap not (ne-eqb (length is % 3) 0 h))
+
+    module _ (three : length is % 3 ≡ 0) {b : Bool} (eb : b ≡ any (λ i. leb (length ps / 3) i) is) where
+      -- they are
+      whole-triangles : not (eqb (length is % 3) 0) ≡ false
+      whole-triangles = ap not (eq-eqb (length is % 3) 0 three)
+
+      -- an index is too high
+      pub lone-22 : b ≡ true → 22 ≡ firstFailing (patchChecks (patchesOf (rowsOf (loneTable ps is)) ps ns is))
+      lone-22 h = Patch′.fails-22 (loneTable ps is) ps ns is ok lone-parts whole-triangles (eb ∙ inside-is) h
+
+      module _ (pb : b ≡ false) {d : Bool} (ed : d ≡ (any notFinite ps || any notFinite ns)) where
+        -- a number is not finite
+        pub lone-23 : d ≡ true → 23 ≡ firstFailing (patchChecks (patchesOf (rowsOf (loneTable ps is)) ps ns is))
+        lone-23 h = Patch′.fails-23 (loneTable ps is) ps ns is ok lone-parts whole-triangles (eb ∙ inside-is) pb ed h
+
+        -- all is well
+        pub lone-none : d ≡ false → 0 ≡ firstFailing (patchChecks (patchesOf (rowsOf (loneTable ps is)) ps ns is))
+        lone-none h = Patch′.fails-no-patch (loneTable ps is) ps ns is ok lone-parts whole-triangles (eb ∙ inside-is) pb ed h
+
+  module _ {t : ℕ} (et : t ≡ firstFailing (tableChecks (loneTable ps is) (rowsOf (loneTable ps is)) ps ns is)) where
+    -- a check of the table fails
+    pub lone-table : (t ≡ 0 → ⊥) → t ≡ firstFailing (loneChecks ps ns is)
+    unfolding loneChecks
+    lone-table h = et ∙ first-stop (tableChecks (loneTable ps is) (rowsOf (loneTable ps is)) ps ns is) _ (λ z. h (et ∙ z))
+
+    -- none does: the checks of the patch decide
+    pub lone-patch : {p : ℕ} → t ≡ 0 → p ≡ firstFailing (patchChecks (patchesOf (rowsOf (loneTable ps is)) ps ns is)) → p ≡ firstFailing (loneChecks ps ns is)
+    unfolding loneChecks
+    lone-patch z ep = ep ∙ first-on (tableChecks (loneTable ps is) (rowsOf (loneTable ps is)) ps ns is) _ (table-numbered (loneTable ps is) (rowsOf (loneTable ps is)) ps ns is) (sym et ∙ z)

@@ -1,0 +1,24 @@
+-- The checks that every call begins with, in their order, and those of a patch alone. Assumes nothing.
+use mathlib.Core.List.{List, [], _∷_, _++_}
+use Prim.Native.Nat.{ℕ, _/_}
+use lib.ListN.{length}
+use lib.Dec.{ltb}
+use lib.Ieee.{Float}
+use Rattle.body_rows.specs.Body.{rowsOf, patchesOf, Check, check, workNeeded}
+use Rattle.body_refusals.specs.TableChecks.{tableChecks}
+use Rattle.body_refusals.specs.PatchChecks.{patchChecks}
+
+-- the checks that all three calls begin with: 11 to 23, and 31 for a work area of so many words
+unfoldable pub bodyChecks : List ℕ → List Float → List Float → List ℕ → ℕ → List Check
+bodyChecks table ps ns is words =
+    let rows = rowsOf table in
+    tableChecks table rows ps ns is ++ patchChecks (patchesOf rows ps ns is) ++ check 31 (ltb words (workNeeded rows)) ∷ []
+
+-- A patch asked about alone is a body of one row: this is its table.
+unfoldable pub loneTable : List Float → List ℕ → List ℕ
+loneTable ps is = 0 ∷ 0 ∷ 0 ∷ (length ps / 3) ∷ length is ∷ []
+
+-- A patch alone needs no work area.
+unfoldable pub loneChecks : List Float → List Float → List ℕ → List Check
+loneChecks ps ns is =
+    let rows = rowsOf (loneTable ps is) in tableChecks (loneTable ps is) rows ps ns is ++ patchChecks (patchesOf rows ps ns is)

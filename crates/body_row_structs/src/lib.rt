@@ -1,0 +1,44 @@
+// The face table lent as a slice of rows: how many there are, and one of them.
+
+ghost use mathlib.Core.Path.{_≡_};
+ghost use lib.ListN.{length};
+ghost use Rattle.body_row_structs.specs.FaceRows.{rowAt};
+
+// A row of the face table; an outcome of 0 is a patch, 1 to 255 an upstream failure.
+pub struct Row {
+    pub shell: u32,
+    pub face: u32,
+    pub outcome: u32,
+    pub vertices: u32,
+    pub indices: u32,
+}
+
+// F: how many rows the table has.
+pub fn row_count(rows: &[Row]) -> usize
+    ensures { λ n. ⌜ n ≡ length (now (rows .entry)) ⌝ }
+{
+    rows.len()
+}
+
+// Row k, or a row of zeros past the end.
+pub fn row_at(rows: &[Row], k: usize) -> Row
+    ensures { λ r. ⌜ r ≡ rowAt (now (rows .entry)) k ⌝ }
+{
+    if k < rows.len() {
+        return rows[k];
+    }
+    Row {
+        shell: 0,
+        face: 0,
+        outcome: 0,
+        vertices: 0,
+        indices: 0,
+    }
+}
+
+// The face number of row k, or 0 past the end.
+pub fn face_at(rows: &[Row], k: usize) -> u32
+    ensures { λ f. ⌜ f ≡ rowAt (now (rows .entry)) k .face ⌝ }
+{
+    row_at(rows, k).face
+}

@@ -1,8 +1,0 @@
--- A claim that says `unfolding evaluation` has every definition of this crate and of those below it computed. Assumes nothing.
-use Prim.Native.Nat.{ℕ}
-use Rattle.joining.specs.Join.{indexOf, joined, firstIndex}
-
--- every definition that computes
-unfoldable pub evaluation : ℕ
-unfolding indexOf joined firstIndex
-evaluation = 0

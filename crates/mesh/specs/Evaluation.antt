@@ -1,9 +1,0 @@
--- A claim that says `unfolding evaluation` has every definition of this crate and of those below it computed. Assumes nothing.
-use Prim.Native.Nat.{ℕ}
-use Rattle.acceptance.specs.Evaluation as Acceptance
-use Rattle.mesh.specs.Mesh.{verticesOf, writtenVertices, laidFrom, insertNew, materialsOf, runOf, runsOf, startOf, partOf, rangeOf, rangesFrom}
-
--- every definition that computes
-unfoldable pub evaluation : ℕ
-unfolding Acceptance.evaluation verticesOf writtenVertices laidFrom insertNew materialsOf runOf runsOf startOf partOf rangeOf rangesFrom
-evaluation = 0

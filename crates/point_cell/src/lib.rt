@@ -1,0 +1,76 @@
+// The cell of a coordinate, from the bits of its f32.
+ghost use mathlib.Core.Path.{_≡_};
+ghost use Prim.Native.Nat.{_^_, _<_, min};
+ghost use Rattle.float_round.specs.Integral.{halfUp};
+ghost use Rattle.point_rules.specs.Points as Points;
+use float_steps::bits_of_f32;
+
+// 2^63: no cell is further from zero.
+const LIMIT: u64 = 9223372036854775808;
+
+// The largest cell.
+const LARGEST: i64 = 9223372036854775807;
+
+// n, or 2^63 where that is less.
+fn limited(n: u64) -> u64
+    ensures { λ r. ⌜ r ≡ min n (2 ^ 63) ⌝ }
+{
+    if n < LIMIT { n } else { LIMIT }
+}
+
+// q / 2 to the nearest whole number, a half up.
+fn half_up(q: u64) -> u64
+    requires { ⌜ q < 2 ^ 63 ⌝ }
+    ensures { λ r. ⌜ r ≡ halfUp q 2 ⌝ }
+{
+    (q + 1) / 2
+}
+
+// How far the cell is from zero: the 24 digits of v times 1,000,000 are below 2^44, so that one shift rounds them, a half up.
+fn cell_size(v: f32) -> u64
+    ensures { λ r. ⌜ r ≡ Points.cellSize v ⌝ }
+{
+    let b = bits_of_f32(v) as u64;
+    let e = b % 2147483648 / 8388608;
+    let t = b % 8388608;
+    let a = 1000000 * (8388608 + t);
+    if e < 105 {
+        return 0;
+    }
+    if e < 150 {
+        return half_up(a >> (149 - e));
+    }
+    if e < 171 {
+        return limited(a << (e - 150));
+    }
+    if e == 255 {
+        if t != 0 {
+            return 0;
+        }
+    }
+    LIMIT
+}
+
+// The 64 bits of the cell of v.
+pub fn cell_bits(v: f32) -> u64
+    ensures { λ r. ⌜ r ≡ Points.pattern (Points.cell v) ⌝ }
+{
+    let n = cell_size(v);
+    if bits_of_f32(v) < 2147483648 {
+        if n < LIMIT { n } else { LIMIT - 1 }
+    } else {
+        if n == 0 { 0 } else { u64::MAX - (n - 1) }
+    }
+}
+
+// The whole number nearest 1,000,000 × v, halves away from zero, clamped to signed 64 bits; 0 of a NaN.
+pub fn cell(v: f32) -> i64
+    ensures { λ r. ⌜ r ≡ Points.cell v ⌝ }
+{
+    let n = cell_size(v);
+    if bits_of_f32(v) < 2147483648 {
+        if n < LIMIT { n as i64 } else { LARGEST }
+    } else {
+        if n == 0 { 0 } else { (0 - (n - 1) as i64) - 1 }
+    }
+}

@@ -1,0 +1,164 @@
+-- How long an answer is at the most, by the lengths of the slices that it is printed from. Assumes nothing.
+use mathlib.Core.Bool.{Bool, true, false, cond}
+use mathlib.Core.List.{List, [], _∷_, _++_, map}
+use mathlib.Core.Path.{_≡_, refl, ap}
+use Prim.Native.Nat.{ℕ, zero, suc, _*_, _^_, _≤_}
+use native.Mathlib.Omega.{arith}
+use lib.Dec.{ltb, eqb}
+use lib.Ieee.{Float}
+use lib.ListN.{length, take, length-append, length-map, length-take}
+use Rattle.sheet_digits.specs.Digits.{digits, decimalTo, decimal, hex}
+use Rattle.float_steps.specs.Floats.{bits32}
+use Rattle.sheet_lines.specs.Forms.{Piece, Word, Bits, Number, print, line, numbers, vertexForm, triangleForm}
+use Rattle.sheet_lines.specs.Lengths.{longest}
+use Rattle.sheet_answer_text.specs.declared.Sizes.{Sizes}
+use Rattle.sheet_answer_text.specs.declared.Tallies.{Tallies}
+use Rattle.sheet_answer_rows.specs.Rows.{emptyForm, escapeForm, failureLine, failureLines, threes, upstreamForm, vertexLines}
+use Rattle.sheet_answer_text.specs.Answer.{againstForm, closedForm, countText, edgesForm, meshForm, meshText, okForm, openForm, overForm, partForm, rangeForm, refusalLine, refusedForm, splitForm, turnedForm}
+
+-- ---- numbers
+
+digits-length : (base k n : ℕ) → length (digits base k n) ≡ k
+unfolding digits
+digits-length base zero n = refl
+digits-length base (suc k) n = ap suc (digits-length base k n)
+
+decimal-length : (k n : ℕ) → length (decimalTo k n) ≤ suc k
+unfolding decimalTo
+decimal-length zero n = omega (arith, digits-length 10 1 n)
+decimal-length (suc k) n = go (ltb n (10 ^ suc k)) (decimal-length k n)
+  where
+    go : (b : Bool) → length (decimalTo k n) ≤ suc k → length {A = ℕ} (elim b as (λ x. List ℕ) [ true ↦ decimalTo k n | false ↦ digits 10 (suc (suc k)) n ]) ≤ suc (suc k)
+    go true h = omega arith
+    go false h = omega (arith, digits-length 10 (suc (suc k)) n)
+
+-- ---- lines
+
+print-length : (ps : List Piece) (ns : List ℕ) → length (print ps ns) ≤ longest 20 ps
+unfolding print
+print-length [] ns = omega arith
+print-length (Word w ∷ ps) ns = omega (arith, length-append w (print ps ns), print-length ps ns)
+print-length (Bits k ∷ ps) [] = omega arith
+print-length (Bits k ∷ ps) (n ∷ ns) = omega (arith, length-append (hex k n) (print ps ns), digits-length 16 k n, print-length ps ns)
+print-length (Number ∷ ps) [] = omega arith
+print-length (Number ∷ ps) (n ∷ ns) = omega (arith, length-append (decimal n) (print ps ns), decimal-length 19 n, print-length ps ns)
+
+pub line-length : (ps : List Piece) (ns : List ℕ) → length (line ps ns) ≤ suc (longest 20 ps)
+unfolding line
+line-length ps ns = omega (arith, length-append (print ps ns) (10 ∷ []), print-length ps ns)
+
+-- ---- a line for every row
+
+threes-length : (ps : List Piece) (ns : List ℕ) → longest 20 ps ≤ 70 → 3 * length (threes ps ns) ≤ 71 * length ns
+unfolding threes
+threes-length ps [] h = omega arith
+threes-length ps (a ∷ []) h = omega arith
+threes-length ps (a ∷ b ∷ []) h = omega arith
+threes-length ps (a ∷ b ∷ c ∷ ns) h =
+    omega (arith, length-append (line ps (a ∷ b ∷ c ∷ [])) (threes ps ns), line-length ps (a ∷ b ∷ c ∷ []), threes-length ps ns h)
+
+vertices-length : (ps ns : List ℕ) → 3 * length (vertexLines ps ns) ≤ 66 * length ps
+unfolding vertexLines
+vertices-length [] ns = omega arith
+vertices-length (x ∷ []) ns = omega arith
+vertices-length (x ∷ y ∷ []) ns = omega arith
+vertices-length (x ∷ y ∷ z ∷ ps) [] = omega arith
+vertices-length (x ∷ y ∷ z ∷ ps) (a ∷ []) = omega arith
+vertices-length (x ∷ y ∷ z ∷ ps) (a ∷ b ∷ []) = omega arith
+vertices-length (x ∷ y ∷ z ∷ ps) (a ∷ b ∷ c ∷ ns) =
+    let l : List ℕ = line vertexForm (x ∷ y ∷ z ∷ a ∷ b ∷ c ∷ []) in
+    let few : length l ≤ 66 = line-length vertexForm (x ∷ y ∷ z ∷ a ∷ b ∷ c ∷ []) in
+    omega (arith, length-append l (vertexLines ps ns), vertices-length ps ns)
+
+failure-length : (face n reach span : ℕ) → length (failureLine face n reach span) ≤ 73
+unfolding failureLine
+failure-length face n reach span = go (eqb n 0) (eqb n 256)
+  where
+    go : (b d : Bool) → length {A = ℕ} (elim b as (λ x. List ℕ) [ true ↦ line emptyForm (face ∷ []) | false ↦ elim d as (λ x. List ℕ) [ true ↦ line escapeForm (face ∷ reach ∷ span ∷ []) | false ↦ line upstreamForm (face ∷ n ∷ []) ] ]) ≤ 73
+    go true d = omega (arith, line-length emptyForm (face ∷ []))
+    go false true = omega (arith, line-length escapeForm (face ∷ reach ∷ span ∷ []))
+    go false false = omega (arith, line-length upstreamForm (face ∷ n ∷ []))
+
+failures-length : (ns : List ℕ) → 4 * length (failureLines ns) ≤ 73 * length ns
+unfolding failureLines
+failures-length [] = omega arith
+failures-length (f ∷ []) = omega arith
+failures-length (f ∷ n ∷ []) = omega arith
+failures-length (f ∷ n ∷ r ∷ []) = omega arith
+failures-length (f ∷ n ∷ r ∷ s ∷ rest) = omega (arith, length-append (failureLine f n r s) (failureLines rest), failure-length f n r s, failures-length rest)
+
+-- ---- the whole
+
+-- the mesh's slices are no longer than the program's limits: 192 vertices, 192 indices, and 16 parts, ranges and failures
+pub record MeshInLimits (ps : List Float) (is p r f : List ℕ) : Type 0 where
+  pub positions : length ps ≤ 576
+  pub indices : length is ≤ 192
+  pub parts : length p ≤ 48
+  pub ranges : length r ≤ 48
+  pub failures : length f ≤ 64
+
+count-length : (t : Tallies) → length (countText t) ≤ 240
+unfolding countText numbers
+count-length t =
+    let a = line turnedForm (t .turned ∷ []) in
+    let b = line againstForm (t .against ∷ []) in
+    let c = line splitForm (t .split ∷ []) in
+    let d = line okForm (t .ok ∷ []) in
+    let e = line edgesForm (t .edges ∷ []) in
+    let f = line openForm (t .single ∷ []) in
+    let g = line overForm (t .over ∷ []) in
+    let h = line closedForm (cond (t .closed) 1 0 ∷ []) in
+    omega (
+      arith,
+      length-append a b,
+      length-append (a ++ b) c,
+      length-append (a ++ b ++ c) d,
+      length-append (a ++ b ++ c ++ d) e,
+      length-append (a ++ b ++ c ++ d ++ e) f,
+      length-append (a ++ b ++ c ++ d ++ e ++ f) g,
+      length-append (a ++ b ++ c ++ d ++ e ++ f ++ g) h,
+      line-length turnedForm (t .turned ∷ []),
+      line-length againstForm (t .against ∷ []),
+      line-length splitForm (t .split ∷ []),
+      line-length okForm (t .ok ∷ []),
+      line-length edgesForm (t .edges ∷ []),
+      line-length openForm (t .single ∷ []),
+      line-length overForm (t .over ∷ []),
+      line-length closedForm (cond (t .closed) 1 0 ∷ []),
+    )
+
+mesh-length : (z : Sizes) (ps ns : List Float) (is parts ranges failures : List ℕ) → MeshInLimits ps is parts ranges failures → length (meshText z ps ns is parts ranges failures) ≤ 21000
+unfolding meshText numbers
+mesh-length z ps ns is parts ranges failures v =
+    let n = 3 * z .vertices in
+    let a = line meshForm (z .vertices ∷ z .indices ∷ []) in
+    let b = vertexLines (map bits32 (take n ps)) (map bits32 (take n ns)) in
+    let c = threes partForm (take (3 * z .parts) parts) in
+    let d = threes triangleForm (take (z .indices) is) in
+    let e = threes rangeForm (take (3 * z .ranges) ranges) in
+    let f = failureLines (take (4 * z .failures) failures) in
+    let few-vertices : length b ≤ 12672 = omega (arith, vertices-length (map bits32 (take n ps)) (map bits32 (take n ns)), length-map (take n ps) bits32, length-take n ps, v .positions) in
+    let few-parts : length c ≤ 1136 = omega (arith, threes-length partForm (take (3 * z .parts) parts) (omega arith), length-take (3 * z .parts) parts, v .parts) in
+    let few-triangles : length d ≤ 4544 = omega (arith, threes-length triangleForm (take (z .indices) is) (omega arith), length-take (z .indices) is, v .indices) in
+    let few-ranges : length e ≤ 1136 = omega (arith, threes-length rangeForm (take (3 * z .ranges) ranges) (omega arith), length-take (3 * z .ranges) ranges, v .ranges) in
+    let few-failures : length f ≤ 1168 = omega (arith, failures-length (take (4 * z .failures) failures), length-take (4 * z .failures) failures, v .failures) in
+    omega (
+      arith,
+      length-append a b,
+      length-append (a ++ b) c,
+      length-append (a ++ b ++ c) d,
+      length-append (a ++ b ++ c ++ d) e,
+      length-append (a ++ b ++ c ++ d ++ e) f,
+      line-length meshForm (z .vertices ∷ z .indices ∷ []),
+    )
+
+-- A mesh within the program's limits and its counts are printed in at most 21,504 bytes.
+pub answer-length : (z : Sizes) (ps ns : List Float) (is parts ranges failures : List ℕ) (t : Tallies) → MeshInLimits ps is parts ranges failures
+    → length (meshText z ps ns is parts ranges failures ++ countText t) ≤ 21504
+answer-length z ps ns is parts ranges failures t v =
+    omega (arith, length-append (meshText z ps ns is parts ranges failures) (countText t), mesh-length z ps ns is parts ranges failures v, count-length t)
+
+-- So is a refusal.
+pub refusal-length : (n : ℕ) → length (refusalLine n) ≤ 21504
+unfolding refusalLine numbers
+refusal-length n = omega (arith, line-length refusedForm (n ∷ []))

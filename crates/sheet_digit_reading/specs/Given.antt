@@ -1,0 +1,19 @@
+-- The code's answers as the definitions' own. Assumes nothing.
+use mathlib.Core.Bool.{cond}
+use mathlib.Core.List.{List}
+use mathlib.Core.Option.{Option, none, some}
+use mathlib.Core.Path.{_≡_}
+use Prim.Native.Nat.{ℕ, _<_, _≤_}
+use lib.ListN.{length, drop}
+use Rattle.sheet_digits.specs.Digits.{Found, found}
+use Rattle.sheet_digit_reading.specs.declared.Taken.{Taken}
+
+-- a number that was read from a text and what follows it, or none
+abbrev pub given : List ℕ → Taken → Option Found
+given text r = cond (r .ok) (some (found (r .value) (drop (r .next) text))) none
+
+-- r is the number that reading a text found, below a bound, and its place lies in the text
+pub record Number (text : List ℕ) (bound : ℕ) (o : Option Found) (r : Taken) : Type 0 where
+  pub is : given text r ≡ o
+  pub small : r .value < bound
+  pub within : r .next ≤ length text

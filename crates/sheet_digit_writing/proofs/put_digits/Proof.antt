@@ -1,0 +1,46 @@
+-- `put_digits` meets its contract. Assumes nothing.
+use Rattle.sheet_digit_writing.proofs.WriteLaws.{wrote-digits}
+use borrow.Author.Needs.{needs}
+use Rattle.sheet_digit_writing.proofs.put_digits.Statement.{statement}
+use Rattle.sheet_digit_writing.proofs.put_digits.Tie as tie
+
+slice-aggregate-fill-digits : tie.Need-slice-aggregate-fill-digits
+slice-aggregate-fill-digits c = search needs
+
+fill-digits-requires : tie.Need-fill-digits-requires
+fill-digits-requires c κs = search needs
+
+sub-from : tie.Need-sub-from
+sub-from c = search needs
+
+sub-put-text : tie.Need-sub-put-text
+sub-put-text c = search needs
+
+part-put-text-start : tie.Need-part-put-text-start
+part-put-text-start c = search needs
+
+part-put-text-end : tie.Need-part-put-text-end
+part-put-text-end c = search needs
+
+put-text-requires : tie.Need-put-text-requires
+put-text-requires c κs = search needs
+
+same-length : tie.Need-same-length
+same-length c = search needs
+
+returns : tie.Need-returns
+returns c = search (needs, wrote-digits)
+
+pub put-digits-spec : {M : Type 1} → statement M
+put-digits-spec =
+    tie.close
+    (tie.spec
+    slice-aggregate-fill-digits
+    fill-digits-requires
+    sub-from
+    sub-put-text
+    part-put-text-start
+    part-put-text-end
+    put-text-requires
+    same-length
+    returns)

@@ -1,0 +1,370 @@
+-- Over slices with room, line by line from the beginning: every line passes the test of room, and what stands in the slices is the definition's state. Assumes nothing.
+use mathlib.Core.Bool.{Bool, true, false, not, _&&_, _||_, cond}
+use mathlib.Core.List.{List, [], _∷_, _++_}
+use mathlib.Core.Option.{Option, none, some}
+use mathlib.Core.Path.{_≡_, refl, sym, _∙_, ap, subst}
+use Prim.Native.Nat.{ℕ, zero, suc, _+_, _-_, _*_, _/_, _%_, _≤_, _<_}
+use native.Mathlib.Omega.{arith}
+use borrow.Author.Tests.{eq-eqb, ne-eqb, le-leb, leb-true, leb-false, eqb-true, lt-ltb}
+use lib.Dec.{leb, ltb, eqb}
+use lib.ListN.{List·getD-append, length, take, drop, set, replicate, length-append, length-set, length-drop}
+use lib.Seq.{getD-append-add, length-take-le, take-at, getD-set-same, getD-set-other}
+use Rattle.sheet_lines.specs.Counted.{countIn, line-count}
+use Rattle.sheet_lines.specs.Forms.{Line, form, lineOf, numbers}
+use Rattle.sheet_lines.specs.declared.Kind.{Kind}
+use Rattle.sheet_lines.specs.declared.Kind.the-variants.{Box, Sag, NoDefault, Default, Material, Face, Vertex, Triangle, Fail}
+use Rattle.sheet_reader_state.specs.declared.Reader.{Reader}
+use Rattle.sheet_line_order.specs.Reading.{Patterns, State, at, finished, lineRefusal, orderOf, passesLimit, raised, readLine, refuse, start, takeUp, withForm, withLine}
+use Rattle.sheet_line_order.specs.Refusals.{Passed, passed}
+use Rattle.sheet_reader_state.specs.Slices.{Lent, ended, fits, fitsIn, inLimits, lastFits, lent, onto, over, readInto, readerOf, refused, stateOf}
+use Rattle.lists.specs.Both.{and-left, or-right}
+
+-- the slices have room for the program's limits
+pub record Room (l : Lent) : Type 0 where
+  pub table : 80 ≤ length (l .table)
+  pub positions : 288 ≤ length (l .positions)
+  pub normals : 288 ≤ length (l .normals)
+  pub indices : 96 ≤ length (l .indices)
+  pub materials : 64 ≤ length (l .materials)
+
+-- a state of whole rows, vertices and triangles within the limits
+pub record Sized (s : State) : Type 0 where
+  pub box : length (s .sheet .box) ≡ 6
+  pub materials : length (s .sheet .materials) ≡ 64
+  pub rows : ℕ
+  pub vertices : ℕ
+  pub triangles : ℕ
+  pub table : length (s .sheet .table) ≡ 5 * rows
+  pub positions : length (s .sheet .positions) ≡ 3 * vertices
+  pub normals : length (s .sheet .normals) ≡ 3 * vertices
+  pub indices : length (s .sheet .indices) ≡ 3 * triangles
+  pub few-rows : rows ≤ 16
+  pub few-vertices : vertices ≤ 96
+  pub few-triangles : triangles ≤ 32
+  pub no-row : rows ≡ 0 → s .place < 4
+  pub last-vertices : at (s .sheet .table) (5 * rows - 2) ≤ vertices
+  pub last-indices : at (s .sheet .table) (5 * rows - 1) ≤ 3 * triangles
+
+-- ---- a line keeps the sizes
+
+pub sized-start : Sized start
+unfolding start
+sized-start =
+    record {
+      box = refl;
+      materials = refl;
+      rows = 0;
+      vertices = 0;
+      triangles = 0;
+      table = refl;
+      positions = refl;
+      normals = refl;
+      indices = refl;
+      few-rows = omega arith;
+      few-vertices = omega arith;
+      few-triangles = omega arith;
+      no-row = λ e. omega arith;
+      last-vertices = omega arith;
+      last-indices = omega arith;
+    }
+
+sized-refuse : (n : ℕ) (s : State) → Sized s → Sized (refuse n s)
+unfolding refuse
+sized-refuse n s v =
+    record {
+      box = v .box;
+      materials = v .materials;
+      rows = v .rows;
+      vertices = v .vertices;
+      triangles = v .triangles;
+      table = v .table;
+      positions = v .positions;
+      normals = v .normals;
+      indices = v .indices;
+      few-rows = v .few-rows;
+      few-vertices = v .few-vertices;
+      few-triangles = v .few-triangles;
+      no-row = v .no-row;
+      last-vertices = v .last-vertices;
+      last-indices = v .last-indices;
+    }
+
+-- a row behind the table: its counts are 0
+module _ (T row : List ℕ) (rows : ℕ) (e : length T ≡ 5 * rows) where
+  row-at : (back i : ℕ) → 5 * (rows + 1) - back ≡ 5 * rows + i → at (T ++ row) (5 * (rows + 1) - back) ≡ at row i
+  row-at back i q = ap (at (T ++ row)) (q ∙ ap (λ (n : ℕ). n + i) (sym e)) ∙ getD-append-add T row i 0
+
+module _ (s : State) (v : Sized s) where
+  -- a line before the faces
+  header : (k : Kind) (x : Patterns) → length (x .box) ≡ 6 → length (x .materials) ≡ 64 → x .table ≡ s .sheet .table → x .positions ≡ s .sheet .positions → x .normals ≡ s .sheet .normals → x .indices ≡ s .sheet .indices → orderOf k .then < 4
+      → Sized (record { refusal = 0; place = orderOf k .then; sheet = x })
+  header k x b m t p n i l =
+      record {
+        box = b;
+        materials = m;
+        rows = v .rows;
+        vertices = v .vertices;
+        triangles = v .triangles;
+        table = ap length t ∙ v .table;
+        positions = ap length p ∙ v .positions;
+        normals = ap length n ∙ v .normals;
+        indices = ap length i ∙ v .indices;
+        few-rows = v .few-rows;
+        few-vertices = v .few-vertices;
+        few-triangles = v .few-triangles;
+        no-row = λ e. l;
+        last-vertices = subst (λ (xs : List ℕ). at xs (5 * v .rows - 2) ≤ v .vertices) (sym t) (v .last-vertices);
+        last-indices = subst (λ (xs : List ℕ). at xs (5 * v .rows - 1) ≤ 3 * v .triangles) (sym t) (v .last-indices);
+      }
+
+  -- a row more
+  row-more : (x : Patterns) (place a b c : ℕ) → x .box ≡ s .sheet .box → x .materials ≡ s .sheet .materials → x .table ≡ s .sheet .table ++ a ∷ b ∷ c ∷ 0 ∷ 0 ∷ [] → x .positions ≡ s .sheet .positions → x .normals ≡ s .sheet .normals → x .indices ≡ s .sheet .indices
+      → (d : Bool) → d || leb 80 (length (s .sheet .table)) ≡ false → Sized (record { refusal = 0; place = place; sheet = x })
+  row-more x place a b c e m t p n i d l =
+      let few : length (s .sheet .table) < 80 = leb-false 80 (length (s .sheet .table)) (or-right d (leb 80 (length (s .sheet .table))) l) in
+      let row : List ℕ = a ∷ b ∷ c ∷ 0 ∷ 0 ∷ [] in
+      let three : 5 * (v .rows + 1) - 2 ≡ 5 * v .rows + 3 = omega arith in
+      let four : 5 * (v .rows + 1) - 1 ≡ 5 * v .rows + 4 = omega arith in
+      record {
+        box = ap length e ∙ v .box;
+        materials = ap length m ∙ v .materials;
+        rows = v .rows + 1;
+        vertices = v .vertices;
+        triangles = v .triangles;
+        table = ap length t ∙ length-append (s .sheet .table) row ∙ omega (arith, v .table);
+        positions = ap length p ∙ v .positions;
+        normals = ap length n ∙ v .normals;
+        indices = ap length i ∙ v .indices;
+        few-rows = omega (arith, v .table);
+        few-vertices = v .few-vertices;
+        few-triangles = v .few-triangles;
+        no-row = λ z. absurd (omega arith);
+        last-vertices = omega (arith, ap (λ (xs : List ℕ). at xs (5 * (v .rows + 1) - 2)) t ∙ row-at (s .sheet .table) row (v .rows) (v .table) 2 3 three);
+        last-indices = omega (arith, ap (λ (xs : List ℕ). at xs (5 * (v .rows + 1) - 1)) t ∙ row-at (s .sheet .table) row (v .rows) (v .table) 1 4 four);
+      }
+
+  -- a row has been read where a vertex or a triangle may stand
+  some-row : 3 < s .place → 0 < v .rows
+  some-row h = go (v .rows) refl
+    where
+      go : (n : ℕ) → v .rows ≡ n → 0 < v .rows
+      go zero e = absurd (omega (arith, v .no-row e))
+      go (suc n) e = omega arith
+
+  -- the last row's counts, one of them raised
+  module _ (row : 0 < v .rows) where
+    abbrev table : List ℕ
+    table = s .sheet .table
+
+    raised-length : (back n : ℕ) → length (raised back n table) ≡ length table
+    unfolding raised
+    raised-length back n = length-set table (length table - back) (at table (length table - back) + n)
+
+    raised-there : (back n : ℕ) → 0 < back → back ≤ 5 → at (raised back n table) (5 * v .rows - back) ≡ at table (5 * v .rows - back) + n
+    unfolding raised
+    raised-there back n p few =
+        let e : length table ≡ 5 * v .rows = v .table in
+        ap (λ (i : ℕ). at (set table (i - back) (at table (i - back) + n)) (5 * v .rows - back)) e
+        ∙ getD-set-same table (5 * v .rows - back) (at table (5 * v .rows - back) + n) 0 (omega arith)
+
+    raised-other : (back n other : ℕ) → (5 * v .rows - other ≡ 5 * v .rows - back → ⊥) → at (raised back n table) (5 * v .rows - other) ≡ at table (5 * v .rows - other)
+    unfolding raised
+    raised-other back n other ne =
+        ap (λ (i : ℕ). at (set table (i - back) (at table (i - back) + n)) (5 * v .rows - other)) (v .table)
+        ∙ getD-set-other table (5 * v .rows - back) (5 * v .rows - other) (at table (5 * v .rows - back) + n) 0 ne
+
+  vertex-more : (ns : List ℕ) → length ns ≡ 6 → 3 < s .place → leb 288 (length (s .sheet .positions)) ≡ false → Sized (record { refusal = 0; place = 4; sheet = withLine Vertex ns (s .sheet) })
+  unfolding withLine
+  vertex-more ns six far l =
+      let row : 0 < v .rows = some-row far in
+      let few : length (s .sheet .positions) < 288 = leb-false 288 (length (s .sheet .positions)) l in
+      let front : length (take 3 ns) ≡ 3 = length-take-le 3 ns (omega arith) in
+      let back : length (drop 3 ns) ≡ 3 = length-drop 3 ns ∙ omega arith in
+      record {
+        box = v .box;
+        materials = v .materials;
+        rows = v .rows;
+        vertices = v .vertices + 1;
+        triangles = v .triangles;
+        table = raised-length row 2 1 ∙ v .table;
+        positions = length-append (s .sheet .positions) (take 3 ns) ∙ omega (arith, v .positions);
+        normals = length-append (s .sheet .normals) (drop 3 ns) ∙ omega (arith, v .normals);
+        indices = v .indices;
+        few-rows = v .few-rows;
+        few-vertices = omega (arith, v .positions);
+        few-triangles = v .few-triangles;
+        no-row = λ z. absurd (omega arith);
+        last-vertices = omega (arith, raised-there row 2 1 (omega arith) (omega arith), v .last-vertices);
+        last-indices = omega (arith, raised-other row 2 1 1 (λ q. omega arith), v .last-indices);
+      }
+
+  triangle-more : (ns : List ℕ) → length ns ≡ 3 → 3 < s .place → leb 96 (length (s .sheet .indices)) ≡ false → Sized (record { refusal = 0; place = 5; sheet = withLine Triangle ns (s .sheet) })
+  unfolding withLine
+  triangle-more ns three far l =
+      let row : 0 < v .rows = some-row far in
+      let few : length (s .sheet .indices) < 96 = leb-false 96 (length (s .sheet .indices)) l in
+      record {
+        box = v .box;
+        materials = v .materials;
+        rows = v .rows;
+        vertices = v .vertices;
+        triangles = v .triangles + 1;
+        table = raised-length row 1 3 ∙ v .table;
+        positions = v .positions;
+        normals = v .normals;
+        indices = length-append (s .sheet .indices) ns ∙ omega (arith, v .indices);
+        few-rows = v .few-rows;
+        few-vertices = v .few-vertices;
+        few-triangles = omega (arith, v .indices);
+        no-row = λ z. absurd (omega arith);
+        last-vertices = omega (arith, raised-other row 1 3 2 (λ q. omega arith), v .last-vertices);
+        last-indices = omega (arith, raised-there row 1 3 (omega arith) (omega arith), v .last-indices);
+      }
+
+  sized-take : (k : Kind) (ns : List ℕ) → length ns ≡ countIn (form k) → Passed (record { kind = k; numbers = ns }) s → Sized (takeUp s (record { kind = k; numbers = ns }))
+  unfolding takeUp withLine countIn form numbers passesLimit
+  sized-take Box ns c p = header Box (withLine Box ns (s .sheet)) c (v .materials) refl refl refl refl (omega arith)
+  sized-take Sag ns c p = header Sag (withLine Sag ns (s .sheet)) (v .box) (v .materials) refl refl refl refl (omega arith)
+  sized-take NoDefault ns c p = header NoDefault (withLine NoDefault ns (s .sheet)) (v .box) (v .materials) refl refl refl refl (omega arith)
+  sized-take Default ns c p = header Default (withLine Default ns (s .sheet)) (v .box) (v .materials) refl refl refl refl (omega arith)
+  sized-take Material ns c p = header Material (withLine Material ns (s .sheet)) (v .box) (length-set (s .sheet .materials) (at ns 0) (at ns 1 + 1) ∙ v .materials) refl refl refl refl (omega arith)
+  sized-take Face ns c p = row-more (withLine Face ns (s .sheet)) 4 (at ns 0) (at ns 1) 0 refl refl refl refl refl refl (ltb 63 (at ns 1)) (p .limit)
+  sized-take Vertex ns c p = vertex-more ns c (omega (arith, leb-true 4 (s .place) (and-left (leb 4 (s .place)) (leb (s .place) 4) (p .order)))) (p .limit)
+  sized-take Triangle ns c p = triangle-more ns c (omega (arith, leb-true 4 (s .place) (and-left (leb 4 (s .place)) (leb (s .place) 5) (p .order)))) (p .limit)
+  sized-take Fail ns c p = row-more (withLine Fail ns (s .sheet)) 6 (at ns 0) (at ns 1) (at ns 2) refl refl refl refl refl refl (ltb 63 (at ns 1)) (p .limit)
+
+  sized-form : (l : Line) → length (l .numbers) ≡ countIn (form (l .kind)) → Sized (withForm s l)
+  unfolding withForm
+  sized-form l c = go (eqb (lineRefusal l s) 0) refl
+    where
+      go : (b : Bool) → eqb (lineRefusal l s) 0 ≡ b → Sized (elim b as (λ x. State) [ true ↦ takeUp s l | false ↦ refuse (lineRefusal l s) s ])
+      go true q = sized-take (l .kind) (l .numbers) c (passed l s (eqb-true (lineRefusal l s) 0 q))
+      go false q = sized-refuse (lineRefusal l s) s v
+
+  pub sized-line : (xs : List ℕ) → Sized (readLine s xs)
+  unfolding readLine
+  sized-line xs = go (eqb (s .refusal) 0) (lineOf xs) refl
+    where
+      go : (b : Bool) (o : Option Line) → lineOf xs ≡ o → Sized (elim b as (λ x. State) [ true ↦ elim o as (λ x. State) [ none ↦ refuse 51 s | some l ↦ withForm s l ] | false ↦ s ])
+      go true none q = sized-refuse 51 s v
+      go true (some l) q = sized-form l (line-count xs l q)
+      go false o q = v
+
+-- ---- a state of such sizes in the slices
+
+-- at least as long as the slice was
+onto-long : (n : ℕ) (xs former : List ℕ) → n ≤ length former → n ≤ length (onto xs former)
+onto-long n xs former h = omega (arith, length-append xs (drop (length xs) former), length-drop (length xs) former)
+
+-- what stands in the front
+onto-at : (xs former : List ℕ) (i : ℕ) → i < length xs → at (onto xs former) i ≡ at xs i
+onto-at xs former i h = List·getD-append xs (drop (length xs) former) 0 i h
+
+onto-front : (xs former : List ℕ) (n : ℕ) → length xs ≡ n → take n (onto xs former) ≡ xs
+onto-front xs former n e = take-at xs (drop (length xs) former) n e
+
+six-of : (xs : List ℕ) → length xs ≡ 6 → at xs 0 ∷ at xs 1 ∷ at xs 2 ∷ at xs 3 ∷ at xs 4 ∷ at xs 5 ∷ [] ≡ xs
+six-of (a ∷ b ∷ c ∷ d ∷ e ∷ f ∷ []) h = refl
+six-of [] h = absurd (omega arith)
+six-of (a ∷ []) h = absurd (omega arith)
+six-of (a ∷ b ∷ []) h = absurd (omega arith)
+six-of (a ∷ b ∷ c ∷ []) h = absurd (omega arith)
+six-of (a ∷ b ∷ c ∷ d ∷ []) h = absurd (omega arith)
+six-of (a ∷ b ∷ c ∷ d ∷ e ∷ []) h = absurd (omega arith)
+six-of (a ∷ b ∷ c ∷ d ∷ e ∷ f ∷ g ∷ xs) h = absurd (omega arith)
+
+same-patterns : {b b' m m' t t' p p' n n' i i' : List ℕ} (sag default : ℕ) → b ≡ b' → m ≡ m' → t ≡ t' → p ≡ p' → n ≡ n' → i ≡ i'
+    → _≡_ {A = Patterns} (record { box = b; sag = sag; default = default; materials = m; table = t; positions = p; normals = n; indices = i }) (record { box = b'; sag = sag; default = default; materials = m'; table = t'; positions = p'; normals = n'; indices = i' })
+same-patterns sag default eb em et ep en ei = cc
+
+module _ (l : Lent) (room : Room l) (s : State) (v : Sized s) where
+  -- The slices hold the state.
+  pub state-over : stateOf (over l s) ≡ s
+  state-over =
+      let x : Patterns = s .sheet in
+      let rows : 5 * (length (x .table) / 5) ≡ length (x .table) = omega (arith, v .table) in
+      let vertices : 3 * (length (x .positions) / 3) ≡ length (x .positions) = omega (arith, v .positions) in
+      let as-many : 3 * (length (x .positions) / 3) ≡ length (x .normals) = omega (arith, v .positions, v .normals) in
+      ap (λ (y : Patterns). record { refusal = s .refusal; place = s .place; sheet = y })
+      (same-patterns (x .sag) (x .default) (six-of (x .box) (v .box)) (onto-front (x .materials) (l .materials) 64 (v .materials)) (onto-front (x .table) (l .table) (5 * (length (x .table) / 5)) (sym rows)) (onto-front (x .positions) (l .positions) (3 * (length (x .positions) / 3)) (sym vertices)) (onto-front (x .normals) (l .normals) (3 * (length (x .positions) / 3)) (sym as-many)) (onto-front (x .indices) (l .indices) (length (x .indices)) refl))
+
+  last-over : (rows : ℕ) → rows ≡ v .rows → lastFits (s .place) rows (onto (s .sheet .table) (l .table)) ≡ true
+  last-over zero e = lt-ltb (s .place) 4 (v .no-row (sym e))
+  last-over (suc n) e =
+      let T : List ℕ = s .sheet .table in
+      let long : length T ≡ 5 * suc n = v .table ∙ ap (λ (k : ℕ). 5 * k) (sym e) in
+      let a : at (onto T (l .table)) (5 * suc n - 2) ≤ 96 = omega (arith, onto-at T (l .table) (5 * suc n - 2) (omega arith), v .last-vertices, v .few-vertices, ap (λ (k : ℕ). at T (5 * k - 2)) e) in
+      let b : at (onto T (l .table)) (5 * suc n - 1) ≤ 96 = omega (arith, onto-at T (l .table) (5 * suc n - 1) (omega arith), v .last-indices, v .few-triangles, ap (λ (k : ℕ). at T (5 * k - 1)) e) in
+      rw (ne-eqb (suc n) 0 (λ q. omega arith), le-leb (at (onto T (l .table)) (5 * suc n - 2)) 96 a, le-leb (at (onto T (l .table)) (5 * suc n - 1)) 96 b)
+
+  -- They pass the test of room again.
+  pub fits-over : fits (over l s) ≡ true
+  unfolding fitsIn inLimits
+  fits-over =
+      let x : Patterns = s .sheet in
+      let rows : length (x .table) / 5 ≤ 16 = omega (arith, v .table, v .few-rows) in
+      let vertices : length (x .positions) / 3 ≤ 96 = omega (arith, v .positions, v .few-vertices) in
+      let indices : length (x .indices) ≤ 96 = omega (arith, v .indices, v .few-triangles) in
+      let whole : length (x .indices) % 3 ≡ 0 = omega (arith, v .indices) in
+      rw (le-leb 80 (length (onto (x .table) (l .table))) (onto-long 80 (x .table) (l .table) (room .table)), le-leb 288 (length (onto (x .positions) (l .positions))) (onto-long 288 (x .positions) (l .positions) (room .positions)), le-leb 288 (length (onto (x .normals) (l .normals))) (onto-long 288 (x .normals) (l .normals) (room .normals)), le-leb 96 (length (onto (x .indices) (l .indices))) (onto-long 96 (x .indices) (l .indices) (room .indices)), le-leb 64 (length (onto (x .materials) (l .materials))) (onto-long 64 (x .materials) (l .materials) (room .materials)), le-leb (length (x .table) / 5) 16 rows, le-leb (length (x .positions) / 3) 96 vertices, le-leb (length (x .indices)) 96 indices, eq-eqb (length (x .indices) % 3) 0 whole)
+      (last-over (length (x .table) / 5) (omega (arith, v .table)))
+
+  room-over : Room (over l s)
+  room-over =
+      let x : Patterns = s .sheet in
+      record {
+        table = onto-long 80 (x .table) (l .table) (room .table);
+        positions = onto-long 288 (x .positions) (l .positions) (room .positions);
+        normals = onto-long 288 (x .normals) (l .normals) (room .normals);
+        indices = onto-long 96 (x .indices) (l .indices) (room .indices);
+        materials = onto-long 64 (x .materials) (l .materials) (room .materials);
+      }
+
+-- ---- line by line
+
+-- the slices have room and hold a state of such sizes
+pub record Kept (l : Lent) (s : State) : Type 0 where
+  pub room : Room l
+  pub sized : Sized s
+  pub same : stateOf l ≡ s
+  pub fit : fits l ≡ true
+
+-- A line read into the slices is the line read, and the slices pass the test of room again.
+pub kept-line : (l : Lent) (s : State) (xs : List ℕ) → Kept l s → Kept (readInto l xs) (readLine s xs)
+unfolding readInto readLine
+kept-line l s xs k = go (eqb (s .refusal) 0) refl
+  where
+    first : l .reader .refusal ≡ s .refusal
+    first = ap (λ (t : State). t .refusal) (k .same)
+
+    go : (b : Bool) → eqb (s .refusal) 0 ≡ b → Kept (readInto l xs) (readLine s xs)
+    go true q =
+        let into : readInto l xs ≡ over l (readLine s xs) = rw (ap (λ (n : ℕ). eqb n 0) first ∙ q, k .fit, readInto) (ap (λ (t : State). over l (readLine t xs)) (k .same)) in
+        let sized : Sized (readLine s xs) = sized-line s (k .sized) xs in
+        subst (λ (m : Lent). Kept m (readLine s xs)) (sym into) (record { room = room-over l (k .room) (readLine s xs) sized; sized = sized; same = state-over l (k .room) (readLine s xs) sized; fit = fits-over l (k .room) (readLine s xs) sized })
+    go false q =
+        let into : readInto l xs ≡ l = rw (ap (λ (n : ℕ). eqb n 0) first ∙ q, readInto) in
+        let line : readLine s xs ≡ s = rw (q, readLine) in
+        subst (λ (m : Lent). Kept m (readLine s xs)) (sym into) (subst (λ (t : State). Kept l t) (sym line) k)
+
+fits-begin : (T P N I M : List ℕ) → Room (lent (readerOf start) T P N I M) → fits (lent (readerOf start) T P N I M) ≡ true
+unfolding fitsIn inLimits start
+fits-begin T P N I M room =
+    rw (le-leb 80 (length T) (room .table), le-leb 288 (length P) (room .positions), le-leb 288 (length N) (room .normals), le-leb 96 (length I) (room .indices), le-leb 64 (length M) (room .materials))
+
+-- The slices that `begin` leaves hold the state before the first line.
+pub kept-begin : (T P N I M : List ℕ) → Room (lent (readerOf start) T P N I M) → take 64 M ≡ replicate 64 0 → Kept (lent (readerOf start) T P N I M) start
+unfolding start
+kept-begin T P N I M room e =
+    let l : Lent = lent (readerOf start) T P N I M in
+    let same : stateOf l ≡ start = ap (λ (ms : List ℕ). record { refusal = 0; place = 0; sheet = record { box = replicate 6 0; sag = 0; default = 0; materials = ms; table = []; positions = []; normals = []; indices = [] } }) e in
+    record { room = room; sized = sized-start; same = same; fit = fits-begin T P N I M room }
+
+-- The end of the sheet is the definition's.
+pub ended-state : (r : Reader) (T P N I M rest : List ℕ) → stateOf (lent (ended r rest) T P N I M) ≡ finished (stateOf (lent r T P N I M)) rest
+unfolding ended finished refuse
+ended-state r T P N I M rest = go (eqb (r .refusal) 0 && not (eqb (length rest) 0 && leb 3 (r .place)))
+  where
+    go : (b : Bool) → stateOf (lent (cond b (refused 51 r) r) T P N I M) ≡ cond b (refuse 51 (stateOf (lent r T P N I M))) (stateOf (lent r T P N I M))
+    go true = refl
+    go false = refl

@@ -1,0 +1,15 @@
+-- Three and four stores, one behind the other. Assumes nothing.
+use mathlib.Core.List.{List, [], _∷_}
+use Prim.Native.Nat.{ℕ, _+_, _≤_}
+use native.Mathlib.Omega.{arith}
+use lib.ListN.{length, set}
+use Rattle.lists.specs.Sets.{three-stored, four-stored}
+use Rattle.slice_append.specs.Appended.{Appended, appended-sets}
+
+-- three stores
+pub three-stores : (out : List ℕ) (o a b c : ℕ) → o + 3 ≤ length out → Appended o (a ∷ b ∷ c ∷ []) out (set (set (set out o a) (o + 1) b) (o + 2) c)
+three-stores out o a b c h = appended-sets (omega arith) (three-stored out o a b c)
+
+-- four stores
+pub four-stores : (out : List ℕ) (o a b c d : ℕ) → o + 4 ≤ length out → Appended o (a ∷ b ∷ c ∷ d ∷ []) out (set (set (set (set out o a) (o + 1) b) (o + 2) c) (o + 3) d)
+four-stores out o a b c d h = appended-sets (omega arith) (four-stored out o a b c d)

@@ -1,0 +1,155 @@
+-- Laws of the triangles of one row: their views, and what stands in front of the entries is kept. Assumes nothing.
+use mathlib.Core.Path.{_≡_, refl, sym, ap, _∙_}
+use mathlib.Core.List.{List, [], _∷_}
+use Prim.Native.Nat.{ℕ, suc, _+_, _-_, _*_, _%_, _<_, _≤_}
+use native.Mathlib.Omega.{arith}
+use lib.ListN.{length, getD, take, drop, length-drop}
+use lib.Seq.{length-take-le}
+use lib.Ieee.{Float}
+use Rattle.lists.specs.Lists.{sumOf}
+use Rattle.lists.specs.Stretches.{stretch-three, stretch-kept, front-at, front-less, stretch-three-at}
+use Rattle.body_rows.specs.Body.{trianglesOf}
+use Rattle.stitch_loose_points.specs.Listed.{CornerAt, listed-kept}
+use Rattle.stitch_splits.specs.Entries.{entriesOf, entriesIn}
+use Rattle.stitch_splits.specs.Found.{triangleFound, triangleKept}
+use Rattle.stitch_count.specs.Views.{View, sidesAt, viewOf, rowViews, foundIn, keptIn}
+use Rattle.stitch_count.specs.Counting.{sidesIn, Stands, TriangleReady, TriangleDone, viewsIn, RowReady, RowCounted}
+
+-- as many entries as words
+entries-many : (xs ys : List ℕ) → length xs ≡ length ys → length (entriesOf xs ys) ≡ length xs
+unfolding entriesOf
+entries-many [] ys e = refl
+entries-many (x ∷ xs) [] e = absurd (omega arith)
+entries-many (x ∷ xs) (y ∷ ys) e = ap suc (entries-many xs ys (omega arith))
+
+pub entries-long : (W : List ℕ) (at ts kept : ℕ) → at + kept ≤ length W → ts + kept ≤ length W → length (entriesIn W at ts kept) ≡ kept
+entries-long W at ts kept a b =
+    let x : length (take kept (drop at W)) ≡ kept = length-take-le kept (drop at W) (omega (arith, length-drop at W)) in
+    let y : length (take kept (drop ts W)) ≡ kept = length-take-le kept (drop ts W) (omega (arith, length-drop ts W)) in
+    entries-many (take kept (drop at W)) (take kept (drop ts W)) (x ∙ sym y) ∙ x
+
+-- what stands in front of the entries is kept
+pub stands-kept : {ps : List Float} {sag beyond : Float} {n v list count at ts flags : ℕ} {W E : List ℕ} → Stands ps sag beyond n v list count at ts flags W → take at E ≡ take at W → length E ≡ length W
+    → Stands ps sag beyond n v list count at ts flags E
+stands-kept {ps} {sag} {beyond} {n} {v} {list} {count} {at} {ts} {flags} {W} {E} s e l =
+    record {
+      listed = listed-kept {at = at} (s .listed) (omega (arith, s .flags-behind, s .behind)) e l;
+      few = s .few;
+      all = s .all;
+      flags-behind = s .flags-behind;
+      behind = s .behind;
+      apart = s .apart;
+      room = omega (arith, s .room);
+      small = s .small;
+      far = s .far;
+    }
+
+-- the triangles before index k are counted: W became E
+pub record Counting (ps : List Float) (is : List ℕ) (sag : Float) (v list count at ts flags base from to found kept : ℕ) (W : List ℕ) (total new k : ℕ) (E : List ℕ) : Type 0 where
+  pub aligned : (to - k) % 3 ≡ 0
+  pub low : from ≤ k
+  pub high : k ≤ to
+  pub found-is : total + foundIn (viewsIn ps is sag v list count flags base k to W) ≡ found + foundIn (viewsIn ps is sag v list count flags base from to W)
+  pub kept-is : new + keptIn (viewsIn ps is sag v list count flags base k to W) ≡ kept + keptIn (viewsIn ps is sag v list count flags base from to W)
+  pub found-low : total ≤ 2359296 * k
+  pub kept-low : new ≤ 2359296 * k
+  pub front : take at E ≡ take at W
+  pub rest : drop (ts + 3 * count) E ≡ drop (ts + 3 * count) W
+  pub long : length E ≡ length W
+
+module _ {ps : List Float} {is : List ℕ} {sag beyond : Float} {n v list count at ts flags base vertices from to found kept : ℕ} {W : List ℕ}
+    (g : RowReady ps is sag beyond n v list count at ts flags base vertices from to found kept W) where
+  -- none is counted yet
+  pub counting-none : Counting ps is sag v list count at ts flags base from to found kept W found kept from W
+  counting-none =
+      record { aligned = g .whole; low = omega arith; high = g .ordered; found-is = refl; kept-is = refl; found-low = g .found-low; kept-low = g .kept-low; front = refl; rest = refl; long = refl }
+
+  module _ {total new k : ℕ} {E : List ℕ} (c : Counting ps is sag v list count at ts flags base from to found kept W total new k E) (l : k < to) where
+    pub three : k + 3 ≤ to
+    three = omega (arith, c .aligned)
+
+    corner-at : (j : ℕ) → j < 3 → CornerAt is base v (k + j)
+    corner-at j h = record { inside = omega (arith, three, g .inside, g .all); low = omega (arith, g .below (k + j) (omega (arith, c .low)) (omega (arith, three)), g .vertices-low) }
+
+    -- the triangle can be split
+    pub triangle-ready : TriangleReady ps is sag beyond n v list count at ts flags base k E
+    triangle-ready =
+        record {
+          stands = stands-kept (g .stands) (c .front) (c .long);
+          inside = omega (arith, three, g .inside);
+          in-a = record { inside = omega (arith, g .inside, g .all); low = omega (arith, g .below k (c .low) l, g .vertices-low) };
+          in-b = corner-at 1 (omega arith);
+          in-c = corner-at 2 (omega arith);
+        }
+
+    -- the flags from k on
+    flags-three : take (to - k) (drop (flags + k) W) ≡ getD W (flags + k) 0 ∷ getD W (flags + k + 1) 0 ∷ getD W (flags + k + 2) 0 ∷ take (to - (k + 3)) (drop (flags + (k + 3)) W)
+    flags-three = stretch-three-at W flags k to 0 three (omega (arith, g .inside, g .stands .behind, g .stands .apart, g .stands .room))
+
+    -- the view of the triangle at k
+    abbrev pub view : View
+    view = viewOf sag ps (take v W) (take count (drop list W)) base (getD W (flags + k) 0) (getD W (flags + k + 1) 0) (getD W (flags + k + 2) 0) (record { a = getD is k 0; b = getD is (k + 1) 0; c = getD is (k + 2) 0 })
+
+    -- the views begin with it
+    pub views-here : viewsIn ps is sag v list count flags base k to W ≡ view ∷ viewsIn ps is sag v list count flags base (k + 3) to W
+    unfolding rowViews trianglesOf
+    views-here =
+        ap (λ (fs : List ℕ). rowViews sag ps (take v W) (take count (drop list W)) base fs (trianglesOf (take (to - k) (drop k is)))) flags-three
+        ∙ ap (λ (xs : List ℕ). rowViews sag ps (take v W) (take count (drop list W)) base (getD W (flags + k) 0 ∷ getD W (flags + k + 1) 0 ∷ getD W (flags + k + 2) 0 ∷ take (to - (k + 3)) (drop (flags + (k + 3)) W)) (trianglesOf xs))
+        (stretch-three is k to 0 three (omega (arith, g .inside, g .all)))
+
+    -- what stands in E is what stands in W
+    pub names-are : take v E ≡ take v W
+    names-are = front-less v at W E (c .front) (omega (arith, g .stands .listed .behind, g .stands .flags-behind, g .stands .behind))
+
+    pub list-is : take count (drop list E) ≡ take count (drop list W)
+    list-is = stretch-kept list count at W E (c .front) (omega (arith, g .stands .flags-behind, g .stands .behind))
+
+    flag-is : (j : ℕ) → flags + j < at → getD E (flags + j) 0 ≡ getD W (flags + j) 0
+    flag-is j h = front-at at (flags + j) W E 0 (c .front) h
+
+    pub sides-are : sidesIn ps is v flags base k E ≡ sidesIn ps is v flags base k W
+    sides-are =
+        let f0 : getD E (flags + k) 0 ≡ getD W (flags + k) 0 = front-at at (flags + k) W E 0 (c .front) (omega (arith, g .inside, g .stands .behind)) in
+        let f1 : getD E (flags + k + 1) 0 ≡ getD W (flags + k + 1) 0 = front-at at (flags + k + 1) W E 0 (c .front) (omega (arith, three, g .inside, g .stands .behind)) in
+        let f2 : getD E (flags + k + 2) 0 ≡ getD W (flags + k + 2) 0 = front-at at (flags + k + 2) W E 0 (c .front) (omega (arith, three, g .inside, g .stands .behind)) in
+        λ i. sidesAt ps (names-are i) (base + getD is k 0) (base + getD is (k + 1) 0) (base + getD is (k + 2) 0) (f0 i) (f1 i) (f2 i)
+
+    -- one triangle more is counted
+    pub counting-more : {x y : ℕ} {F : List ℕ} → TriangleDone ps is sag v list count at ts flags base k E F x y → length F ≡ length E
+        → Counting ps is sag v list count at ts flags base from to found kept W (total + x) (new + y) (k + 3) F
+    unfolding foundIn keptIn sumOf
+    counting-more {x} {y} {F} d lf =
+        let fx : x ≡ view .found = d .found-is ∙ (λ i. triangleFound sag ps (names-are i) (sides-are i) (list-is i)) in
+        let ky : y ≡ length (view .kept) =
+        sym (entries-long F at ts y (omega (arith, d .held, g .stands .apart, g .stands .room, lf, c .long)) (omega (arith, d .held, g .stands .room, lf, c .long)))
+        ∙ ap length (d .kept-are ∙ (λ i. triangleKept sag ps (names-are i) (sides-are i) (list-is i))) in
+        record {
+          aligned = omega (arith, c .aligned);
+          low = omega (arith, c .low);
+          high = three;
+          found-is = omega (arith, c .found-is, fx, ap foundIn views-here);
+          kept-is = omega (arith, c .kept-is, ky, ap keptIn views-here);
+          found-low = omega (arith, c .found-low, d .few-found);
+          kept-low = omega (arith, c .kept-low, d .few-kept);
+          front = d .front ∙ c .front;
+          rest = d .rest ∙ c .rest;
+          long = lf ∙ c .long;
+        }
+
+  -- all are
+  pub counting-all : {total new k : ℕ} {E : List ℕ} → Counting ps is sag v list count at ts flags base from to found kept W total new k E → to ≤ k
+      → RowCounted ps is sag v list count at ts flags base from to found kept W E total new
+  unfolding rowViews trianglesOf foundIn keptIn sumOf
+  counting-all {total} {new} {k} {E} c l =
+      let z : 0 ≡ to - k = omega arith in
+      let none : [] ≡ viewsIn ps is sag v list count flags base k to W =
+      ap (λ (m : ℕ). rowViews sag ps (take v W) (take count (drop list W)) base (take m (drop (flags + k) W)) (trianglesOf (take m (drop k is)))) z in
+      record {
+        found-is = omega (arith, c .found-is, ap foundIn none);
+        kept-is = omega (arith, c .kept-is, ap keptIn none);
+        found-low = omega (arith, c .found-low, c .high);
+        kept-low = omega (arith, c .kept-low, c .high);
+        front = c .front;
+        rest = c .rest;
+      }

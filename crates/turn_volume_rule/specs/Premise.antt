@@ -1,0 +1,39 @@
+-- Without its premise, that positions are values of f32, the volume rule would be false: three points at 2 ^ 400 on the axes. Assumes nothing.
+use mathlib.Core.Path.{_≡_, refl}
+use mathlib.Core.Bool.{false}
+use mathlib.Core.List.{List, [], _∷_}
+use Prim.Native.Nat.{ℕ}
+use lib.ListN.{replicate}
+use lib.IntN.{pos}
+use lib.Dec.{T}
+use lib.Ieee.{Float, fin}
+use Rattle.lists.specs.Lists.{all}
+use Rattle.point_rules.specs.Rule.{Rule, names}
+use Rattle.join_definition.specs.Join.{joined}
+use Rattle.point_rules.specs.Points.{key}
+use Rattle.body_rows.specs.Body.{rowsOf, patchesOf}
+use Rattle.turn_definition.specs.Orient.{walksOf, turnOf}
+use Rattle.turn_volume_rule.specs.Exact.{ruleHolds}
+use Rattle.turn_volume_rule.specs.Evaluation.{evaluation}
+
+-- the volume rule without that premise
+pub Unpremised : Type 0
+Unpremised = (rule : Rule) (table : List ℕ) (ps ns : List Float) (is work : List ℕ) → turnOf rule table ps ns is work .refusal ≡ 0
+    → let t = turnOf rule table ps ns is work in
+    let before = patchesOf (rowsOf table) ps ns is in
+    let after = patchesOf (rowsOf table) ps (t .normals) (t .indices) in
+    T (all (ruleHolds before after) (walksOf before (joined (names rule ps)) .groups))
+
+-- 2 ^ 400
+far : Float
+far = fin false 1 (pos 400)
+
+-- 0
+nil : Float
+nil = fin false 0 (pos 0)
+
+-- It is false.
+pub unpremised-false : Unpremised → ⊥
+unfolding evaluation Unpremised far nil
+unpremised-false rule =
+    rule key (0 ∷ 0 ∷ 0 ∷ 3 ∷ 3 ∷ []) (far ∷ nil ∷ nil ∷ nil ∷ far ∷ nil ∷ nil ∷ nil ∷ far ∷ []) (replicate 9 nil) (0 ∷ 1 ∷ 2 ∷ []) (replicate 76 0) refl
