@@ -30,7 +30,8 @@ mesh-cases = record { apart = λ c n e. let z : _≡_ {A = ℕ} 0 1 = cc in omeg
 
 -- ---- assemble's answer printed
 module _ (t : Counts) (splits : ℕ) (g : Assembled) (P N : List Float) (I parts ranges failures E W : List ℕ) (r : ℕ) where
-  pub mesh-said : (c : MeshCounts) (z : Sizes) (y : Tallies) → g ≡ A.Done c → z ≡ sizedFrom c → y ≡ talliedFrom t splits c → MeshInLimits P I parts ranges failures → Written E (meshText z P N I parts ranges failures ++ countText y) W r
+  pub mesh-said : (c : MeshCounts) (z : Sizes) (y : Tallies) → g ≡ A.Done c → z ≡ sizedFrom c → y ≡ talliedFrom t splits c → MeshInLimits P I parts ranges failures
+      → Written E (meshText z P N I parts ranges failures ++ countText y) W r
       → MeshSaid t splits g P N I parts ranges failures E W r
   unfolding meshPrinted
   mesh-said c z y d ez ey few v = record { says = go }
@@ -40,7 +41,9 @@ module _ (t : Counts) (splits : ℕ) (g : Assembled) (P N : List Float) (I parts
           let s : slicesOf P N I parts ranges failures w ≡ a .slices = ap (λ (l : LeftMesh). l .slices) e in
           let one : meshText z P N I parts ranges failures ++ countText y ≡ meshText (sizedFrom c) P N I parts ranges failures ++ countText (talliedFrom t splits c) =
           λ j. meshText (ez j) P N I parts ranges failures ++ countText (ey j) in
-          let all : c ≡ countsAnswered a → meshText (sizedFrom c) P N I parts ranges failures ++ countText (talliedFrom t splits c) ≡ meshText (sizedFrom (countsAnswered a)) (a .slices .vertices .positions) (a .slices .vertices .normals) (a .slices .indices) (a .slices .parts) (a .slices .ranges) (a .slices .failures) ++ countText (talliedFrom t splits (countsAnswered a)) =
+          let all : c ≡ countsAnswered a → meshText (sizedFrom c) P N I parts ranges failures ++ countText (talliedFrom t splits c)
+          ≡ meshText (sizedFrom (countsAnswered a)) (a .slices .vertices .positions) (a .slices .vertices .normals) (a .slices .indices) (a .slices .parts) (a .slices .ranges)
+          (a .slices .failures) ++ countText (talliedFrom t splits (countsAnswered a)) =
           λ k j. meshText (sizedFrom (k j)) (s j .vertices .positions) (s j .vertices .normals) (s j .indices) (s j .parts) (s j .ranges) (s j .failures) ++ countText (talliedFrom t splits (k j)) in
           told-done mesh-cases (countsAnswered a) (a .refusal) E W r _ c (sym d ∙ ap (λ (l : LeftMesh). l .answer) e)
           (λ k. subst (λ (x : List ℕ). Told E x W r) (one ∙ all k) (record { written = v; few = answer-length z P N I parts ranges failures y few }))
@@ -60,7 +63,8 @@ room-zeros = refl
 mesh-zeros : meshZeros (f32 0) ≡ meshSlices benchRoom
 mesh-zeros = ap meshZeros zero-same ∙ room-zeros
 
-pub assembled-text : (T : List ℕ) (Q R : List Float) (J : List ℕ) (box : Aabb) (M : List ℕ) (d : ℕ) (t : Counts) (splits : ℕ) (g : Assembled) (P N : List Float) (I parts ranges failures w E W : List ℕ) (r : ℕ)
+pub assembled-text : (T : List ℕ) (Q R : List Float) (J : List ℕ) (box : Aabb) (M : List ℕ) (d : ℕ) (t : Counts) (splits : ℕ) (g : Assembled) (P N : List Float)
+    (I parts ranges failures w E W : List ℕ) (r : ℕ)
     → MeshSaid t splits g P N I parts ranges failures E W r → leftMesh g (slicesOf P N I parts ranges failures w) ≡ assembleAnswered (assembleOf T Q R J box M d (meshZeros (f32 0)))
     → Told E (assembledText T Q R J box M d t splits) W r
 unfolding assembledText

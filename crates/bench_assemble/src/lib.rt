@@ -57,7 +57,8 @@ fn print_mesh(
     out: &mut [u8],
 ) -> usize
     requires { ⌜ MeshInLimits (now positions) (now indices) (now parts) (now ranges) (now failures) ⌝ }
-    ensures { λ r. ⌜ MeshSaid t splits given (now (positions .entry)) (now (normals .entry)) (now (indices .entry)) (now (parts .entry)) (now (ranges .entry)) (now (failures .entry)) (now (out .entry)) (now (out .exit)) r ⌝ }
+    ensures { λ r. ⌜ MeshSaid t splits given (now (positions .entry)) (now (normals .entry)) (now (indices .entry)) (now (parts .entry)) (now (ranges .entry))
+        (now (failures .entry)) (now (out .entry)) (now (out .exit)) r ⌝ }
 {
     match given {
         Assembled::Done(c) => write_answer(
@@ -88,7 +89,8 @@ pub fn assemble_next(
     splits: u64,
     out: &mut [u8],
 ) -> usize
-    ensures { λ r. ⌜ Told (now (out .entry)) (assembledText (now (rows .entry)) (now (positions .entry)) (now (normals .entry)) (now (indices .entry)) reference (now (materials .entry)) default t splits) (now (out .exit)) r ⌝ }
+    ensures { λ r. ⌜ Told (now (out .entry)) (assembledText (now (rows .entry)) (now (positions .entry)) (now (normals .entry)) (now (indices .entry)) reference
+        (now (materials .entry)) default t splits) (now (out .exit)) r ⌝ }
 {
     let mut mesh_positions = [0.0f32; 576];
     let mut mesh_normals = [0.0f32; 576];

@@ -40,7 +40,8 @@ unfoldable pub meshPrinted : Counts → ℕ → AfterAssemble → List ℕ
 meshPrinted t splits a =
     let out = a .slices in
     elim (eqb (a .refusal) 0) [
-      | true ↦ meshText (sizedFrom (countsAnswered a)) (out .vertices .positions) (out .vertices .normals) (out .indices) (out .parts) (out .ranges) (out .failures) ++ countText (talliedFrom t splits (countsAnswered a))
+      | true ↦ meshText (sizedFrom (countsAnswered a)) (out .vertices .positions) (out .vertices .normals) (out .indices) (out .parts) (out .ranges) (out .failures)
+          ++ countText (talliedFrom t splits (countsAnswered a))
       | false ↦ refusalLine (a .refusal)
     ]
 

@@ -21,7 +21,8 @@ fn print_turned(
     default: u64,
     out: &mut [u8],
 ) -> usize
-    ensures { λ r. ⌜ TurnSaid (now (rows .entry)) (now (positions .entry)) sag reference (now (materials .entry)) default given (now (normals .entry)) (now (indices .entry)) (now (out .entry)) (now (out .exit)) r ⌝ }
+    ensures { λ r. ⌜ TurnSaid (now (rows .entry)) (now (positions .entry)) sag reference (now (materials .entry)) default given (now (normals .entry))
+        (now (indices .entry)) (now (out .entry)) (now (out .exit)) r ⌝ }
 {
     match given {
         Turned::Done(t) => stitch_next(
@@ -52,7 +53,8 @@ pub fn finish_body(
     default: u64,
     out: &mut [u8],
 ) -> usize
-    ensures { λ r. ⌜ Told (now (out .entry)) (finishedText (now (rows .entry)) (now (positions .entry)) (now (normals .entry)) (now (indices .entry)) sag reference (now (materials .entry)) default) (now (out .exit)) r ⌝ }
+    ensures { λ r. ⌜ Told (now (out .entry)) (finishedText (now (rows .entry)) (now (positions .entry)) (now (normals .entry))
+        (now (indices .entry)) sag reference (now (materials .entry)) default) (now (out .exit)) r ⌝ }
 {
     let mut work = [0u64; 4096];
     let given = turn(rows, positions, normals, indices, &mut work);

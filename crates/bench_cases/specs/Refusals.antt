@@ -93,23 +93,35 @@ stitchedSize v i s = firstFailing (stitchChecks (record { shell = 0; face = 0; o
 -- what each check refuses, and what it lets pass
 pub refusals : List Case
 refusals =
-    case 11 (turnWith (0 ∷ 0 ∷ []) [] [] [] 0 ∷ turnWith (replicate (5 * 4096) 0) [] [] [] 65536 ∷ turnWith (replicate (5 * 4097) 0) [] [] [] 70000 ∷ turnWith [] [] [] [] 0 ∷ []) (11 ∷ 0 ∷ 11 ∷ 0 ∷ [])
-    ∷ case 12 (turnWith (0 ∷ 0 ∷ 256 ∷ 0 ∷ 0 ∷ []) [] [] [] 99 ∷ turnWith (0 ∷ 0 ∷ 255 ∷ 0 ∷ 0 ∷ []) [] [] [] 99 ∷ turnWith (0 ∷ 0 ∷ 1 ∷ 1 ∷ 0 ∷ []) nine nine [] 99 ∷ turnWith (0 ∷ 0 ∷ 1 ∷ 0 ∷ 3 ∷ []) [] [] corners 99 ∷ []) (12 ∷ 0 ∷ 12 ∷ 12 ∷ [])
-    ∷ case 13 (turnWith (0 ∷ 0 ∷ 0 ∷ 262145 ∷ 0 ∷ []) [] [] [] 99 ∷ turnWith (0 ∷ 0 ∷ 0 ∷ 262144 ∷ 786433 ∷ []) [] [] [] 99 ∷ turnWith (0 ∷ 0 ∷ 0 ∷ 262144 ∷ 786432 ∷ []) [] [] [] 99 ∷ turnWith (0 ∷ 0 ∷ 0 ∷ 262144 ∷ 0 ∷ 0 ∷ 0 ∷ 0 ∷ 1 ∷ 0 ∷ []) [] [] [] 99 ∷ turnWith (0 ∷ 0 ∷ 0 ∷ 0 ∷ 4294967295 ∷ 0 ∷ 0 ∷ 0 ∷ 0 ∷ 1 ∷ []) [] [] [] 99 ∷ []) (13 ∷ 13 ∷ 14 ∷ 13 ∷ 13 ∷ [])
-    ∷ case 14 (turnWith one (zero64 ∷ nine) nine corners 80 ∷ turnWith one nine (drop 1 nine) corners 80 ∷ turnWith one nine nine (0 ∷ corners) 80 ∷ turnWith one (drop 1 nine) nine corners 80 ∷ []) (14 ∷ 14 ∷ 14 ∷ 14 ∷ [])
+    case 11 (turnWith (0 ∷ 0 ∷ []) [] [] [] 0 ∷ turnWith (replicate (5 * 4096) 0) [] [] [] 65536 ∷ turnWith (replicate (5 * 4097) 0) [] [] [] 70000 ∷ turnWith [] [] [] [] 0 ∷ [])
+    (11 ∷ 0 ∷ 11 ∷ 0 ∷ [])
+    ∷ case 12 (turnWith (0 ∷ 0 ∷ 256 ∷ 0 ∷ 0 ∷ []) [] [] [] 99 ∷ turnWith (0 ∷ 0 ∷ 255 ∷ 0 ∷ 0 ∷ []) [] [] [] 99 ∷ turnWith (0 ∷ 0 ∷ 1 ∷ 1 ∷ 0 ∷ []) nine nine [] 99
+    ∷ turnWith (0 ∷ 0 ∷ 1 ∷ 0 ∷ 3 ∷ []) [] [] corners 99 ∷ []) (12 ∷ 0 ∷ 12 ∷ 12 ∷ [])
+    ∷ case 13 (turnWith (0 ∷ 0 ∷ 0 ∷ 262145 ∷ 0 ∷ []) [] [] [] 99 ∷ turnWith (0 ∷ 0 ∷ 0 ∷ 262144 ∷ 786433 ∷ []) [] [] [] 99 ∷ turnWith (0 ∷ 0 ∷ 0 ∷ 262144 ∷ 786432 ∷ []) [] [] [] 99
+    ∷ turnWith (0 ∷ 0 ∷ 0 ∷ 262144 ∷ 0 ∷ 0 ∷ 0 ∷ 0 ∷ 1 ∷ 0 ∷ []) [] [] [] 99 ∷ turnWith (0 ∷ 0 ∷ 0 ∷ 0 ∷ 4294967295 ∷ 0 ∷ 0 ∷ 0 ∷ 0 ∷ 1 ∷ []) [] [] [] 99 ∷ []) (13 ∷ 13 ∷ 14 ∷ 13 ∷ 13 ∷ [])
+    ∷ case 14 (turnWith one (zero64 ∷ nine) nine corners 80 ∷ turnWith one nine (drop 1 nine) corners 80 ∷ turnWith one nine nine (0 ∷ corners) 80 ∷ turnWith one (drop 1 nine) nine corners 80 ∷ [])
+    (14 ∷ 14 ∷ 14 ∷ 14 ∷ [])
     ∷ case 21 (turnWith (0 ∷ 5 ∷ 0 ∷ 3 ∷ 4 ∷ []) nine nine (0 ∷ 1 ∷ 2 ∷ 0 ∷ []) 99 ∷ turnWith (0 ∷ 5 ∷ 0 ∷ 3 ∷ 2 ∷ 0 ∷ 6 ∷ 0 ∷ 0 ∷ 1 ∷ []) nine nine (0 ∷ 1 ∷ 0 ∷ []) 99 ∷ []) (21 ∷ 21 ∷ [])
-    ∷ case 22 (turnWith one nine nine (0 ∷ 1 ∷ 3 ∷ []) 99 ∷ turnWith one nine nine (0 ∷ 1 ∷ 2 ∷ []) 99 ∷ turnWith (0 ∷ 5 ∷ 0 ∷ 3 ∷ 3 ∷ 0 ∷ 6 ∷ 0 ∷ 0 ∷ 3 ∷ []) nine nine (0 ∷ 1 ∷ 2 ∷ 0 ∷ 0 ∷ 0 ∷ []) 99 ∷ []) (22 ∷ 0 ∷ 22 ∷ [])
+    ∷ case 22 (turnWith one nine nine (0 ∷ 1 ∷ 3 ∷ []) 99 ∷ turnWith one nine nine (0 ∷ 1 ∷ 2 ∷ []) 99 ∷ turnWith (0 ∷ 5 ∷ 0 ∷ 3 ∷ 3 ∷ 0 ∷ 6 ∷ 0 ∷ 0 ∷ 3 ∷ []) nine nine (0 ∷ 1 ∷ 2 ∷ 0 ∷ 0 ∷ 0 ∷ []) 99
+    ∷ []) (22 ∷ 0 ∷ 22 ∷ [])
     ∷ case 23 (turnWith one nine withNan corners 99 ∷ turnWith one (inf true ∷ drop 1 nine) nine corners 99 ∷ turnWith (0 ∷ 0 ∷ 0 ∷ 3 ∷ 0 ∷ []) withNan nine [] 99 ∷ []) (23 ∷ 23 ∷ 23 ∷ [])
-    ∷ case 31 (turnWith one nine nine corners 75 ∷ turnWith one nine nine corners 76 ∷ turnWith [] [] [] [] 0 ∷ turnWith (0 ∷ 0 ∷ 9 ∷ 0 ∷ 0 ∷ []) [] [] [] 15 ∷ turnWith (0 ∷ 0 ∷ 9 ∷ 0 ∷ 0 ∷ []) [] [] [] 16 ∷ []) (31 ∷ 0 ∷ 0 ∷ 31 ∷ 0 ∷ [])
+    ∷ case 31 (turnWith one nine nine corners 75 ∷ turnWith one nine nine corners 76 ∷ turnWith [] [] [] [] 0 ∷ turnWith (0 ∷ 0 ∷ 9 ∷ 0 ∷ 0 ∷ []) [] [] [] 15
+    ∷ turnWith (0 ∷ 0 ∷ 9 ∷ 0 ∷ 0 ∷ []) [] [] [] 16 ∷ []) (31 ∷ 0 ∷ 0 ∷ 31 ∷ 0 ∷ [])
     ∷ case 31 (take 1 (leaves 75) ++ take 1 (leaves 77) ++ drop 75 (leaves 77)) (7 ∷ 0 ∷ 0 ∷ 7 ∷ [])
     ∷ case 33 (stitchedSize 262145 0 (out 0 0 0 0 0) ∷ stitchedSize 0 786435 (out 0 0 0 0 0) ∷ stitchedSize 262144 786432 (out 0 0 0 0 0) ∷ []) (33 ∷ 33 ∷ 32 ∷ [])
-    ∷ case 32 (stitchWith zero64 (out 4 9 9 3 76) .refusal ∷ stitchWith zero64 (out 5 8 9 3 76) .refusal ∷ stitchWith zero64 (out 5 9 8 3 76) .refusal ∷ stitchWith zero64 (out 5 9 9 2 76) .refusal ∷ stitchWith nan (out 5 9 9 3 76) .refusal ∷ stitchWith one64 (out 5 9 9 3 76) .refusal ∷ stitchWith one64 (out 5 12 12 6 76) .refusal ∷ []) (32 ∷ 32 ∷ 32 ∷ 32 ∷ 0 ∷ 32 ∷ 0 ∷ [])
-    ∷ case 32 (take 1 (stitchWith zero64 (out 5 9 9 2 77) .slices .work) ++ drop 75 (stitchWith zero64 (out 5 9 9 2 77) .slices .work) ++ stitchWith zero64 (out 5 9 9 2 77) .slices .table) (0 ∷ 0 ∷ 7 ∷ 9 ∷ 9 ∷ 9 ∷ 9 ∷ 9 ∷ [])
+    ∷ case 32 (stitchWith zero64 (out 4 9 9 3 76) .refusal ∷ stitchWith zero64 (out 5 8 9 3 76) .refusal ∷ stitchWith zero64 (out 5 9 8 3 76) .refusal ∷ stitchWith zero64 (out 5 9 9 2 76) .refusal
+    ∷ stitchWith nan (out 5 9 9 3 76) .refusal ∷ stitchWith one64 (out 5 9 9 3 76) .refusal ∷ stitchWith one64 (out 5 12 12 6 76) .refusal ∷ []) (32 ∷ 32 ∷ 32 ∷ 32 ∷ 0 ∷ 32 ∷ 0 ∷ [])
+    ∷ case 32 (take 1 (stitchWith zero64 (out 5 9 9 2 77) .slices .work) ++ drop 75 (stitchWith zero64 (out 5 9 9 2 77) .slices .work) ++ stitchWith zero64 (out 5 9 9 2 77) .slices .table)
+    (0 ∷ 0 ∷ 7 ∷ 9 ∷ 9 ∷ 9 ∷ 9 ∷ 9 ∷ [])
     ∷ case 32 (stitchWith zero64 (out 7 9 9 4 76) .slices .table ++ stitchWith zero64 (out 7 9 9 4 76) .slices .indices) (0 ∷ 5 ∷ 0 ∷ 3 ∷ 3 ∷ 9 ∷ 9 ∷ 0 ∷ 1 ∷ 2 ∷ 9 ∷ [])
-    ∷ case 42 (assembleWith (0 ∷ 4294967297 ∷ []) 0 (mesh 9 3 3 3 4 76) .refusal ∷ assembleWith [] 4294967297 (mesh 9 3 3 3 4 76) .refusal ∷ assembleWith (4294967296 ∷ []) 4294967296 (mesh 9 3 3 3 4 76) .refusal ∷ []) (42 ∷ 42 ∷ 0 ∷ [])
-    ∷ case 41 (assembleWith [] 0 (mesh 8 3 3 3 4 76) .refusal ∷ assembleWith [] 0 (mesh 9 2 3 3 4 76) .refusal ∷ assembleWith [] 0 (mesh 9 3 2 3 4 76) .refusal ∷ assembleWith [] 0 (mesh 9 3 3 2 4 76) .refusal ∷ assembleWith [] 0 (mesh 9 3 3 3 3 76) .refusal ∷ assembleWith [] 0 (mesh 9 3 3 3 4 76) .refusal ∷ []) (41 ∷ 41 ∷ 41 ∷ 41 ∷ 41 ∷ 0 ∷ [])
-    ∷ case 41 (take 1 (assembleWith [] 0 (mesh 8 3 3 3 4 77) .slices .work) ++ drop 75 (assembleWith [] 0 (mesh 8 3 3 3 4 77) .slices .work) ++ assembleWith [] 0 (mesh 8 3 3 3 4 77) .slices .ranges) (0 ∷ 0 ∷ 7 ∷ 9 ∷ 9 ∷ 9 ∷ [])
-    ∷ case 14 (map (λ ps. volumeAlone ps nine corners false .refusal) (nine ∷ drop 1 nine ∷ []) ++ volumeAlone nine nine (0 ∷ 1 ∷ []) false .refusal ∷ volumeAlone nine nine (0 ∷ 1 ∷ 3 ∷ []) false .refusal ∷ volumeAlone nine withNan corners false .refusal ∷ []) (0 ∷ 14 ∷ 21 ∷ 22 ∷ 23 ∷ [])
+    ∷ case 42 (assembleWith (0 ∷ 4294967297 ∷ []) 0 (mesh 9 3 3 3 4 76) .refusal ∷ assembleWith [] 4294967297 (mesh 9 3 3 3 4 76) .refusal
+    ∷ assembleWith (4294967296 ∷ []) 4294967296 (mesh 9 3 3 3 4 76) .refusal ∷ []) (42 ∷ 42 ∷ 0 ∷ [])
+    ∷ case 41 (assembleWith [] 0 (mesh 8 3 3 3 4 76) .refusal ∷ assembleWith [] 0 (mesh 9 2 3 3 4 76) .refusal ∷ assembleWith [] 0 (mesh 9 3 2 3 4 76) .refusal
+    ∷ assembleWith [] 0 (mesh 9 3 3 2 4 76) .refusal ∷ assembleWith [] 0 (mesh 9 3 3 3 3 76) .refusal ∷ assembleWith [] 0 (mesh 9 3 3 3 4 76) .refusal ∷ []) (41 ∷ 41 ∷ 41 ∷ 41 ∷ 41 ∷ 0 ∷ [])
+    ∷ case 41 (take 1 (assembleWith [] 0 (mesh 8 3 3 3 4 77) .slices .work) ++ drop 75 (assembleWith [] 0 (mesh 8 3 3 3 4 77) .slices .work) ++ assembleWith [] 0 (mesh 8 3 3 3 4 77) .slices .ranges)
+    (0 ∷ 0 ∷ 7 ∷ 9 ∷ 9 ∷ 9 ∷ [])
+    ∷ case 14 (map (λ ps. volumeAlone ps nine corners false .refusal) (nine ∷ drop 1 nine ∷ []) ++ volumeAlone nine nine (0 ∷ 1 ∷ []) false .refusal
+    ∷ volumeAlone nine nine (0 ∷ 1 ∷ 3 ∷ []) false .refusal ∷ volumeAlone nine withNan corners false .refusal ∷ []) (0 ∷ 14 ∷ 21 ∷ 22 ∷ 23 ∷ [])
     ∷ []
 
 -- The definitions give each of these numbers.

@@ -8,5 +8,6 @@ use Rattle.bench_definition.specs.Parts.{turnNumbers, sheetPatches, shee
 
 -- every definition that computes
 unfoldable pub evaluation : ℕ
-unfolding Turning.evaluation Stitched.evaluation Assemble.evaluation benchRoom area stitchSlices meshSlices assembleNext stitchNext finishIn finish turnNumbers sheetPatches sheetFacets placedNumbers splitNumbers splitsAt placedAt placedOf withSplits allWithSplits finishFrom
+unfolding Turning.evaluation Stitched.evaluation Assemble.evaluation benchRoom area stitchSlices meshSlices assembleNext stitchNext finishIn finish turnNumbers sheetPatches sheetFacets placedNumbers
+    splitNumbers splitsAt placedAt placedOf withSplits allWithSplits finishFrom
 evaluation = 0

@@ -139,7 +139,8 @@ inner true false x y z e = let n : _≡_ {A = ℕ} 0 1 = cc in absurd (omega ari
 inner false false x y z e = refl
 
 -- what is printed of a reader and its slices is what is printed of a text that says the same
-answer-same : (l : Lent) (text : List ℕ) → stateOf l ≡ sheetOf text → inLimits (l .reader) (length (l .table)) (length (l .positions)) (length (l .normals)) (length (l .indices)) (length (l .materials)) ≡ true
+answer-same : (l : Lent) (text : List ℕ) → stateOf l ≡ sheetOf text → inLimits (l .reader) (length (l .table)) (length (l .positions)) (length (l .normals)) (length (l .indices))
+    (length (l .materials)) ≡ true
     → answerIn l ≡ bench text
 unfolding answerIn bench
 answer-same l text e h =
@@ -150,7 +151,8 @@ module _ (f : Fed) (line front : List ℕ) (r : Reader) (q : front ≡ take (f .
   pub text-ended : Ended f line r
   text-ended = record { goes = go }
     where
-      go : (text table positions normals indices materials : List ℕ) → SoFar text f line table positions normals indices materials → answerIn (lent r table positions normals indices materials) ≡ bench text
+      go : (text table positions normals indices materials : List ℕ) → SoFar text f line table positions normals indices materials
+          → answerIn (lent r table positions normals indices materials) ≡ bench text
       go text table positions normals indices materials v =
           let s : State = v .state in
           let k = v .kept in
@@ -160,7 +162,8 @@ module _ (f : Fed) (line front : List ℕ) (r : Reader) (q : front ≡ take (f .
           let sheet : sheetOf text ≡ finished s (v .tail) =
           ap sheetOf (sym (append-nil text)) ∙ v .means [] ∙ ap (λ (xs : List ℕ). readFrom s (cut xs)) (append-nil (v .tail)) ∙ read-end s (v .tail) (v .plain) in
           let limits : inLimits (ended (f .reader) front) (length table) (length positions) (length normals) (length indices) (length materials) ≡ true =
-          limits-ended (f .reader) front (length table) (length positions) (length normals) (length indices) (length materials) ∙ limits-fit (f .reader) table (length positions) (length normals) (length indices) (length materials) (k .fit) in
+          limits-ended (f .reader) front (length table) (length positions) (length normals) (length indices) (length materials)
+          ∙ limits-fit (f .reader) table (length positions) (length normals) (length indices) (length materials) (k .fit) in
           ap (λ (t : Reader). answerIn (lent t table positions normals indices materials)) e
           ∙ answer-same (lent (ended (f .reader) front) table positions normals indices materials) text (state ∙ sym sheet) limits
 
@@ -188,7 +191,8 @@ module _ (f : Fed) (line table positions normals indices materials : List ℕ) w
             (line-fed text f line table positions normals indices materials v front t table' positions' normals' indices' materials' q e);
       }
 
-  module _ (part : List ℕ) (i : ℕ) (g : Fed) (line' table' positions' normals' indices' materials' : List ℕ) (w : Fed-on (take i part) f line table positions normals indices materials g line' table' positions' normals' indices' materials') where
+  module _ (part : List ℕ) (i : ℕ) (g : Fed) (line' table' positions' normals' indices' materials' : List ℕ)
+      (w : Fed-on (take i part) f line table positions normals indices materials g line' table' positions' normals' indices' materials') where
     pub fed-more : (h : Fed) (line'' table'' positions'' normals'' indices'' materials'' : List ℕ) → i < length part
         → Fed-on (getD part i 0 ∷ []) g line' table' positions' normals' indices' materials' h line'' table'' positions'' normals'' indices'' materials''
         → Fed-on (take (i + 1) part) f line table positions normals indices materials h line'' table'' positions'' normals'' indices'' materials''
@@ -197,7 +201,8 @@ module _ (f : Fed) (line table positions normals indices materials : List ℕ) w
         record {
           goes =
               λ text v.
-              subst (λ (t : List ℕ). SoFar t h line'' table'' positions'' normals'' indices'' materials'') (append-assoc text (take i part) (getD part i 0 ∷ []) ∙ ap (λ (xs : List ℕ). text ++ xs) parts)
+              subst (λ (t : List ℕ). SoFar t h line'' table'' positions'' normals'' indices'' materials'')
+              (append-assoc text (take i part) (getD part i 0 ∷ []) ∙ ap (λ (xs : List ℕ). text ++ xs) parts)
               (x .goes (text ++ take i part) (w .goes text v));
         }
 

@@ -37,7 +37,8 @@ pub record Fed-some (f : Fed) (line table positions normals indices materials : 
 
 -- the text has ended: what is printed of the reader and its slices is what the program is to print of the text
 pub record Ended (f : Fed) (line : List ℕ) (r : Reader) : Type 0 where
-  pub goes : (text table positions normals indices materials : List ℕ) → SoFar text f line table positions normals indices materials → answerIn (lent r table positions normals indices materials) ≡ bench text
+  pub goes : (text table positions normals indices materials : List ℕ) → SoFar text f line table positions normals indices materials
+      → answerIn (lent r table positions normals indices materials) ≡ bench text
 
 -- what the program is to print of some text was written; which one, no contract of C's read could say
 pub record Answered (E W : List ℕ) (r : ℕ) : Type 0 where

@@ -25,7 +25,9 @@ fn take_byte(
     indices: &mut [u32],
     materials: &mut [u64],
 ) -> Fed
-    ensures { λ r. ⌜ Fed-on (c ∷ []) f (now (line .entry)) (now (table .entry)) (now (positions .entry)) (now (normals .entry)) (now (indices .entry)) (now (materials .entry)) r (now (line .exit)) (now (table .exit)) (now (positions .exit)) (now (normals .exit)) (now (indices .exit)) (now (materials .exit)) ⌝ }
+    ensures { λ r. ⌜ Fed-on (c ∷ []) f (now (line .entry)) (now (table .entry)) (now (positions .entry)) (now (normals .entry)) (now (indices .entry))
+        (now (materials .entry)) r (now (line .exit)) (now (table .exit)) (now (positions .exit)) (now (normals .exit)) (now (indices .exit))
+        (now (materials .exit)) ⌝ }
 {
     let s = f.reader;
     let kept = front_bytes(line, f.length);
@@ -55,7 +57,9 @@ pub fn feed(
     indices: &mut [u32],
     materials: &mut [u64],
 ) -> Fed
-    ensures { λ r. ⌜ Fed-on (now (part .entry)) f (now (line .entry)) (now (table .entry)) (now (positions .entry)) (now (normals .entry)) (now (indices .entry)) (now (materials .entry)) r (now (line .exit)) (now (table .exit)) (now (positions .exit)) (now (normals .exit)) (now (indices .exit)) (now (materials .exit)) ⌝ }
+    ensures { λ r. ⌜ Fed-on (now (part .entry)) f (now (line .entry)) (now (table .entry)) (now (positions .entry)) (now (normals .entry))
+        (now (indices .entry)) (now (materials .entry)) r (now (line .exit)) (now (table .exit)) (now (positions .exit)) (now (normals .exit))
+        (now (indices .exit)) (now (materials .exit)) ⌝ }
 {
     let mut g = f;
     let mut i: usize = 0;

@@ -27,10 +27,12 @@ one-more true x y z e = e
 one-more false x y z e = refl
 
 printed-assemble : (x : Sheet) (t : AfterTurn) (s : AfterStitch) → printed (assembleNext benchRoom x t s)
-    ≡ assembledText (take (length (x .table)) (s .slices .table)) (take (3 * s .vertices) (s .slices .positions)) (take (3 * s .vertices) (s .slices .normals)) (take (s .indices) (s .slices .indices)) (x .box) (x .materials) (x .default) (record { turned = t .turned; against = t .against }) (s .splits)
+    ≡ assembledText (take (length (x .table)) (s .slices .table)) (take (3 * s .vertices) (s .slices .positions)) (take (3 * s .vertices) (s .slices .normals)) (take (s .indices) (s .slices .indices))
+    (x .box) (x .materials) (x .default) (record { turned = t .turned; against = t .against }) (s .splits)
 unfolding assembleNext printed assembledText meshPrinted meshLines countLines
 printed-assemble x t s =
-    let a = assembleOf (take (length (x .table)) (s .slices .table)) (take (3 * s .vertices) (s .slices .positions)) (take (3 * s .vertices) (s .slices .normals)) (take (s .indices) (s .slices .indices)) (x .box) (x .materials) (x .default) (meshSlices benchRoom) in
+    let a = assembleOf (take (length (x .table)) (s .slices .table)) (take (3 * s .vertices) (s .slices .positions)) (take (3 * s .vertices) (s .slices .normals))
+    (take (s .indices) (s .slices .indices)) (x .box) (x .materials) (x .default) (meshSlices benchRoom) in
     either (eqb (a .refusal) 0) (Finished t s a) (a .refusal)
 
 printed-stitch : (x : Sheet) (t : AfterTurn) → printed (stitchNext benchRoom x t)
@@ -39,7 +41,10 @@ unfolding stitchNext stitchedText stitchPrinted
 printed-stitch x t =
     let s = stitchOf key (x .table) (map f32 (x .positions)) (t .normals) (t .indices) (x .sag) (stitchSlices benchRoom) in
     either (eqb (s .refusal) 0) (assembleNext benchRoom x t s) (s .refusal)
-    ∙ one-more (eqb (s .refusal) 0) (printed (assembleNext benchRoom x t s)) (assembledText (take (length (x .table)) (s .slices .table)) (take (3 * s .vertices) (s .slices .positions)) (take (3 * s .vertices) (s .slices .normals)) (take (s .indices) (s .slices .indices)) (x .box) (x .materials) (x .default) (record { turned = t .turned; against = t .against }) (s .splits)) (refusalLine (s .refusal)) (printed-assemble x t s)
+    ∙ one-more (eqb (s .refusal) 0) (printed (assembleNext benchRoom x t s))
+    (assembledText (take (length (x .table)) (s .slices .table)) (take (3 * s .vertices) (s .slices .positions)) (take (3 * s .vertices) (s .slices .normals))
+    (take (s .indices) (s .slices .indices)) (x .box) (x .materials) (x .default) (record { turned = t .turned; against = t .against }) (s .splits)) (refusalLine (s .refusal))
+    (printed-assemble x t s)
 
 -- What the program is to print of a sheet is the text of the three calls on its floats.
 pub printed-finish : (x : Sheet) → printed (finish x) ≡ finishedText (x .table) (map f32 (x .positions)) (map f32 (x .normals)) (x .indices) (x .sag) (x .box) (x .materials) (x .default)
@@ -47,4 +52,6 @@ unfolding finish finishIn finishedText turnPrinted
 printed-finish x =
     let t = turnOf key (x .table) (map f32 (x .positions)) (map f32 (x .normals)) (x .indices) (area benchRoom) in
     either (eqb (t .refusal) 0) (stitchNext benchRoom x t) (t .refusal)
-    ∙ one-more (eqb (t .refusal) 0) (printed (stitchNext benchRoom x t)) (stitchedText (x .table) (map f32 (x .positions)) (t .normals) (t .indices) (x .sag) (x .box) (x .materials) (x .default) (record { turned = t .turned; against = t .against })) (refusalLine (t .refusal)) (printed-stitch x t)
+    ∙ one-more (eqb (t .refusal) 0) (printed (stitchNext benchRoom x t))
+    (stitchedText (x .table) (map f32 (x .positions)) (t .normals) (t .indices) (x .sag) (x .box) (x .materials) (x .default) (record { turned = t .turned; against = t .against }))
+    (refusalLine (t .refusal)) (printed-stitch x t)

@@ -52,7 +52,8 @@ fn finish_fronts(
     default: u64,
     out: &mut [u8],
 ) -> usize
-    ensures { λ r. ⌜ FrontsSaid (now (rows .entry)) (now (positions .entry)) (now (normals .entry)) (now (indices .entry)) n m sag reference (now (materials .entry)) default (now (out .entry)) (now (out .exit)) r ⌝ }
+    ensures { λ r. ⌜ FrontsSaid (now (rows .entry)) (now (positions .entry)) (now (normals .entry)) (now (indices .entry)) n m sag reference
+        (now (materials .entry)) default (now (out .entry)) (now (out .exit)) r ⌝ }
 {
     if normals.len() < n {
         return write_refusal(out, 52);
@@ -84,7 +85,9 @@ fn answer_body(
     out: &mut [u8],
 ) -> usize
     requires { ⌜ Limited s (length (now table)) (length (now positions)) (length (now normals)) (length (now indices)) (length (now materials)) ⌝ }
-    ensures { λ r. ⌜ Told (now (out .entry)) (printed (finish (meant (patternsOf (lent s (now (table .entry)) (now (positions .entry)) (now (normals .entry)) (now (indices .entry)) (now (materials .entry))))))) (now (out .exit)) r ⌝ }
+    ensures { λ r. ⌜ Told (now (out .entry)) (printed (finish
+        (meant (patternsOf (lent s (now (table .entry)) (now (positions .entry)) (now (normals .entry)) (now (indices .entry)) (now (materials .entry)))))))
+        (now (out .exit)) r ⌝ }
 {
     let n = 3 * s.vertices;
     let k = 5 * s.rows;
@@ -121,7 +124,8 @@ pub fn answer_sheet(
     materials: &[u64],
     out: &mut [u8],
 ) -> usize
-    ensures { λ r. ⌜ Told (now (out .entry)) (answerIn (lent s (now (table .entry)) (now (positions .entry)) (now (normals .entry)) (now (indices .entry)) (now (materials .entry)))) (now (out .exit)) r ⌝ }
+    ensures { λ r. ⌜ Told (now (out .entry)) (answerIn (lent s (now (table .entry)) (now (positions .entry)) (now (normals .entry)) (now (indices .entry))
+        (now (materials .entry)))) (now (out .exit)) r ⌝ }
 {
     let refusal = s.refusal;
     if refusal != 0 {

@@ -21,7 +21,9 @@ fn read_some(
     indices: &mut [u32],
     materials: &mut [u64],
 ) -> Step
-    ensures { λ r. ⌜ Fed-some f (now (line .entry)) (now (table .entry)) (now (positions .entry)) (now (normals .entry)) (now (indices .entry)) (now (materials .entry)) (r .fed) (now (line .exit)) (now (table .exit)) (now (positions .exit)) (now (normals .exit)) (now (indices .exit)) (now (materials .exit)) ⌝ }
+    ensures { λ r. ⌜ Fed-some f (now (line .entry)) (now (table .entry)) (now (positions .entry)) (now (normals .entry)) (now (indices .entry))
+        (now (materials .entry)) (r .fed) (now (line .exit)) (now (table .exit)) (now (positions .exit)) (now (normals .exit)) (now (indices .exit))
+        (now (materials .exit)) ⌝ }
 {
     let mut buf = [0u8; 4096];
     let got = libc::read(STDIN_FILENO, &mut buf);
@@ -55,7 +57,9 @@ pub fn read_all(
     indices: &mut [u32],
     materials: &mut [u64],
 ) -> Fed
-    ensures { λ r. ⌜ Fed-some f (now (line .entry)) (now (table .entry)) (now (positions .entry)) (now (normals .entry)) (now (indices .entry)) (now (materials .entry)) r (now (line .exit)) (now (table .exit)) (now (positions .exit)) (now (normals .exit)) (now (indices .exit)) (now (materials .exit)) ⌝ }
+    ensures { λ r. ⌜ Fed-some f (now (line .entry)) (now (table .entry)) (now (positions .entry)) (now (normals .entry)) (now (indices .entry))
+        (now (materials .entry)) r (now (line .exit)) (now (table .exit)) (now (positions .exit)) (now (normals .exit)) (now (indices .exit))
+        (now (materials .exit)) ⌝ }
 {
     let mut g = f;
     let mut turns = u64::MAX;

@@ -31,7 +31,8 @@ abbrev sizesIn : AfterStitch → Sizes
 sizesIn s = record { vertices = s .vertices; indices = s .indices; splits = s .splits }
 
 module _ (T : List ℕ) (box : Aabb) (M : List ℕ) (d : ℕ) (t : Counts) (g : Stitched) (R : List ℕ) (P N : List Float) (I E W : List ℕ) (r : ℕ) where
-  pub stitch-said : (z : Sizes) (A : List ℕ) (B C : List Float) (D : List ℕ) → g ≡ StitchCase.Done z → A ≡ take (length T) R → B ≡ take (3 * z .vertices) P → C ≡ take (3 * z .vertices) N → D ≡ take (z .indices) I
+  pub stitch-said : (z : Sizes) (A : List ℕ) (B C : List Float) (D : List ℕ) → g ≡ StitchCase.Done z → A ≡ take (length T) R → B ≡ take (3 * z .vertices) P → C ≡ take (3 * z .vertices) N
+      → D ≡ take (z .indices) I
       → Told E (assembledText A B C D box M d t (z .splits)) W r → StitchSaid T box M d t g R P N I E W r
   unfolding stitchPrinted
   stitch-said z A B C D q ea eb ec ed v = record { says = go }
@@ -41,8 +42,11 @@ module _ (T : List ℕ) (box : Aabb) (M : List ℕ) (d : ℕ) (t : Counts) (g : 
           let o : slicesOf R P N I w ≡ s .slices = ap (λ (l : LeftStitch). l .slices) e in
           let one : assembledText A B C D box M d t (z .splits) ≡ assembledText (take (length T) R) (take (3 * z .vertices) P) (take (3 * z .vertices) N) (take (z .indices) I) box M d t (z .splits) =
           λ j. assembledText (ea j) (eb j) (ec j) (ed j) box M d t (z .splits) in
-          let all : z ≡ sizesIn s → assembledText (take (length T) R) (take (3 * z .vertices) P) (take (3 * z .vertices) N) (take (z .indices) I) box M d t (z .splits) ≡ assembledText (take (length T) (s .slices .table)) (take (3 * s .vertices) (s .slices .positions)) (take (3 * s .vertices) (s .slices .normals)) (take (s .indices) (s .slices .indices)) box M d t (s .splits) =
-          λ k j. assembledText (take (length T) (o j .table)) (take (3 * k j .vertices) (o j .positions)) (take (3 * k j .vertices) (o j .normals)) (take (k j .indices) (o j .indices)) box M d t (k j .splits) in
+          let all : z ≡ sizesIn s → assembledText (take (length T) R) (take (3 * z .vertices) P) (take (3 * z .vertices) N) (take (z .indices) I) box M d t (z .splits)
+          ≡ assembledText (take (length T) (s .slices .table)) (take (3 * s .vertices) (s .slices .positions)) (take (3 * s .vertices) (s .slices .normals))
+          (take (s .indices) (s .slices .indices)) box M d t (s .splits) =
+          λ k j. assembledText (take (length T) (o j .table)) (take (3 * k j .vertices) (o j .positions)) (take (3 * k j .vertices) (o j .normals)) (take (k j .indices) (o j .indices)) box M d t
+          (k j .splits) in
           told-done stitch-cases (sizesIn s) (s .refusal) E W r _ z (sym q ∙ ap (λ (l : LeftStitch). l .answer) e) (λ k. subst (λ (x : List ℕ). Told E x W r) (one ∙ all k) v)
 
   pub stitch-said-refused : (k : ℕ) → g ≡ StitchCase.Refused k → Written E (refusalLine k) W r → StitchSaid T box M d t g R P N I E W r

@@ -25,7 +25,8 @@ fn print_stitched(
     t: Counts,
     out: &mut [u8],
 ) -> usize
-    ensures { λ r. ⌜ StitchSaid (now (rows .entry)) reference (now (materials .entry)) default t given (now («out_rows» .entry)) (now («out_positions» .entry)) (now («out_normals» .entry)) (now («out_indices» .entry)) (now (out .entry)) (now (out .exit)) r ⌝ }
+    ensures { λ r. ⌜ StitchSaid (now (rows .entry)) reference (now (materials .entry)) default t given (now («out_rows» .entry)) (now («out_positions» .entry))
+        (now («out_normals» .entry)) (now («out_indices» .entry)) (now (out .entry)) (now (out .exit)) r ⌝ }
 {
     match given {
         Stitched::Done(z) => assemble_next(
@@ -57,7 +58,8 @@ pub fn stitch_next(
     t: Counts,
     out: &mut [u8],
 ) -> usize
-    ensures { λ r. ⌜ Told (now (out .entry)) (stitchedText (now (rows .entry)) (now (positions .entry)) (now (normals .entry)) (now (indices .entry)) sag reference (now (materials .entry)) default t) (now (out .exit)) r ⌝ }
+    ensures { λ r. ⌜ Told (now (out .entry)) (stitchedText (now (rows .entry)) (now (positions .entry)) (now (normals .entry))
+        (now (indices .entry)) sag reference (now (materials .entry)) default t) (now (out .exit)) r ⌝ }
 {
     let mut out_rows = [0u32; 80];
     let mut out_positions = [0.0f32; 576];

@@ -9,7 +9,8 @@ use Rattle.body_rows.specs.Body.{rowsOf, allVertices, workNeeded, cleared}
 use Rattle.body_rows.specs.Rows.{Total}
 use Rattle.body_checks.specs.Accepted.{Passed}
 
-module _ {table : List ℕ} {ps ns : List Float} {is : List ℕ} (W : List ℕ) {v m n : ℕ} (p : Passed table ps ns is (length W)) (ev : Total (allVertices (rowsOf table)) v) (em : m ≡ length (rowsOf table)) (en : n ≡ length is) where
+module _ {table : List ℕ} {ps ns : List Float} {is : List ℕ} (W : List ℕ) {v m n : ℕ} (p : Passed table ps ns is (length W)) (ev : Total (allVertices (rowsOf table)) v)
+    (em : m ≡ length (rowsOf table)) (en : n ≡ length is) where
   -- the words that it needs
   pub words-are : 16 * n + 16 * m + 4 * v ≡ workNeeded (rowsOf table)
   unfolding workNeeded

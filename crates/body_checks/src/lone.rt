@@ -12,7 +12,8 @@ ghost use Rattle.body_refusals.specs.TableChecks.{tableChecks};
 
 // The number of the first of the checks 11 to 14 that fails, or 0: the table is one row of a patch.
 fn lone_table_failing(positions: &[f32], normals: &[f32], indices: &[u32]) -> u32
-    ensures { λ r. ⌜ r ≡ firstFailing (tableChecks (loneTable (now (positions .entry)) (now (indices .entry))) (rowsOf (loneTable (now (positions .entry)) (now (indices .entry))))
+    ensures { λ r. ⌜ r ≡ firstFailing (tableChecks (loneTable (now (positions .entry)) (now (indices .entry)))
+        (rowsOf (loneTable (now (positions .entry)) (now (indices .entry))))
         (now (positions .entry)) (now (normals .entry)) (now (indices .entry))) ⌝ }
 {
     let v = positions.len() / 3;
@@ -31,7 +32,8 @@ fn lone_table_failing(positions: &[f32], normals: &[f32], indices: &[u32]) -> u3
 // The number of the first of the checks 21 to 23 that fails, or 0.
 fn lone_patch_failing(positions: &[f32], normals: &[f32], indices: &[u32]) -> u32
     requires { ⌜ Tabled (loneTable (now positions) (now indices)) (now positions) (now normals) (now indices) ⌝ }
-    ensures { λ r. ⌜ r ≡ firstFailing (patchChecks (patchesOf (rowsOf (loneTable (now (positions .entry)) (now (indices .entry)))) (now (positions .entry)) (now (normals .entry)) (now (indices .entry)))) ⌝ }
+    ensures { λ r. ⌜ r ≡ firstFailing (patchChecks (patchesOf (rowsOf (loneTable (now (positions .entry)) (now (indices .entry)))) (now (positions .entry))
+        (now (normals .entry)) (now (indices .entry)))) ⌝ }
 {
     if indices.len() % 3 != 0 {
         return 21;

@@ -49,7 +49,8 @@ pub fn any_at_least(s: &[u32], n: u32) -> bool
 // 22: whether an index of row k, whose indices start at base, isn't below the row's vertex count.
 fn bad_indices(table: &[u32], all: &[u32], k: usize, base: usize) -> bool
     requires { ⌜ IndicesOfRow (now table) (now all) k base ⌝ }
-    ensures { λ r. ⌜ r ≡ any (λ i. leb (rowAt (now (table .entry)) k .vertices) i) (take (rowAt (now (table .entry)) k .indices) (drop base (now (all .entry)))) ⌝ }
+    ensures { λ r. ⌜ r ≡ any (λ i. leb (rowAt (now (table .entry)) k .vertices) i)
+        (take (rowAt (now (table .entry)) k .indices) (drop base (now (all .entry)))) ⌝ }
 {
     let n = indices(table, k) as usize;
     any_at_least(&all[base..base + n], vertices(table, k))
@@ -100,7 +101,8 @@ pub fn any_number_not_finite(positions: &[f32], normals: &[f32]) -> bool
 // The number of the first of the checks 21 to 23 that fails, or 0.
 pub fn patch_failing(table: &[u32], positions: &[f32], normals: &[f32], indices: &[u32]) -> u32
     requires { ⌜ Tabled (now table) (now positions) (now normals) (now indices) ⌝ }
-    ensures { λ r. ⌜ r ≡ firstFailing (patchChecks (patchesOf (rowsOf (now (table .entry))) (now (positions .entry)) (now (normals .entry)) (now (indices .entry)))) ⌝ }
+    ensures { λ r. ⌜ r ≡ firstFailing (patchChecks (patchesOf (rowsOf (now (table .entry))) (now (positions .entry)) (now (normals .entry))
+        (now (indices .entry)))) ⌝ }
 {
     if any_part_triangle(table) {
         return 21;

@@ -8,5 +8,6 @@ use Rattle.body_rows.specs.Given.{givenTable, givenPositions, givenIndic
 
 -- every definition that computes
 unfoldable pub evaluation : ℕ
-unfolding Lists.evaluation Floats.evaluation rowsOf tableOf allVertices allIndices patchesOf trianglesOf firstFailing workNeeded cleared rowAt verticesBefore indicesBefore givenTable givenPositions givenIndices axes K6 K6-reversed K7 K8
+unfolding Lists.evaluation Floats.evaluation rowsOf tableOf allVertices allIndices patchesOf trianglesOf firstFailing workNeeded cleared rowAt verticesBefore indicesBefore givenTable givenPositions
+    givenIndices axes K6 K6-reversed K7 K8
 evaluation = 0

@@ -83,7 +83,8 @@ fn wrong_lengths(table: &[u32], positions: &[f32], normals: &[f32], indices: &[u
 
 // The number of the first of the checks 11 to 14 that fails, or 0.
 pub fn table_failing(table: &[u32], positions: &[f32], normals: &[f32], indices: &[u32]) -> u32
-    ensures { λ r. ⌜ r ≡ firstFailing (tableChecks (now (table .entry)) (rowsOf (now (table .entry))) (now (positions .entry)) (now (normals .entry)) (now (indices .entry))) ⌝ }
+    ensures { λ r. ⌜ r ≡ firstFailing (tableChecks (now (table .entry)) (rowsOf (now (table .entry))) (now (positions .entry)) (now (normals .entry))
+        (now (indices .entry))) ⌝ }
 {
     if not_whole(table) {
         return 11;

@@ -9,7 +9,29 @@ use Rattle.cad_answers.specs.Assembling.{cadAssembled}
 
 -- the struct of a call that is done
 pub done-told : {t : Assembled} {c : MeshCounts} {f : ℕ} → t ≡ Done c → f ≡ cond (c .closed) 1 0
-    → record { refusal = 0; vertices = c .vertices; indices = c .indices; parts = c .parts; ranges = c .ranges; failures = c .failures; edges = c .edges; opens = c .opens; overs = c .overs; closed = f } ≡ cadAssembled t
+    → record {
+      refusal = 0;
+      vertices = c .vertices;
+      indices = c .indices;
+      parts = c .parts;
+      ranges = c .ranges;
+      failures = c .failures;
+      edges = c .edges;
+      opens = c .opens;
+      overs = c .overs;
+      closed = f;
+    } ≡ cadAssembled t
 done-told {t} {c} {f} e h =
-    (λ j. record { refusal = 0; vertices = c .vertices; indices = c .indices; parts = c .parts; ranges = c .ranges; failures = c .failures; edges = c .edges; opens = c .opens; overs = c .overs; closed = h j })
+    (λ j. record {
+      refusal = 0;
+      vertices = c .vertices;
+      indices = c .indices;
+      parts = c .parts;
+      ranges = c .ranges;
+      failures = c .failures;
+      edges = c .edges;
+      opens = c .opens;
+      overs = c .overs;
+      closed = h j;
+    })
     ∙ ap cadAssembled (sym e)

@@ -51,7 +51,8 @@ written-told v out =
     }
 
 -- the checks of the result decide
-result-told : (rows : List Row) (materials : List ℕ) (default : ℕ) (v : Acceptance) (out : MeshSlices) → flat (assembleAnswered (assembleOrRefuse rows materials default v out)) ≡ assembleOrRefuse rows materials default v out
+result-told : (rows : List Row) (materials : List ℕ) (default : ℕ) (v : Acceptance) (out : MeshSlices)
+    → flat (assembleAnswered (assembleOrRefuse rows materials default v out)) ≡ assembleOrRefuse rows materials default v out
 unfolding assembleOrRefuse
 result-told rows materials default v out =
     let n = firstFailing (meshChecks (length rows) materials default (v .accepted) out) in
@@ -65,7 +66,8 @@ module _ (table : List ℕ) (ps ns : List Float) (is : List ℕ) (box : Aabb) (m
       let n = firstFailing (bodyChecks table ps ns is (length (out .work))) in
       let v = acceptance box materials default (patchesOf (rowsOf table) ps ns is) in
       let o = clearedMesh (rowsOf table) out in
-      either (λ t. flat (assembleAnswered t)) (eqb n 0) (assembleOrRefuse (rowsOf table) materials default v o) (refuseMesh n out) (result-told (rowsOf table) materials default v o) (refused-told n out)
+      either (λ t. flat (assembleAnswered t)) (eqb n 0) (assembleOrRefuse (rowsOf table) materials default v o) (refuseMesh n out) (result-told (rowsOf table) materials default v o)
+      (refused-told n out)
 
   -- what the call leaves
   pub call-left : {b : Aabb} {t : Assembled} {r : CadAssembled} {s : MeshSlices} → b ≡ box → leftMesh t s ≡ assembleAnswered (assembleOf table ps ns is b materials default out) → r ≡ cadAssembled t

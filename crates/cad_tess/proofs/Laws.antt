@@ -54,7 +54,8 @@ module _ (ps ns : List Float) (is : List ℕ) {r : CadMeasured} {m : Measured} (
       ∙ ap (λ x. cadMeasured (farthestAlone ps ns is x)) g
 
 -- the struct of an escape
-pub escapes-struct : (ps ns : List Float) (is : List ℕ) {r : CadJudged} {j : Judged} {b box : Aabb} → r ≡ cadJudged (judgedAs j) → j ≡ judgedOf (escapesAlone ps ns is b) → b ≡ box → r ≡ cadJudged (escapesAlone ps ns is box)
+pub escapes-struct : (ps ns : List Float) (is : List ℕ) {r : CadJudged} {j : Judged} {b box : Aabb} → r ≡ cadJudged (judgedAs j) → j ≡ judgedOf (escapesAlone ps ns is b) → b ≡ box
+    → r ≡ cadJudged (escapesAlone ps ns is box)
 unfolding escapesAlone alone
 escapes-struct ps ns is {r} {j} {b} {box} e f g =
     e

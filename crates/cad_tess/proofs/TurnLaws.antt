@@ -34,7 +34,8 @@ module _ (rule : Rule) (table : List ℕ) (ps ns : List Float) (is work : List �
   unfolding turnOf turnBody
   all-told =
       let n = firstFailing (bodyChecks table ps ns is (length work)) in
-      either (λ t. flat (answered t)) (eqb n 0) (turnBody (rowsOf table) (patchesOf (rowsOf table) ps ns is) (walksOf (patchesOf (rowsOf table) ps ns is) (joined (names rule ps))) work) (refuseTurn n ns is work) refl (refused-told n ns is work)
+      either (λ t. flat (answered t)) (eqb n 0) (turnBody (rowsOf table) (patchesOf (rowsOf table) ps ns is) (walksOf (patchesOf (rowsOf table) ps ns is) (joined (names rule ps))) work)
+      (refuseTurn n ns is work) refl (refused-told n ns is work)
 
   -- what the call leaves
   pub call-left : {t : Turned} {r : CadTurned} {ns' : List Float} {is' work' : List ℕ} → left t ns' is' work' ≡ answered (turnOf rule table ps ns is work) → r ≡ cadTurned t

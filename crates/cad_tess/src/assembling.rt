@@ -33,9 +33,12 @@ pub extern "C" fn cad_assemble(
     failures: &mut [u64],
     work: &mut [u64],
 ) -> CadAssembled
-    ensures { λ r. ⌜ leftAfterAssemble r (slicesOf (now («mesh_positions» .exit)) (now («mesh_normals» .exit)) (now («mesh_indices» .exit)) (now (parts .exit)) (now (ranges .exit)) (now (failures .exit)) (now (work .exit)))
-        ≡ assembleOf (now (rows .entry)) (now (positions .entry)) (now (normals .entry)) (now (indices .entry)) (boxOf x0 y0 z0 x1 y1 z1) (now (materials .entry)) default
-        (slicesOf (now («mesh_positions» .entry)) (now («mesh_normals» .entry)) (now («mesh_indices» .entry)) (now (parts .entry)) (now (ranges .entry)) (now (failures .entry)) (now (work .entry))) ⌝ }
+    ensures { λ r. ⌜ leftAfterAssemble r (slicesOf (now («mesh_positions» .exit)) (now («mesh_normals» .exit)) (now («mesh_indices» .exit)) (now (parts .exit))
+        (now (ranges .exit)) (now (failures .exit)) (now (work .exit)))
+        ≡ assembleOf (now (rows .entry)) (now (positions .entry)) (now (normals .entry)) (now (indices .entry)) (boxOf x0 y0 z0 x1 y1 z1)
+        (now (materials .entry)) default
+        (slicesOf (now («mesh_positions» .entry)) (now («mesh_normals» .entry)) (now («mesh_indices» .entry)) (now (parts .entry)) (now (ranges .entry))
+        (now (failures .entry)) (now (work .entry))) ⌝ }
 {
     let reference = box_of(x0, y0, z0, x1, y1, z1);
     assembled_answer(mesh_assemble::assemble(

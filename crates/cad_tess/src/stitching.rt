@@ -22,7 +22,8 @@ pub extern "C" fn cad_stitch(
     out_indices: &mut [u32],
     work: &mut [u64],
 ) -> CadStitched
-    ensures { λ r. ⌜ leftAfterStitch r (slicesOf (now («out_rows» .exit)) (now («out_positions» .exit)) (now («out_normals» .exit)) (now («out_indices» .exit)) (now (work .exit)))
+    ensures { λ r. ⌜ leftAfterStitch r (slicesOf (now («out_rows» .exit)) (now («out_positions» .exit)) (now («out_normals» .exit)) (now («out_indices» .exit))
+        (now (work .exit)))
         ≡ stitchOf Points.key (now (rows .entry)) (now (positions .entry)) (now (normals .entry)) (now (indices .entry)) sag
         (slicesOf (now («out_rows» .entry)) (now («out_positions» .entry)) (now («out_normals» .entry)) (now («out_indices» .entry)) (now (work .entry))) ⌝ }
 {

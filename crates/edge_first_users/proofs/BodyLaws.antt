@@ -43,7 +43,8 @@ body-none word table is W shells points at =
     let z = before-none (rowsOf table) in
     record { done = []; low = omega arith; at-v = omega (arith, z .0); at-i = omega (arith, z .1); count = refl; list = refl; long = refl; rest = refl }
 
-module _ {word : Use → ℕ} {table is W w shells : List ℕ} {points at k v i : ℕ} (r : BodyReady table is W points at) (n : WritingBody word table is W shells points at k v i w) (more : k < length (rowsOf table)) where
+module _ {word : Use → ℕ} {table is W w shells : List ℕ} {points at k v i : ℕ} (r : BodyReady table is W points at) (n : WritingBody word table is W shells points at k v i w)
+    (more : k < length (rowsOf table)) where
   -- the row's vertices and indices lie within the body's
   pub v-end : v + rowAt table k .vertices ≤ points + allVertices (rowsOf table)
   v-end = omega (arith, n .at-v, vertices-next table k more, vertices-front (rowsOf table) (k + 1))
@@ -156,7 +157,8 @@ body-all {word} {table} {is} {W} {w} {shells} {points} {at} {k} {v} {i} n h =
 
 -- ---- names: a number of each row's shell stands in the work area
 
-module _ {table is W w : List ℕ} {points shells at k v i : ℕ} (r : NamesReady table is W points shells at) (n : WritingBody useName table is W (drop shells W) points at k v i w) (more : k < length (rowsOf table)) where
+module _ {table is W w : List ℕ} {points shells at k v i : ℕ} (r : NamesReady table is W points shells at) (n : WritingBody useName table is W (drop shells W) points at k v i w)
+    (more : k < length (rowsOf table)) where
   enough : length (rowsOf table) ≤ length (drop shells W)
   enough = omega (arith, length-drop shells W, r .shells-apart, r .body .room)
 
@@ -182,7 +184,8 @@ module _ {table is W w : List ℕ} {points shells at k v i : ℕ} (r : NamesRead
 
 -- ---- runs
 
-pub runs-more : {table is W w : List ℕ} {points at k v i : ℕ} (r : BodyReady table is W points at) (n : WritingBody useRun table is W (replicate (length (rowsOf table)) 0) points at k v i w) (more : k < length (rowsOf table))
+pub runs-more : {table is W w : List ℕ} {points at k v i : ℕ} (r : BodyReady table is W points at) (n : WritingBody useRun table is W (replicate (length (rowsOf table)) 0) points at k v i w)
+    (more : k < length (rowsOf table))
     {vs e : ℕ} {x : List ℕ} → vs ≡ rowAt table k .vertices → e ≡ i + rowAt table k .indices
     → x ≡ sets w (at + i) (map useRun (triangleUses 0 0 (drop v w) (trianglesOf (take (e - i) (drop i is)))))
     → WritingBody useRun table is W (replicate (length (rowsOf table)) 0) points at (k + 1) (v + vs) e x

@@ -42,7 +42,8 @@ pub fn name_uses(
 pub fn list_runs(rows: &[u32], indices: &[u32], w: &mut [u64], points: usize, at: usize)
     requires { ⌜ BodyReady (now rows) (now indices) (now w) points at ⌝ }
     ensures { λ _. ⌜ now (w .exit) ≡ sets (now (w .entry)) at
-        (map useRun (rowUses (replicate (length (rowsOf (now (rows .entry)))) 0) 0 (drop points (now (w .entry))) (rowsOf (now (rows .entry))) (now (indices .entry)))) ⌝ }
+        (map useRun (rowUses (replicate (length (rowsOf (now (rows .entry)))) 0) 0 (drop points (now (w .entry))) (rowsOf (now (rows .entry)))
+        (now (indices .entry)))) ⌝ }
 {
     let n = body_rows::row_count(rows);
     let mut k = 0;

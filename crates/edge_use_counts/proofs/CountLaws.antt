@@ -24,7 +24,8 @@ count-snoc f [] x = go (f x)
     go false = refl
 count-snoc f (y ∷ xs) x = go (f y) (count-snoc f xs x)
   where
-    go : (b : Bool) → countIf f (xs ++ x ∷ []) ≡ countIf f xs + cond (f x) 1 0 → cond b (suc (countIf f (xs ++ x ∷ []))) (countIf f (xs ++ x ∷ [])) ≡ cond b (suc (countIf f xs)) (countIf f xs) + cond (f x) 1 0
+    go : (b : Bool) → countIf f (xs ++ x ∷ []) ≡ countIf f xs + cond (f x) 1 0
+        → cond b (suc (countIf f (xs ++ x ∷ []))) (countIf f (xs ++ x ∷ [])) ≡ cond b (suc (countIf f xs)) (countIf f xs) + cond (f x) 1 0
     go true e = omega arith
     go false e = e
 
@@ -144,7 +145,8 @@ module _ {W w : List ℕ} {firsts counts n i : ℕ} (r : CountReady W firsts cou
       }
     where
       go : (j : ℕ) → j < n → Dec (j ≡ getD w (firsts + i) 0)
-          → getD (set w (counts + getD w (firsts + i) 0) (getD w (counts + getD w (firsts + i) 0) 0 + 1)) (counts + j) 0 ≡ countIf (eqb j) (take i (drop firsts W)) + cond (eqb j (getD w (firsts + i) 0)) 1 0
+          → getD (set w (counts + getD w (firsts + i) 0) (getD w (counts + getD w (firsts + i) 0) 0 + 1)) (counts + j) 0
+          ≡ countIf (eqb j) (take i (drop firsts W)) + cond (eqb j (getD w (firsts + i) 0)) 1 0
       go j h (yes q) =
           rw (eq-eqb j (getD w (firsts + i) 0) q)
           (ap (λ (m : ℕ). getD (set w (counts + getD w (firsts + i) 0) (getD w (counts + getD w (firsts + i) 0) 0 + 1)) (counts + m) 0) q

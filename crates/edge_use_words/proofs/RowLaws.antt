@@ -66,7 +66,8 @@ uses-three : (is P : List ℕ) (shell k to : ℕ) → k + 3 ≤ to → to ≤ le
 unfolding triangleUses trianglesOf
 uses-three is P shell k to h l = ap (λ (xs : List ℕ). triangleUses shell 0 P (trianglesOf xs)) (take-three is k to h l)
 
-module _ {word : Use → ℕ} {is W w : List ℕ} {points vertices from to at shell k : ℕ} (r : RowReady is W points vertices from to at) (n : Writing word is W points from to at shell k w) (more : k < to) where
+module _ {word : Use → ℕ} {is W w : List ℕ} {points vertices from to at shell k : ℕ} (r : RowReady is W points vertices from to at) (n : Writing word is W points from to at shell k w)
+    (more : k < to) where
   three : k + 3 ≤ to
   three = omega (arith, n .whole)
 
@@ -141,8 +142,10 @@ module _ {word : Use → ℕ} {is W w : List ℕ} {points vertices from to at sh
         here : usesBetween is P shell k to ≡ us ++ usesBetween is P shell (k + 3) to
         here =
             uses-three is P shell k to three (r .inside)
-            ∙ ap (λ (x : ℕ). useOf shell x (getD P (getD is (k + 1) 0) 0) ∷ useOf shell (getD P (getD is (k + 1) 0) 0) (getD P (getD is (k + 2) 0) 0) ∷ useOf shell (getD P (getD is (k + 2) 0) 0) x ∷ usesBetween is P shell (k + 3) to) (point k (omega arith) (omega arith) a ea)
-            ∙ ap (λ (x : ℕ). useOf shell a x ∷ useOf shell x (getD P (getD is (k + 2) 0) 0) ∷ useOf shell (getD P (getD is (k + 2) 0) 0) a ∷ usesBetween is P shell (k + 3) to) (point (k + 1) (omega arith) (omega arith) b eb)
+            ∙ ap (λ (x : ℕ). useOf shell x (getD P (getD is (k + 1) 0) 0) ∷ useOf shell (getD P (getD is (k + 1) 0) 0) (getD P (getD is (k + 2) 0) 0) ∷ useOf shell (getD P (getD is (k + 2) 0) 0) x
+            ∷ usesBetween is P shell (k + 3) to) (point k (omega arith) (omega arith) a ea)
+            ∙ ap (λ (x : ℕ). useOf shell a x ∷ useOf shell x (getD P (getD is (k + 2) 0) 0) ∷ useOf shell (getD P (getD is (k + 2) 0) 0) a ∷ usesBetween is P shell (k + 3) to)
+            (point (k + 1) (omega arith) (omega arith) b eb)
             ∙ ap (λ (x : ℕ). useOf shell a b ∷ useOf shell b x ∷ useOf shell x a ∷ usesBetween is P shell (k + 3) to) (point (k + 2) (omega arith) (omega arith) c ec)
 
 pub writing-all : {word : Use → ℕ} {is W w : List ℕ} {points from to at shell k : ℕ} → Writing word is W points from to at shell k w → to ≤ k

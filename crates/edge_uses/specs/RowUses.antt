@@ -62,7 +62,8 @@ uses-count shell row P (x ∷ y ∷ z ∷ xs) e = let h = uses-count shell row P
 -- ---- the uses of all rows
 
 -- a use for each index
-pub uses-all : (shells : List ℕ) (row : ℕ) (P : List ℕ) (rows : List Row) (is : List ℕ) → ((k : ℕ) → k < length rows → getD rows k noRow .indices % 3 ≡ 0) → allIndices rows ≤ length is → length rows ≤ length shells
+pub uses-all : (shells : List ℕ) (row : ℕ) (P : List ℕ) (rows : List Row) (is : List ℕ) → ((k : ℕ) → k < length rows → getD rows k noRow .indices % 3 ≡ 0) → allIndices rows ≤ length is
+    → length rows ≤ length shells
     → length (rowUses shells row P rows is) ≡ allIndices rows
 unfolding rowUses allIndices sumOf
 uses-all shells row P [] is w l e = refl

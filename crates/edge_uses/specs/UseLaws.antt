@@ -31,7 +31,8 @@ pub rows-uses : (f : Row → ℕ) (row : ℕ) (P : List ℕ) (rows : List Row) (
 unfolding rowUses usesFrom patchesOf
 rows-uses f row P [] ps ns is = refl
 rows-uses f row P (r ∷ rs) ps ns is =
-    ap (λ us. triangleUses (f r) row P (trianglesOf (take (r .indices) is)) ++ us) (rows-uses f (suc row) (drop (r .vertices) P) rs (drop (3 * r .vertices) ps) (drop (3 * r .vertices) ns) (drop (r .indices) is))
+    ap (λ us. triangleUses (f r) row P (trianglesOf (take (r .indices) is)) ++ us)
+    (rows-uses f (suc row) (drop (r .vertices) P) rs (drop (3 * r .vertices) ps) (drop (3 * r .vertices) ns) (drop (r .indices) is))
 
 -- one row's uses with another number for its shell
 triangles-in : (g : ℕ → ℕ) (shell row : ℕ) (P : List ℕ) (ts : List Triangle) → triangleUses (g shell) row P ts ≡ map (inShell g) (triangleUses shell row P ts)
@@ -86,7 +87,8 @@ first-at name us t i h l =
     ∙ ap (λ n. getD us (indexOf n (map name us)) noUse) (sym (getD-map name us i h))
 
 -- two tests that agree on two lists, item by item, count alike
-count-alike : {A B : Type 0} (f : A → Bool) (g : B → Bool) (xs : List A) (ys : List B) (d : A) (e : B) → length xs ≡ length ys → ((j : ℕ) → j < length xs → f (getD xs j d) ≡ g (getD ys j e)) → countIf f xs ≡ countIf g ys
+count-alike : {A B : Type 0} (f : A → Bool) (g : B → Bool) (xs : List A) (ys : List B) (d : A) (e : B) → length xs ≡ length ys → ((j : ℕ) → j < length xs → f (getD xs j d) ≡ g (getD ys j e))
+    → countIf f xs ≡ countIf g ys
 unfolding countIf
 count-alike f g [] [] d e l h = refl
 count-alike f g [] (y ∷ ys) d e l h = absurd (omega arith)
@@ -186,17 +188,21 @@ unfolding sameEdge
 apart-tells g us a i j h l =
     let u = getD us i noUse in
     let v = getD us j noUse in
-    go (ℕ-discrete (v .shell) (u .shell)) (names-tell (inShell g u) (inShell g v) (record { start-low = a .low i h .start-low; end-low = a .low i h .end-low }) (record { start-low = a .low j l .start-low; end-low = a .low j l .end-low }))
+    go (ℕ-discrete (v .shell) (u .shell)) (names-tell (inShell g u) (inShell g v) (record { start-low = a .low i h .start-low; end-low = a .low i h .end-low })
+    (record { start-low = a .low j l .start-low; end-low = a .low j l .end-low }))
   where
     go : Dec (getD us j noUse .shell ≡ getD us i noUse .shell) → sameEdge (inShell g (getD us j noUse)) (inShell g (getD us i noUse)) ≡ eqb (nameBy g (getD us i noUse)) (nameBy g (getD us j noUse))
-        → (eqb (getD us j noUse .shell) (getD us i noUse .shell) && (eqb (getD us j noUse .start) (getD us i noUse .start) && eqb (getD us j noUse .end) (getD us i noUse .end) || eqb (getD us j noUse .start) (getD us i noUse .end) && eqb (getD us j noUse .end) (getD us i noUse .start)))
+        → (eqb (getD us j noUse .shell) (getD us i noUse .shell) && (eqb (getD us j noUse .start) (getD us i noUse .start) && eqb (getD us j noUse .end) (getD us i noUse .end) || eqb
+        (getD us j noUse .start) (getD us i noUse .end) && eqb (getD us j noUse .end) (getD us i noUse .start)))
         ≡ eqb (nameBy g (getD us i noUse)) (nameBy g (getD us j noUse))
     go (yes e) t =
-        ap (λ b. b && (eqb (getD us j noUse .start) (getD us i noUse .start) && eqb (getD us j noUse .end) (getD us i noUse .end) || eqb (getD us j noUse .start) (getD us i noUse .end) && eqb (getD us j noUse .end) (getD us i noUse .start)))
+        ap (λ b. b && (eqb (getD us j noUse .start) (getD us i noUse .start) && eqb (getD us j noUse .end) (getD us i noUse .end) || eqb (getD us j noUse .start) (getD us i noUse .end) && eqb
+        (getD us j noUse .end) (getD us i noUse .start)))
         (eq-eqb (getD us j noUse .shell) (getD us i noUse .shell) e ∙ sym (eq-eqb (g (getD us j noUse .shell)) (g (getD us i noUse .shell)) (ap g e)))
         ∙ t
     go (no n) t =
-        ap (λ b. b && (eqb (getD us j noUse .start) (getD us i noUse .start) && eqb (getD us j noUse .end) (getD us i noUse .end) || eqb (getD us j noUse .start) (getD us i noUse .end) && eqb (getD us j noUse .end) (getD us i noUse .start)))
+        ap (λ b. b && (eqb (getD us j noUse .start) (getD us i noUse .start) && eqb (getD us j noUse .end) (getD us i noUse .end) || eqb (getD us j noUse .start) (getD us i noUse .end) && eqb
+        (getD us j noUse .end) (getD us i noUse .start)))
         (ne-eqb (getD us j noUse .shell) (getD us i noUse .shell) n ∙ sym (ne-eqb (g (getD us j noUse .shell)) (g (getD us i noUse .shell)) (λ e. n (a .shells j i l h e))))
         ∙ t
 

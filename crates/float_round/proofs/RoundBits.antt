@@ -41,9 +41,11 @@ unfolding roundAway
 infinity s = refl
 
 -- a whole number n that is q * 2 ^ k of the smallest values
-whole-bits : (s : Bool) (n g j q k : ℕ) → g < 2 ^ 53 → n ≡ g * 2 ^ j → j < 972 → n * 2 ^ 1074 ≡ q * 2 ^ k → (k ≡ 0) ⊎ (2 ^ 52 ≤ q) → q ≤ 2 ^ 53 → toBits binary64 (round binary64 s n 1) ≡ cond s (2 ^ 63) 0 + (k * 2 ^ 52 + q)
+whole-bits : (s : Bool) (n g j q k : ℕ) → g < 2 ^ 53 → n ≡ g * 2 ^ j → j < 972 → n * 2 ^ 1074 ≡ q * 2 ^ k → (k ≡ 0) ⊎ (2 ^ 52 ≤ q) → q ≤ 2 ^ 53
+    → toBits binary64 (round binary64 s n 1) ≡ cond s (2 ^ 63) 0 + (k * 2 ^ 52 + q)
 whole-bits s n g j q k G e J v lead most =
-    exact-bits binary64 (round binary64 s n 1) s q k (subst (λ (z : ℕ). HasValue (round binary64 s n 1) s z (2 ^ 1074)) v (rescaled (round binary64 s n 1) s n 1 (2 ^ 1074) (2 ^ 1074) refl (round-exact binary64 s n 1 g (j + 1074) (lit< tt) G under is))) lead most
+    exact-bits binary64 (round binary64 s n 1) s q k (subst (λ (z : ℕ). HasValue (round binary64 s n 1) s z (2 ^ 1074)) v
+    (rescaled (round binary64 s n 1) s n 1 (2 ^ 1074) (2 ^ 1074) refl (round-exact binary64 s n 1 g (j + 1074) (lit< tt) G under is))) lead most
   where
     is : n * 2 ^ 1074 ≡ g * 2 ^ (j + 1074) * 1
     is = ap (λ (z : ℕ). z * 2 ^ 1074) e ∙ mul-assoc g (2 ^ j) (2 ^ 1074) ∙ ap (λ (z : ℕ). g * z) (sym (pow-add 2 j 1074)) ∙ sym (mul-one (g * 2 ^ (j + 1074)))
@@ -113,7 +115,8 @@ module _ (b : ℕ) where
       ∙ ap (λ (n : ℕ). toBits binary64 (round binary64 (sign b) n 1)) (some-digits (all b) (field b - 1) 1074 sh (omega arith) ∙ ap (λ (z : ℕ). halfUp z (2 ^ sh)) (all-is b (omega arith)))
       ∙ whole-bits (sign b) (halfUp M (2 ^ sh)) (halfUp M (2 ^ sh)) 0 (halfUp M (2 ^ sh) * 2 ^ sh) (field b - 1)
       (n-lt M sh (omega arith) (omega arith) (omega arith) (omega arith)) (sym (mul-one (halfUp M (2 ^ sh)))) (lit< tt)
-      (ap (λ (z : ℕ). halfUp M (2 ^ sh) * 2 ^ z) (whole-is (field b) (omega arith) (omega arith)) ∙ ap (λ (z : ℕ). halfUp M (2 ^ sh) * z) (pow-add 2 sh (field b - 1)) ∙ sym (mul-assoc (halfUp M (2 ^ sh)) (2 ^ sh) (2 ^ (field b - 1))))
+      (ap (λ (z : ℕ). halfUp M (2 ^ sh) * 2 ^ z) (whole-is (field b) (omega arith) (omega arith)) ∙ ap (λ (z : ℕ). halfUp M (2 ^ sh) * z) (pow-add 2 sh (field b - 1))
+      ∙ sym (mul-assoc (halfUp M (2 ^ sh)) (2 ^ sh) (2 ^ (field b - 1))))
       (inr (kept-ge M sh (omega arith) (omega arith) (omega arith) (omega arith)))
       (kept-le M sh (omega arith) (omega arith) (omega arith) (omega arith))
     where

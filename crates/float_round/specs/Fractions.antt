@@ -16,7 +16,8 @@ module _ (M x p : ℕ) where
   -- below a half
   pub below-half : (n : ℕ) → M < 2 ^ n → n + x < p → halfUp (M * 2 ^ x) (2 ^ p) ≡ 0
   below-half n h l =
-      div-eq-of-lt (less (M * 2 ^ x) (2 ^ p) (lt-of-lt-of-le (mul-lt-mul-of-pos-right (shl-lt n x h) (lit< tt)) (le-trans (le-of-eq (mul-comm (2 ^ (n + x)) 2 ∙ sym (pow-add 2 1 (n + x)))) (pow-mono {i = 1 + (n + x)} {j = p} (omega arith)))))
+      div-eq-of-lt (less (M * 2 ^ x) (2 ^ p) (lt-of-lt-of-le (mul-lt-mul-of-pos-right (shl-lt n x h) (lit< tt))
+      (le-trans (le-of-eq (mul-comm (2 ^ (n + x)) 2 ∙ sym (pow-add 2 1 (n + x)))) (pow-mono {i = 1 + (n + x)} {j = p} (omega arith)))))
     where
       less : (a c : ℕ) → a * 2 < c → a * 2 + c < c * 2
       less a c h = omega arith

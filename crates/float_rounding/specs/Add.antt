@@ -34,7 +34,8 @@ module _ (X Y C a b c : ℕ) (Z : 0 < C) (z : 0 < c) (p : X * c ≡ a * C) (q : 
   sum-add = omega arith
 
   sum-sub : (X - Y) * c ≡ (a - b) * C
-  sum-sub = mul-comm (X - Y) c ∙ mul-sub c X Y ∙ ap (λ (t : ℕ). t - c * Y) (mul-comm c X ∙ p ∙ mul-comm a C) ∙ ap (λ (t : ℕ). C * a - t) (mul-comm c Y ∙ q ∙ mul-comm b C) ∙ sym (mul-sub C a b) ∙ mul-comm C (a - b)
+  sum-sub = mul-comm (X - Y) c ∙ mul-sub c X Y ∙ ap (λ (t : ℕ). t - c * Y) (mul-comm c X ∙ p ∙ mul-comm a C) ∙ ap (λ (t : ℕ). C * a - t) (mul-comm c Y ∙ q ∙ mul-comm b C) ∙ sym (mul-sub C a b)
+      ∙ mul-comm C (a - b)
 
 -- c - d and c' - d' are the same
 pub rounded-same : (f : Format) (x : Float) (c d c' d' : ℕ) → c + d' ≡ c' + d → Rounded f x c d → Rounded f x c' d'
@@ -62,10 +63,12 @@ sum-rounded f false a true b h = go (ltb a b) (ltb→lt a b) (nltb→le a b)
     go false l g = let k = g tt in rounded-same f (round f false (a - b) (2 ^ low f)) (a - b) 0 (a + 0) (0 + b) (omega arith) (round-rounded f false (a - b) (omega arith))
 sum-rounded f true a false b h = go (ltb a b) (ltb b a) (ltb→lt a b) (nltb→le a b) (ltb→lt b a) (nltb→le b a)
   where
-    go : (x y : Bool) → (T x → a < b) → (T (not x) → b ≤ a) → (T y → b < a) → (T (not y) → a ≤ b) → Rounded f (cond x (round f false (b - a) (2 ^ low f)) (round f y (a - b) (2 ^ low f))) (0 + b) (a + 0)
+    go : (x y : Bool) → (T x → a < b) → (T (not x) → b ≤ a) → (T y → b < a) → (T (not y) → a ≤ b)
+        → Rounded f (cond x (round f false (b - a) (2 ^ low f)) (round f y (a - b) (2 ^ low f))) (0 + b) (a + 0)
     go true y l g l' g' = let k = l tt in rounded-same f (round f false (b - a) (2 ^ low f)) (b - a) 0 (0 + b) (a + 0) (omega arith) (round-rounded f false (b - a) (omega arith))
     go false true l g l' g' = let k = g tt in rounded-same f (round f true (a - b) (2 ^ low f)) 0 (a - b) (0 + b) (a + 0) (omega arith) (round-rounded f true (a - b) (omega arith))
-    go false false l g l' g' = let k = g tt in let k' = g' tt in rounded-same f (round f false (a - b) (2 ^ low f)) (a - b) 0 (0 + b) (a + 0) (omega arith) (round-rounded f false (a - b) (omega arith))
+    go false false l g l' g' = let k = g tt in let k' = g' tt in rounded-same f (round f false (a - b) (2 ^ low f)) (a - b) 0 (0 + b) (a + 0) (omega arith)
+        (round-rounded f false (a - b) (omega arith))
 
 -- ---- `sum` sees only the values of its fractions
 pub sum-same : (f : Format) (s : Bool) (X : ℕ) (t : Bool) (Y C a b c : ℕ) → 0 < C → 0 < c → X * c ≡ a * C → Y * c ≡ b * C → sum f s X t Y C ≡ sum f s a t b c

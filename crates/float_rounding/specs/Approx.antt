@@ -53,7 +53,8 @@ under w h = subst (λ (z : ℕ). w < z) top64-is h
 
 -- ---- the sum and the difference
 -- the errors of a sum add up, and rounding it adds a bound of the sizes
-pub add-approx : {k : ℕ} {x y : Float} {c d e c' d' e' : ℕ} (B : ℕ) → 0 < k → (r : Approx k x c d e) (t : Approx k y c' d' e') → r .size * k + t .size * k ≤ B → B * 2 < top64 → Approx k (add binary64 x y) (c + c') (d + d') (e + e' + B)
+pub add-approx : {k : ℕ} {x y : Float} {c d e c' d' e' : ℕ} (B : ℕ) → 0 < k → (r : Approx k x c d e) (t : Approx k y c' d' e') → r .size * k + t .size * k ≤ B → B * 2 < top64
+    → Approx k (add binary64 x y) (c + c') (d + d') (e + e' + B)
 add-approx {k} {x} {y} {c} {d} {e} {c'} {d'} {e'} B K r t h fine =
     let w = r .size + t .size in
     let l : w ≤ w * k = omega (arith, mul-le-mul-left w K) in
@@ -86,7 +87,8 @@ neg-approx {k} {x} {c} {d} {e} r =
     turned false a = (refl, refl)
 
 -- a difference is the sum with the other sign
-pub sub-approx : {k : ℕ} {x y : Float} {c d e c' d' e' : ℕ} (B : ℕ) → 0 < k → (r : Approx k x c d e) (t : Approx k y c' d' e') → r .size * k + t .size * k ≤ B → B * 2 < top64 → Approx k (sub binary64 x y) (c + d') (d + c') (e + e' + B)
+pub sub-approx : {k : ℕ} {x y : Float} {c d e c' d' e' : ℕ} (B : ℕ) → 0 < k → (r : Approx k x c d e) (t : Approx k y c' d' e') → r .size * k + t .size * k ≤ B → B * 2 < top64
+    → Approx k (sub binary64 x y) (c + d') (d + c') (e + e' + B)
 unfolding sub neg-approx
 sub-approx B K r t h fine = add-approx B K r (neg-approx t) h fine
 

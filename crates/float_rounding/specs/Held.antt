@@ -1,7 +1,23 @@
 -- The values that a format holds, as digits of a weight; and the product of two f32 values, which an f64 holds exactly. Assumes nothing.
 use mathlib.Core.Path.{_≡_, refl, sym, ap, _∙_, subst}
 use Prim.Native.Nat.{ℕ, zero, suc, _+_, _-_, _*_, _%_, _^_, _≤_, _<_}
-use native.Mathlib.Nat.{lt-of-lt-of-le, mul-comm, mul-assoc, mul-left-comm, mul-mul-mul-comm, mul-one, one-mul, zero-mul, mul-le-mul, mul-lt-mul-of-pos-right, lt-of-mul-lt-mul-right, mul-pos, le-of-suc-le-suc, lt-of-not-le, lt-irrefl}
+use native.Mathlib.Nat.{
+  lt-of-lt-of-le,
+  mul-comm,
+  mul-assoc,
+  mul-left-comm,
+  mul-mul-mul-comm,
+  mul-one,
+  one-mul,
+  zero-mul,
+  mul-le-mul,
+  mul-lt-mul-of-pos-right,
+  lt-of-mul-lt-mul-right,
+  mul-pos,
+  le-of-suc-le-suc,
+  lt-of-not-le,
+  lt-irrefl,
+}
 use native.Mathlib.Omega.{arith}
 use mathlib.Core.Bool.{Bool, _&&_}
 use lib.IntN.{ℤ, pos, negsuc}

@@ -81,7 +81,8 @@ module _ (f : Format) (w c : ℕ) (C : 0 < c) where
 pub mul-scaled : (f : Format) (x y : Float) (s : Bool) (a c : ℕ) (t : Bool) (b : ℕ) → 0 < c → HasValue x s a c → HasValue y t b (2 ^ low f) → a * b * 2 + c < overflow f * c
     → Scaled f (mul f x y) c (plus (unlike s t) (a * b)) (less (unlike s t) (a * b))
 mul-scaled f x y s a c t b C p q h =
-    subst (λ (z : Float). Scaled f z c (plus (unlike s t) (a * b)) (less (unlike s t) (a * b))) (sym (mul-same f x y s a c t b (2 ^ low f) C (pow-pos (low f)) p q)) (round-scaled f (a * b) c C (unlike s t) h)
+    subst (λ (z : Float). Scaled f z c (plus (unlike s t) (a * b)) (less (unlike s t) (a * b))) (sym (mul-same f x y s a c t b (2 ^ low f) C (pow-pos (low f)) p q))
+    (round-scaled f (a * b) c C (unlike s t) h)
 
 -- ---- the quotient by a whole number c above 0: x is a units
 cond-zero : {X : Type 0} (n : ℕ) (x y : X) → 0 < n → cond (eqb n 0) x y ≡ y

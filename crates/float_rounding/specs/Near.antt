@@ -2,7 +2,23 @@
 use mathlib.Core.Path.{_≡_, refl, sym, ap, _∙_, subst}
 use mathlib.Core.Logic.{_⊎_, inl, inr}
 use Prim.Native.Nat.{ℕ, zero, suc, _+_, _-_, _*_, _/_, _%_, _^_, _≤_, _<_, compare, Ordering, Ordering·lt, Ordering·eq, Ordering·gt}
-use native.Mathlib.Nat.{le-trans, le-of-eq, mul-comm, mul-assoc, mul-left-comm, mul-le-mul-right, mul-le-mul-left, mul-pos, div-add-mod', mod-lt, eq-zero-or-pos, mul-one, le-div-iff-mul-le, le-of-mul-le-mul-right, lt-of-le-of-lt}
+use native.Mathlib.Nat.{
+  le-trans,
+  le-of-eq,
+  mul-comm,
+  mul-assoc,
+  mul-left-comm,
+  mul-le-mul-right,
+  mul-le-mul-left,
+  mul-pos,
+  div-add-mod',
+  mod-lt,
+  eq-zero-or-pos,
+  mul-one,
+  le-div-iff-mul-le,
+  le-of-mul-le-mul-right,
+  lt-of-le-of-lt,
+}
 use native.Mathlib.Omega.{arith}
 use mathlib.Core.Bool.{Bool, true, false, not, cond}
 use lib.Dec.{T, isLe, isEq, eqb, leb→le, nleb→lt, eqb→eq, eqb-refl}
@@ -162,8 +178,20 @@ round-rounded f s w h = go s
     n = units-near f w
 
     go : (s : Bool) → Rounded f (round f s w (2 ^ low f)) (plus s w) (less s w)
-    go false = record { sign = false; size = grid f w (2 ^ low f); is = round-val f false w (2 ^ low f) (lt-of-le-of-lt (units-le f w) h); off = λ e z. record { hi = omega (arith, n .hi, z .hi); lo = omega (arith, n .lo, z .hi) } }
-    go true = record { sign = true; size = grid f w (2 ^ low f); is = round-val f true w (2 ^ low f) (lt-of-le-of-lt (units-le f w) h); off = λ e z. record { hi = omega (arith, n .lo, z .lo); lo = omega (arith, n .hi, z .lo) } }
+    go false = record {
+      sign = false;
+      size = grid f w (2 ^ low f);
+      is = round-val f false w (2 ^ low f)
+          (lt-of-le-of-lt (units-le f w) h);
+      off = λ e z. record { hi = omega (arith, n .hi, z .hi); lo = omega (arith, n .lo, z .hi) };
+    }
+    go true = record {
+      sign = true;
+      size = grid f w (2 ^ low f);
+      is = round-val f true w (2 ^ low f)
+          (lt-of-le-of-lt (units-le f w) h);
+      off = λ e z. record { hi = omega (arith, n .lo, z .lo); lo = omega (arith, n .hi, z .lo) };
+    }
 
 -- ---- `closest` by the three cases
 pub closest-below : (a b : ℕ) → a % b * 2 < b → closest a b ≡ a / b

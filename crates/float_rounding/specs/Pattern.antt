@@ -3,7 +3,26 @@
 use mathlib.Core.Path.{_≡_, refl, sym, ap, _∙_, subst}
 use mathlib.Core.Logic.{_⊎_, inl, inr}
 use Prim.Native.Nat.{ℕ, suc, _+_, _-_, _*_, _/_, _%_, _^_, _≤_, _<_, min, compare}
-use native.Mathlib.Nat.{le-trans, le-of-eq, lt-of-lt-of-le, mul-one, add-assoc, mul-le-mul-right, mul-pos, mul-div-cancel, eq-or-lt-of-le, pow-succ', lt-irrefl, le-div-iff-mul-le, div-div-eq-div-mul, le-antisymm, lt-of-not-le, lt-suc-self, lt-of-mul-lt-mul-right, le-of-mul-le-mul-right}
+use native.Mathlib.Nat.{
+  le-trans,
+  le-of-eq,
+  lt-of-lt-of-le,
+  mul-one,
+  add-assoc,
+  mul-le-mul-right,
+  mul-pos,
+  mul-div-cancel,
+  eq-or-lt-of-le,
+  pow-succ',
+  lt-irrefl,
+  le-div-iff-mul-le,
+  div-div-eq-div-mul,
+  le-antisymm,
+  lt-of-not-le,
+  lt-suc-self,
+  lt-of-mul-lt-mul-right,
+  le-of-mul-le-mul-right,
+}
 use native.Mathlib.Omega.{arith}
 use mathlib.Core.Bool.{Bool, true, false, not, cond}
 use lib.Pow.{pow-add, pow-pos, pow-mono, pow-lt, shl-lt}
@@ -153,11 +172,13 @@ module _ (f : Format) (s : Bool) (q k : ℕ) (lead : (k ≡ 0) ⊎ (hid f ≤ q)
       go : (b : Bool) → (T b → q * 2 ^ k < overflow f) → (T (not b) → overflow f ≤ q * 2 ^ k)
           → toBits f (cond b (odd (suc (prec f)) s q k (low f)) (inf s)) ≡ cond s (top f) 0 + min (k * hid f + q) (ones f * hid f)
       go true l g =
-          let le : k * hid f + q ≤ ones f * hid f = subst (λ (z : ℕ). k * hid f + q ≤ z * hid f) (ones-is (emax f)) (stays (hid f) (2 * emax f) q k (pow-pos (prec f - 1)) (one-lt f) lead most' (subst (λ (z : ℕ). q * 2 ^ k < z) (over-is f) (l tt))) in
+          let le : k * hid f + q ≤ ones f * hid f = subst (λ (z : ℕ). k * hid f + q ≤ z * hid f) (ones-is (emax f))
+          (stays (hid f) (2 * emax f) q k (pow-pos (prec f - 1)) (one-lt f) lead most' (subst (λ (z : ℕ). q * 2 ^ k < z) (over-is f) (l tt))) in
           exact-bits f (odd (suc (prec f)) s q k (low f)) s q k (odd-sign (suc (prec f)) s q k (low f)) lead most
           ∙ ap (λ (z : ℕ). cond s (top f) 0 + z) (min-l (k * hid f + q) (ones f * hid f) le)
       go false l g =
-          let ge : ones f * hid f ≤ k * hid f + q = subst (λ (z : ℕ). z * hid f ≤ k * hid f + q) (ones-is (emax f)) (leaves (hid f) (2 * emax f) q k (pow-pos (prec f - 1)) (one-lt f) lead most' (subst (λ (z : ℕ). z ≤ q * 2 ^ k) (over-is f) (g tt))) in
+          let ge : ones f * hid f ≤ k * hid f + q = subst (λ (z : ℕ). z * hid f ≤ k * hid f + q) (ones-is (emax f))
+          (leaves (hid f) (2 * emax f) q k (pow-pos (prec f - 1)) (one-lt f) lead most' (subst (λ (z : ℕ). z ≤ q * 2 ^ k) (over-is f) (g tt))) in
           inf-bits f s ∙ ap (λ (z : ℕ). cond s (top f) 0 + z) (min-r (k * hid f + q) (ones f * hid f) ge)
 
 -- ---- the pattern of a rounded fraction: K digits dropped and Q kept

@@ -51,7 +51,8 @@ module _ (M x g l : ℕ) where
 
   pub drop-many : (p q k : ℕ) → 0 < q → 2 ^ p ≤ M → M < 2 ^ suc p → q - 1 + k + l ≡ p + (x + g) → drop q n (2 ^ l) ≡ k
   drop-many p q k Q lo hi e =
-      many (size (n / 2 ^ l)) (size-exact (q - 1 + k) (n / 2 ^ l) (le-div-iff-mul-le (pow-pos l) .1 (n-ge p (q - 1 + k) lo (le-of-eq e))) (div-lt-iff-lt-mul (pow-pos l) .1 (n-lt (suc p) (suc (q - 1 + k)) hi (omega arith))))
+      many (size (n / 2 ^ l)) (size-exact (q - 1 + k) (n / 2 ^ l) (le-div-iff-mul-le (pow-pos l) .1 (n-ge p (q - 1 + k) lo (le-of-eq e)))
+      (div-lt-iff-lt-mul (pow-pos l) .1 (n-lt (suc p) (suc (q - 1 + k)) hi (omega arith))))
     where
       many : (z : ℕ) → z ≡ suc (q - 1 + k) → z - q ≡ k
       many z h = omega arith

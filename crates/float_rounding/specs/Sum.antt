@@ -14,7 +14,8 @@ use Rattle.float_rounding.specs.Mul.{div-scaled}
 use Rattle.float_rounding.specs.Approx.{Approx, top64, top64-is, size-le, recast, add-approx, both}
 
 -- x / 6, for an x of size at most B
-pub div-six : {x : Float} {c d e : ℕ} (y : Float) (B : ℕ) (r : Approx 1 x c d e) → HasValue y false 6 1 → r .size ≤ B → (r .size ≡ 0) ⊎ (6 * 2 ^ 53 ≤ B * 2) → B * 2 + 6 < top64 → Approx 6 (div binary64 x y) c d (e + B)
+pub div-six : {x : Float} {c d e : ℕ} (y : Float) (B : ℕ) (r : Approx 1 x c d e) → HasValue y false 6 1 → r .size ≤ B → (r .size ≡ 0) ⊎ (6 * 2 ^ 53 ≤ B * 2) → B * 2 + 6 < top64
+    → Approx 6 (div binary64 x y) c d (e + B)
 div-six {x} {c} {d} {e} y B r six h z fine =
     let w = r .size in
     let o = div-scaled binary64 x y (r .sign) w 6 (lit< tt) (r .is) six (subst (λ (n : ℕ). w * 2 + 6 < n * 6) top64-is (omega arith)) in
@@ -75,7 +76,8 @@ pub patch-more : (v n : ℕ) {x y : Float} {c d c' d' : ℕ} → Patch v n x c d
 patch-more v n r t l fine = sum-more (lit< tt) r t (omega arith) (omega arith) (omega arith) (omega arith) fine
 
 -- a patch's sum divided by 6
-pub patch-sixth : (v n : ℕ) {x : Float} {c d : ℕ} (y : Float) → HasValue y false 6 1 → Patch v n x c d → n ≤ 2 ^ 40 → (v ≡ 0) ⊎ (2 ^ 53 ≤ v) → v * 2 ^ 60 + 2 ^ 60 < top64 → Part v n (div binary64 x y) c d
+pub patch-sixth : (v n : ℕ) {x : Float} {c d : ℕ} (y : Float) → HasValue y false 6 1 → Patch v n x c d → n ≤ 2 ^ 40 → (v ≡ 0) ⊎ (2 ^ 53 ≤ v) → v * 2 ^ 60 + 2 ^ 60 < top64
+    → Part v n (div binary64 x y) c d
 patch-sixth v n {x} {c} {d} y six r l z fine =
     let h : r .near .size ≤ 97 * n * v = omega (arith, sum-le r (omega arith)) in
     record {

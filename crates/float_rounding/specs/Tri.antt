@@ -181,7 +181,8 @@ module _ (M : ℕ) (fine : Fine M) where
       (mul binary64 a1 (sub binary64 (mul binary64 b0 c2) (mul binary64 b2 c0))))
       (mul binary64 a2 (sub binary64 (mul binary64 b0 c1) (mul binary64 b1 c0)))
 
-  module _ {xa0 xa1 xa2 xb0 xb1 xb2 xc0 xc1 xc2 : Float} (a0 : Coord M xa0) (a1 : Coord M xa1) (a2 : Coord M xa2) (b0 : Coord M xb0) (b1 : Coord M xb1) (b2 : Coord M xb2) (c0 : Coord M xc0) (c1 : Coord M xc1) (c2 : Coord M xc2) where
+  module _ {xa0 xa1 xa2 xb0 xb1 xb2 xc0 xc1 xc2 : Float} (a0 : Coord M xa0) (a1 : Coord M xa1) (a2 : Coord M xa2) (b0 : Coord M xb0) (b1 : Coord M xb1) (b2 : Coord M xb2) (c0 : Coord M xc0)
+      (c1 : Coord M xc1) (c2 : Coord M xc2) where
     abbrev D : Diff
     D = det a0 a1 a2 b0 b1 b2 c0 c1 c2
 

@@ -106,13 +106,15 @@ module _ (b : ℕ) where
 
   by-value : (a e : ℕ) → b < 2047 * 2 ^ 52 → 0 < all b → all b * 2 ^ (field b - 1) * 2 ^ 1074 ≡ a * 2 ^ e → sqrtBits b ≡ toBits binary64 (rootOf (a * 2 ^ e))
   by-value a e h p q =
-      ap (toBits binary64) (sqrt-value (ofBits binary64 b) (all b * 2 ^ (field b - 1)) (subst (λ (s : Bool). HasValue (ofBits binary64 b) s (all b * 2 ^ (field b - 1)) (2 ^ 1074)) (positive (omega arith)) (value b (omega arith))) (mul-pos p (pow-pos (field b - 1)))
+      ap (toBits binary64) (sqrt-value (ofBits binary64 b) (all b * 2 ^ (field b - 1))
+      (subst (λ (s : Bool). HasValue (ofBits binary64 b) s (all b * 2 ^ (field b - 1)) (2 ^ 1074)) (positive (omega arith)) (value b (omega arith))) (mul-pos p (pow-pos (field b - 1)))
       ∙ ap rootOf q)
 
   pub sqrt-normal : 2 ^ 52 ≤ b → b < 2047 * 2 ^ 52 → sqrtBits b ≡ toBits binary64 (rootOf ((2 ^ 52 + b % 2 ^ 52) * 2 ^ (b / 2 ^ 52 + 1073)))
   sqrt-normal l h =
       by-value (2 ^ 52 + b % 2 ^ 52) (b / 2 ^ 52 + 1073) h (subst (λ (z : ℕ). 0 < z) (sym normal) (omega arith))
-      (ap (λ (z : ℕ). z * 2 ^ (field b - 1) * 2 ^ 1074) normal ∙ mul-assoc (2 ^ 52 + tail b) (2 ^ (field b - 1)) (2 ^ 1074) ∙ ap (λ (z : ℕ). (2 ^ 52 + tail b) * z) (product (field b - 1) 1074 (b / 2 ^ 52 + 1073) (omega arith)))
+      (ap (λ (z : ℕ). z * 2 ^ (field b - 1) * 2 ^ 1074) normal ∙ mul-assoc (2 ^ 52 + tail b) (2 ^ (field b - 1)) (2 ^ 1074)
+      ∙ ap (λ (z : ℕ). (2 ^ 52 + tail b) * z) (product (field b - 1) 1074 (b / 2 ^ 52 + 1073) (omega arith)))
     where
       normal : all b ≡ 2 ^ 52 + tail b
       normal = all-is b (omega arith)
@@ -133,7 +135,8 @@ module _ (b : ℕ) where
       subnormal = ap (λ (e : ℕ). digits binary64 e (tail b)) field-is ∙ omega arith
 
   pub sqrt-zero : b < 2 ^ 64 → b % 2 ^ 63 ≡ 0 → sqrtBits b ≡ b
-  sqrt-zero h l = ap (toBits binary64) (zero-root (ofBits binary64 b) (sign b) (subst (λ (n : ℕ). HasValue (ofBits binary64 b) (sign b) n (2 ^ 1074)) none (value b (omega arith)))) ∙ bits-again b h (omega arith)
+  sqrt-zero h l = ap (toBits binary64) (zero-root (ofBits binary64 b) (sign b) (subst (λ (n : ℕ). HasValue (ofBits binary64 b) (sign b) n (2 ^ 1074)) none (value b (omega arith))))
+      ∙ bits-again b h (omega arith)
     where
       field-is : field b ≡ 0
       field-is = omega arith
@@ -162,7 +165,8 @@ module _ (b : ℕ) where
 
       below : b % 2 ^ 63 < 2047 * 2 ^ 52 → sqrt (ofBits binary64 b) ≡ nan
       below g =
-          negative-root (ofBits binary64 b) (all b * 2 ^ (field b - 1)) (subst (λ (s : Bool). HasValue (ofBits binary64 b) s (all b * 2 ^ (field b - 1)) (2 ^ 1074)) (minus (le-of-lt g)) (value b (omega arith)))
+          negative-root (ofBits binary64 b) (all b * 2 ^ (field b - 1))
+          (subst (λ (s : Bool). HasValue (ofBits binary64 b) s (all b * 2 ^ (field b - 1)) (2 ^ 1074)) (minus (le-of-lt g)) (value b (omega arith)))
           (mul-pos (some (field b) (tail b) no) (pow-pos (field b - 1)))
 
       at : b % 2 ^ 63 ≡ 2047 * 2 ^ 52 → sqrt (ofBits binary64 b) ≡ nan

@@ -83,7 +83,8 @@ near-from n q h w = le-of-suc-le-suc (lt-of-not-le (λ (g : suc q ≤ 2 ^ 52). n
     no g = omega (arith, w .hi)
 
 pub near-below : (n q : ℕ) → n ≤ 2 ^ 106 - 2 ^ 53 → Near n q → q < 2 ^ 53
-near-below n q h w = lt-of-not-le (λ (g : 2 ^ 53 ≤ q). no (2 ^ 53) (q - 2 ^ 53) (mul-le-mul-right (q - 2 ^ 53) (lit≤ {m = 1} {n = 2 ^ 53} tt)) (subst (λ (z : ℕ). z * z < n + z) (back g) (w .lo)) (omega arith))
+near-below n q h w = lt-of-not-le (λ (g : 2 ^ 53 ≤ q). no (2 ^ 53) (q - 2 ^ 53) (mul-le-mul-right (q - 2 ^ 53) (lit≤ {m = 1} {n = 2 ^ 53} tt)) (subst (λ (z : ℕ). z * z < n + z) (back g) (w .lo))
+    (omega arith))
   where
     back : 2 ^ 53 ≤ q → q ≡ 2 ^ 53 + (q - 2 ^ 53)
     back g = omega arith

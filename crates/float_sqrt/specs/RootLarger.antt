@@ -156,7 +156,8 @@ root-larger-above m n e d f g = go (ltb (suc m * up e * down d) (suc n * up d * 
         ∙ sym (larger-second-value (sqrt x) (sqrt y) (a .root) (b .root) (root-fits x px) (root-fits y py) (a .is) (b .is) (roots-ordered x y px py (below-le x y q) a b))
     go false q =
         ap sqrt (larger-first (suc m) e y q)
-        ∙ sym (larger-first-value (sqrt x) (sqrt y) (a .root) (b .root) (a .is) (b .is) (roots-ordered y x py px (cross→le y x py px (ltb-false (suc m * up e * down d) (suc n * up d * down e) q)) b a))
+        ∙ sym (larger-first-value (sqrt x) (sqrt y) (a .root) (b .root) (a .is) (b .is)
+        (roots-ordered y x py px (cross→le y x py px (ltb-false (suc m * up e * down d) (suc n * up d * down e) q)) b a))
 
 -- The root of the larger of two is the larger of the roots.
 pub root-larger : (x y : Float) → Plus x → Plus y → sqrt (larger x y) ≡ larger (sqrt x) (sqrt y)

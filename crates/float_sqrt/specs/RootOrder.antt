@@ -83,11 +83,17 @@ below-more (fin s k i) (fin false m e) (fin false n d) a b c C p q l h = at s h
 
     -- a value below zero
     minus : (K M N di de dd : ℕ) → 0 < di → 0 < de → 0 < dd → 0 < K * de + M * di → M * dd ≤ N * de → 0 < K * dd + N * di
-    minus K M N di de dd I E D g o = elim (eq-zero-or-pos K) [ inr k ↦ omega (arith, mul-pos k D) | inl z ↦ omega (arith, mul-pos (first-pos N de (lt-of-lt-of-le (mul-pos (first-pos M di (omega (arith, ap (λ (v : ℕ). v * de) z))) D) o)) I) ]
+    minus K M N di de dd I E D g o = elim (eq-zero-or-pos K) [
+      | inr k ↦ omega (arith, mul-pos k D)
+      | inl z ↦ omega
+          (arith, mul-pos (first-pos N de (lt-of-lt-of-le (mul-pos (first-pos M di (omega (arith, ap (λ (v : ℕ). v * de) z))) D) o)) I)
+    ]
 
     at : (s : Bool) → lt (fin s k i) (fin false m e) ≡ true → lt (fin s k i) (fin false n d) ≡ true
-    at false g = lt-ltb (k * up i * down d) (n * up d * down i) (plus (k * up i) (m * up e) (n * up d) (down i) (down e) (down d) (down-pos d) (ltb-true (k * up i * down e) (m * up e * down i) g) order)
-    at true g = lt-ltb 0 (k * up i * down d + n * up d * down i) (minus (k * up i) (m * up e) (n * up d) (down i) (down e) (down d) (down-pos i) (down-pos e) (down-pos d) (ltb-true 0 (k * up i * down e + m * up e * down i) g) order)
+    at false g = lt-ltb (k * up i * down d) (n * up d * down i) (plus (k * up i) (m * up e) (n * up d) (down i) (down e) (down d) (down-pos d)
+        (ltb-true (k * up i * down e) (m * up e * down i) g) order)
+    at true g = lt-ltb 0 (k * up i * down d + n * up d * down i) (minus (k * up i) (m * up e) (n * up d) (down i) (down e) (down d) (down-pos i) (down-pos e) (down-pos d)
+        (ltb-true 0 (k * up i * down e + m * up e * down i) g) order)
 
 -- what is below a zero of either sign is below +0
 below-zero : (x : Float) (s : Bool) (e : ℤ) → lt x (fin s zero e) ≡ true → lt x (fin false zero (pos 0)) ≡ true
@@ -121,13 +127,15 @@ above-of-lt false m e (fin false n d) k h = lt→ltb 0 n (first-pos n (up d) (fi
     more : m * up e * down d < n * up d * down e → 0 < n * up d * down e
     more l = omega arith
 above-of-lt true m e (fin false n d) (inl k) h = absurd (true≢false k)
-above-of-lt true m e (fin false n d) (inr k) h = lt→ltb 0 n (first-pos n (up d) (first-pos (n * up d) (down e) (more (ltb-true 0 (m * up e * down d + n * up d * down e) h) (ap (λ (v : ℕ). v * up e * down d) k))))
+above-of-lt true m e (fin false n d) (inr k) h = lt→ltb 0 n (first-pos n (up d)
+    (first-pos (n * up d) (down e) (more (ltb-true 0 (m * up e * down d + n * up d * down e) h) (ap (λ (v : ℕ). v * up e * down d) k))))
   where
     more : 0 < m * up e * down d + n * up d * down e → m * up e * down d ≡ 0 * up e * down d → 0 < n * up d * down e
     more l g = omega arith
 
 -- y is above zero, and its root is not below r's value
-below-rooted : (x r y : Float) (a : ℕ) → T (fits binary64 y) → T (above y) → HasValue r false a (2 ^ 1074) → ((n : Nearest y (sqrt y)) → T (positive y) → a ≤ n .root) → lt x r ≡ true → lt x (sqrt y) ≡ true
+below-rooted : (x r y : Float) (a : ℕ) → T (fits binary64 y) → T (above y) → HasValue r false a (2 ^ 1074) → ((n : Nearest y (sqrt y)) → T (positive y) → a ≤ n .root) → lt x r ≡ true
+    → lt x (sqrt y) ≡ true
 unfolding sqrt
 below-rooted x r nan a g p v o h = absurd p
 below-rooted x r (inf true) a g p v o h = absurd p

@@ -3,7 +3,24 @@ use mathlib.Core.Path.{_≡_, refl, sym, ap, _∙_, subst}
 use mathlib.Core.Logic.{_⊎_, inl, inr}
 use mathlib.Core.Bool.{Bool, true, false, not, true≢false}
 use Prim.Native.Nat.{ℕ, zero, suc, _+_, _-_, _*_, _/_, _%_, _^_, _≤_, _<_}
-use native.Mathlib.Nat.{le-trans, le-of-eq, lt-of-lt-of-le, lt-of-le-of-lt, mul-assoc, mul-le-mul, mul-le-mul-right, lt-of-mul-lt-mul-right, mul-lt-mul-of-pos-right, mul-div-cancel, mul-pos, zero-mul, pow-succ', lt-irrefl, lt-suc-self, eq-or-lt-of-le}
+use native.Mathlib.Nat.{
+  le-trans,
+  le-of-eq,
+  lt-of-lt-of-le,
+  lt-of-le-of-lt,
+  mul-assoc,
+  mul-le-mul,
+  mul-le-mul-right,
+  lt-of-mul-lt-mul-right,
+  mul-lt-mul-of-pos-right,
+  mul-div-cancel,
+  mul-pos,
+  zero-mul,
+  pow-succ',
+  lt-irrefl,
+  lt-suc-self,
+  eq-or-lt-of-le,
+}
 use native.Mathlib.Omega.{arith}
 use lib.Dec.{T, leb, leb→le, nleb→lt}
 use lib.Pow.{pow-pos, pow-mono, pow-add, shl-lt}
@@ -107,7 +124,8 @@ sqrt-value nan a h p = absurd h
 sqrt-value (inf s) a h p = absurd h
 sqrt-value (fin true m e) a h p = absurd (true≢false (h .0))
 sqrt-value (fin false zero e) a h p = absurd (lt-irrefl 0 (subst (λ (z : ℕ). 0 < z) (sym (h .1) ∙ ap (λ (z : ℕ). z * 2 ^ 1074) (zero-mul (up e)) ∙ zero-mul (2 ^ 1074)) (mul-pos p (down-pos e))))
-sqrt-value (fin false (suc m) e) a h p = ap rootOf (ap (λ (z : ℕ). z / down e) (rescaled (fin false (suc m) e) false a (2 ^ 1074) (2 ^ 1074) (4 ^ 1074) refl h .1) ∙ mul-div-cancel (a * 2 ^ 1074) (down-pos e))
+sqrt-value (fin false (suc m) e) a h p = ap rootOf (ap (λ (z : ℕ). z / down e) (rescaled (fin false (suc m) e) false a (2 ^ 1074) (2 ^ 1074) (4 ^ 1074) refl h .1)
+    ∙ mul-div-cancel (a * 2 ^ 1074) (down-pos e))
 
 -- ---- no other value is as near
 -- x is `square` of the units 4 ^ -1074, and r is `root` of the units 2 ^ -1074, in which the root of x is the root of `square`. The middle of r and any
@@ -271,7 +289,8 @@ sqrt-nearest x f p = at (h .sign) (positive-sign x (h .sign) (h .digits * 2 ^ h 
         go {k} {N} {q} r = record {
           square = N * (2 ^ k * 2 ^ k);
           root = q * 2 ^ k;
-          of = subst (λ (n : ℕ). HasValue x false n (4 ^ 1074)) (sym (w .same) ∙ r .split ∙ ap (λ (n : ℕ). N * n) (four k ∙ sym (product k k (2 * k) (double k)))) (rescaled x false a (2 ^ 1074) (2 ^ 1074) (4 ^ 1074) refl v);
+          of = subst (λ (n : ℕ). HasValue x false n (4 ^ 1074)) (sym (w .same) ∙ r .split ∙ ap (λ (n : ℕ). N * n) (four k ∙ sym (product k k (2 * k) (double k))))
+              (rescaled x false a (2 ^ 1074) (2 ^ 1074) (4 ^ 1074) refl v);
           is = subst (λ (y : Float). HasValue y false (q * 2 ^ k) (2 ^ 1074)) (ap rootOf (w .same) ∙ sym (sqrt-value x a v a-pos)) (r .is);
           below = λ y b g u l. let o = other y b g u in subst (λ (n : ℕ). (n + q * 2 ^ k) * (n + q * 2 ^ k) < 4 * (N * (2 ^ k * 2 ^ k))) (sym (o .1))
               (middle-below N q k (o .0 .digits) (o .0 .shift) (r .near) (r .least) (r .from) (o .0 .small) (subst (λ (n : ℕ). n < q * 2 ^ k) (o .1) l));

@@ -34,7 +34,8 @@ fn root_by_digits(n: u64) -> u64
     if s < r { s + 1 } else { s }
 }
 
-// A guess at the root of m * 2^p * 2^52, for an m of 53 bits and a p of 0 or 1, by Newton's rule on its inverse and one step more. Nothing relies on its being near: it is
+// A guess at the root of m * 2^p * 2^52, for an m of 53 bits and a p of 0 or 1, by Newton's rule on its inverse and one step more. Nothing relies on its being
+// near: it is
 // tested, and only has to have 53 bits.
 fn guess(m: u64, p: u64) -> u64
     requires { ⌜ 2 ^ 52 ≤ m ⌝ }
@@ -57,7 +58,8 @@ fn guess(m: u64, p: u64) -> u64
     0x10_0000_0000_0000 + bits_of_f64(z) % 0x10_0000_0000_0000
 }
 
-// Whether q is the whole number nearest to the square root of n * 2^52. With q = h * 2^27 + l the square is h * h * 2^54 + h * l * 2^28 + l * l, and r - w comes to n * 2^52 less that.
+// Whether q is the whole number nearest to the square root of n * 2^52. With q = h * 2^27 + l the square is h * h * 2^54 + h * l * 2^28 + l * l, and r - w
+// comes to n * 2^52 less that.
 fn is_root(n: u64, q: u64) -> bool
     requires { ⌜ n ≤ 2 ^ 54 - 2 ⌝ }
     requires { ⌜ q < 2 ^ 53 ⌝ }

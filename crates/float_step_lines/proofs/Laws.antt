@@ -78,7 +78,8 @@ left-all line = record { is = refl }
 module _ (s : Step) {line : List ℕ} {ss : List Step} {N : List ℕ} {r : Bool} (p : Left line (s ∷ ss)) (v : Scanned (pieces (pattern s)) line N r) where
   step : (b : Bool) → r ≡ b → replyTo line ≡ elim (cond b (some (take (operands s) N)) none) as (λ o. Reply) [ none ↦ replyAmong ss line | some bits ↦ replyOf s bits ]
   unfolding replyAmong
-  step b e = p .is ∙ ap (λ (o : Option (List ℕ)). elim o as (λ x. Reply) [ none ↦ replyAmong ss line | some bits ↦ replyOf s bits ]) (scanned s line N r v ∙ ap (λ (x : Bool). cond x (some (take (operands s) N)) none) e)
+  step b e = p .is ∙ ap (λ (o : Option (List ℕ)). elim o as (λ x. Reply) [ none ↦ replyAmong ss line | some bits ↦ replyOf s bits ])
+      (scanned s line N r v ∙ ap (λ (x : Bool). cond x (some (take (operands s) N)) none) e)
 
   pub left-more : r ≡ false → Left line ss
   left-more e = record { is = step false e }

@@ -39,7 +39,8 @@ fn bucket(d: u64, n: usize) -> usize
 // Whether the items k and i have the same name. Equal digests are confirmed where they are not the names.
 fn same_name(source: Source, positions: &[f32], w: &[u64], n: usize, k: usize, i: usize) -> bool
     requires { ⌜ Compared (namesOf source (now positions) (take n (now w))) n k i (now w) ⌝ }
-    ensures { λ r. ⌜ r ≡ eqb (getD (namesOf source (now (positions .entry)) (take n (now (w .entry)))) k 0) (getD (namesOf source (now (positions .entry)) (take n (now (w .entry)))) i 0) ⌝ }
+    ensures { λ r. ⌜ r ≡ eqb (getD (namesOf source (now (positions .entry)) (take n (now (w .entry)))) k 0)
+        (getD (namesOf source (now (positions .entry)) (take n (now (w .entry)))) i 0) ⌝ }
 {
     if w[k] != w[i] {
         return false;

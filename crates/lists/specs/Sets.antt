@@ -39,7 +39,8 @@ module _ {A : Type 0} where
   -- what lies in front of a run is as it was
   pub take-sets : (l : List A) (i : ℕ) (vs : List A) → take i (sets l i vs) ≡ take i l
   take-sets l i [] = refl
-  take-sets l i (a ∷ vs) = sym (take-take i (suc i) (sets (set l i a) (suc i) vs) (omega arith)) ∙ ap (take i) (take-sets (set l i a) (suc i) vs) ∙ take-take i (suc i) (set l i a) (omega arith) ∙ take-set-le i l i a (omega arith)
+  take-sets l i (a ∷ vs) = sym (take-take i (suc i) (sets (set l i a) (suc i) vs) (omega arith)) ∙ ap (take i) (take-sets (set l i a) (suc i) vs) ∙ take-take i (suc i) (set l i a) (omega arith)
+      ∙ take-set-le i l i a (omega arith)
 
   -- what lies behind a run is as it was
   pub drop-sets : (l : List A) (i : ℕ) (vs : List A) (k : ℕ) → i + length vs ≤ k → drop k (sets l i vs) ≡ drop k l

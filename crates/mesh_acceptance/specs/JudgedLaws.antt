@@ -30,7 +30,8 @@ module _ (box : Aabb) (materials : List ℕ) (default : ℕ) where
   accepted-by (p ∷ ps) = go (failureOf box p) (accepted-by ps)
     where
       go : (f : Option Failure) → acceptedBy (map (decisionOf box materials default) ps) ps ≡ acceptance box materials default ps .accepted
-          → acceptedBy (decisionBy f (materialOf materials default (p .row .face)) ∷ map (decisionOf box materials default) ps) (p ∷ ps) ≡ withPatch p (materialOf materials default (p .row .face)) f (acceptance box materials default ps) .accepted
+          → acceptedBy (decisionBy f (materialOf materials default (p .row .face)) ∷ map (decisionOf box materials default) ps) (p ∷ ps)
+          ≡ withPatch p (materialOf materials default (p .row .face)) f (acceptance box materials default ps) .accepted
       go none e = ap (λ (xs : List Accepted). record { patch = p; material = materialOf materials default (p .row .face) } ∷ xs) e
       go (some g) e = e
 
@@ -46,18 +47,21 @@ module _ (box : Aabb) (materials : List ℕ) (default : ℕ) where
       go (some g) e = ap (λ (fs : List Failed). record { face = p .row .face; failure = g } ∷ fs) e
 
   -- normals decide nothing
-  pub decisions-bare : (rows : List Row) (ps ns ms : List Float) (is : List ℕ) → map (decisionOf box materials default) (patchesOf rows ps ns is) ≡ map (decisionOf box materials default) (patchesOf rows ps ms is)
+  pub decisions-bare : (rows : List Row) (ps ns ms : List Float) (is : List ℕ)
+      → map (decisionOf box materials default) (patchesOf rows ps ns is) ≡ map (decisionOf box materials default) (patchesOf rows ps ms is)
   unfolding patchesOf decisionOf
   decisions-bare [] ps ns ms is = refl
   decisions-bare (r ∷ rs) ps ns ms is =
-      ap (λ (ds : List ℕ). decisionOf box materials default (patchFrom r ps ns is 0 0) ∷ ds) (decisions-bare rs (drop (3 * r .vertices) ps) (drop (3 * r .vertices) ns) (drop (3 * r .vertices) ms) (drop (r .indices) is))
+      ap (λ (ds : List ℕ). decisionOf box materials default (patchFrom r ps ns is 0 0) ∷ ds)
+      (decisions-bare rs (drop (3 * r .vertices) ps) (drop (3 * r .vertices) ns) (drop (3 * r .vertices) ms) (drop (r .indices) is))
 
 -- normals fail nothing
 pub failed-bare : (box : Aabb) (rows : List Row) (ps ns ms : List Float) (is : List ℕ) → flatMap (failedOf box) (patchesOf rows ps ns is) ≡ flatMap (failedOf box) (patchesOf rows ps ms is)
 unfolding patchesOf failedOf flatMap
 failed-bare box [] ps ns ms is = refl
 failed-bare box (r ∷ rs) ps ns ms is =
-    ap (λ (fs : List Failed). failedOf box (patchFrom r ps ns is 0 0) ++ fs) (failed-bare box rs (drop (3 * r .vertices) ps) (drop (3 * r .vertices) ns) (drop (3 * r .vertices) ms) (drop (r .indices) is))
+    ap (λ (fs : List Failed). failedOf box (patchFrom r ps ns is 0 0) ++ fs)
+    (failed-bare box rs (drop (3 * r .vertices) ps) (drop (3 * r .vertices) ns) (drop (3 * r .vertices) ms) (drop (r .indices) is))
 
 -- the accepted patches are as many as the accepted rows
 pub accepted-count : (ds : List ℕ) (rows : List Row) (ps ns : List Float) (is : List ℕ) → length (acceptedBy ds (patchesOf rows ps ns is)) ≡ length (acceptedRows ds rows)
@@ -76,7 +80,8 @@ accepted-vertices (zero ∷ ds) (r ∷ rs) ps ns is = accepted-vertices ds rs (d
 accepted-vertices (suc m ∷ ds) (r ∷ rs) ps ns is = ap (λ (n : ℕ). r .vertices + n) (accepted-vertices ds rs (drop (3 * r .vertices) ps) (drop (3 * r .vertices) ns) (drop (r .indices) is))
 
 -- and, where the slice has them all, the rows' indices
-pub accepted-indices : (ds : List ℕ) (rows : List Row) (ps ns : List Float) (is : List ℕ) → allIndices rows ≤ length is → acceptedIndices (acceptedBy ds (patchesOf rows ps ns is)) ≡ allIndices (acceptedRows ds rows)
+pub accepted-indices : (ds : List ℕ) (rows : List Row) (ps ns : List Float) (is : List ℕ) → allIndices rows ≤ length is
+    → acceptedIndices (acceptedBy ds (patchesOf rows ps ns is)) ≡ allIndices (acceptedRows ds rows)
 unfolding acceptedBy acceptedRows patchesOf acceptedIndices allIndices sumOf
 accepted-indices [] rows ps ns is h = refl
 accepted-indices (d ∷ ds) [] ps ns is h = refl

@@ -22,7 +22,19 @@ use Rattle.mesh_acceptance.specs.Acceptance.{Accepted, Failed, Acceptance, acce
 use Rattle.mesh_materials.specs.Materials.{badMaterials}
 use Rattle.mesh_materials.specs.Small.{SmallMaterials}
 use Rattle.mesh_acceptance.specs.Judged.{decisionOf, Judgeable, acceptedBy, decisionsIn, failedOf}
-use Rattle.mesh_acceptance.specs.JudgedLaws.{accepted-by, failed-by, decisions-bare, failed-bare, accepted-count, accepted-vertices, accepted-indices, accepted-few, decision-low, decision-tells, small-materials}
+use Rattle.mesh_acceptance.specs.JudgedLaws.{
+  accepted-by,
+  failed-by,
+  decisions-bare,
+  failed-bare,
+  accepted-count,
+  accepted-vertices,
+  accepted-indices,
+  accepted-few,
+  decision-low,
+  decision-tells,
+  small-materials,
+}
 use Rattle.mesh_judge.specs.Totals.{TotalsReady, Totalled}
 use Rattle.mesh_layout.specs.Mesh.{Laid, verticesOf, writtenVertices, laidFrom, materialsOf, runsOf, partOf, rangesFrom}
 use Rattle.mesh_layout.specs.JudgedRows.{judgedIn, numbersBy}
@@ -62,7 +74,8 @@ module _ (rows : List Row) (materials : List ℕ) (default : ℕ) (v : Acceptanc
   refused-42 e = sym (ap assembleAnswered (by-number ∙ ap byNumber (fails-42 (length rows) materials default (v .accepted) out e)))
 
   -- refused with 41
-  pub refused-41 : badMaterials materials default ≡ false → meshTooShort (length rows) (v .accepted) out ≡ true → leftMesh (Refused 41) out ≡ assembleAnswered (assembleOrRefuse rows materials default v out)
+  pub refused-41 : badMaterials materials default ≡ false → meshTooShort (length rows) (v .accepted) out ≡ true
+      → leftMesh (Refused 41) out ≡ assembleAnswered (assembleOrRefuse rows materials default v out)
   unfolding byNumber refuseMesh
   refused-41 e f = sym (ap assembleAnswered (by-number ∙ ap byNumber (fails-41 (length rows) materials default (v .accepted) out e f)))
 
@@ -74,7 +87,8 @@ module _ (rows : List Row) (materials : List ℕ) (default : ℕ) (v : Acceptanc
 -- ---- an accepted body
 
 -- what the decisions ask
-pub judge-ready : {table : List ℕ} {ps ns : List Float} {is W : List ℕ} {m : ℕ} {materials : List ℕ} {default : ℕ} {b : Bool} → AssembleReady table ps ns is W m → b ≡ badMaterials materials default → b ≡ false → Judgeable table ps is materials default W
+pub judge-ready : {table : List ℕ} {ps ns : List Float} {is W : List ℕ} {m : ℕ} {materials : List ℕ} {default : ℕ} {b : Bool} → AssembleReady table ps ns is W m → b ≡ badMaterials materials default
+    → b ≡ false → Judgeable table ps is materials default W
 unfolding workNeeded
 judge-ready {materials = materials} {default = default} g e f =
     let q = g .passed in
@@ -95,7 +109,8 @@ module _ {table : List ℕ} {ps ns : List Float} {is W : List ℕ} {m : ℕ} (g 
   words = omega (arith, q .enough, sym needed, g .rows-are)
 
   -- 42
-  pub body-42 : (P N : List Float) (I parts ranges failures : List ℕ) {b : Bool} → b ≡ badMaterials materials default → b ≡ true → BodyAssembled table ps ns is box materials default P P N N I I parts parts ranges ranges failures failures W W (Refused 42)
+  pub body-42 : (P N : List Float) (I parts ranges failures : List ℕ) {b : Bool} → b ≡ badMaterials materials default → b ≡ true
+      → BodyAssembled table ps ns is box materials default P P N N I I parts parts ranges ranges failures failures W W (Refused 42)
   body-42 P N I parts ranges failures e t = record { same = λ work. refused-42 (rowsOf table) materials default v (slicesOf P N I parts ranges failures work) (sym e ∙ t); rest = refl }
 
   module _ {b : Bool} (eb : b ≡ badMaterials materials default) (fb : b ≡ false) where
@@ -173,7 +188,8 @@ module _ {table : List ℕ} {ps ns : List Float} {is W : List ℕ} {m : ℕ} (g 
         pub room-asked : RoomAsked (t .vertices) m
         room-asked = record { few-vertices = omega (arith, vertices-few, q .vertices); few-rows = omega (arith, g .rows-are, q .rows) }
 
-        module _ (P N : List Float) (I parts ranges failures : List ℕ) {c : Bool} (ec : c ≡ shortBy (t .vertices) (t .indices) m (length P) (length N) (length I) (length parts) (length ranges) (length failures)) where
+        module _ (P N : List Float) (I parts ranges failures : List ℕ) {c : Bool}
+            (ec : c ≡ shortBy (t .vertices) (t .indices) m (length P) (length N) (length I) (length parts) (length ranges) (length failures)) where
           short : (work : List ℕ) → c ≡ meshTooShort (length (rowsOf table)) (v .accepted) (slicesOf P N I parts ranges failures work)
           short work =
               ec
@@ -209,7 +225,8 @@ module _ {table : List ℕ} {ps ns : List Float} {is W : List ℕ} {m : ℕ} (g 
               → BodyAssembled table ps ns is box materials default P P' N N' I I' parts parts' ranges ranges' failures failures' W X (Done r)
           unfolding writeMesh meshOf verticesOf writtenVertices
           body-done {X} {P'} {N'} {I'} {parts'} {ranges'} {failures'} {r} h w =
-              let counts : countsOf bits (numbersBy (judgedIn table E 0) ps) (runsOf (laidIn table E 0 is)) ≡ countsOf bits (flatMap (λ a. a .patch .positions) (v .accepted)) (runsOf (laidFrom 0 (v .accepted))) =
+              let counts : countsOf bits (numbersBy (judgedIn table E 0) ps) (runsOf (laidIn table E 0 is))
+              ≡ countsOf bits (flatMap (λ a. a .patch .positions) (v .accepted)) (runsOf (laidFrom 0 (v .accepted))) =
               λ j. countsOf bits (positions-are j) (runsOf (laid-are j)) in
               let ce = w .counts-are ∙ counts in
               let ev = w .vertices-count ∙ vertices-are in
@@ -226,7 +243,17 @@ module _ {table : List ℕ} {ps ns : List Float} {is W : List ℕ} {m : ℕ} (g 
               let eF = w .failures-are ∙ ap (λ (fs : List Failed). written (flatMap failureNumbers fs) failures) failed-are in
               record {
                 same = λ work.
-                    (λ j. leftMesh (Done (record { vertices = ev j; indices = ei j; parts = ep j; ranges = er j; failures = ef j; edges = ce j .edges; opens = ce j .openEdges; overs = ce j .overEdges; closed = ek j }))
+                    (λ j. leftMesh (Done (record {
+                      vertices = ev j;
+                      indices = ei j;
+                      parts = ep j;
+                      ranges = er j;
+                      failures = ef j;
+                      edges = ce j .edges;
+                      opens = ce j .openEdges;
+                      overs = ce j .overEdges;
+                      closed = ek j;
+                    }))
                     (slicesOf (eP j) (eN j) (eI j) (eT j) (eR j) (eF j) work))
                     ∙ sym (ap assembleAnswered (written-is (rowsOf table) materials default v (slicesOf P N I parts ranges failures work) (sym eb ∙ fb) (sym (short work) ∙ h)));
                 rest = rest-less (16 * length is + 16 * m + 4 * t .vertices) (workNeeded (rowsOf table)) E X (w .rest) (omega (arith, sym needed, vertices-few)) ∙ rest-judged;

@@ -18,7 +18,8 @@ pub record AssembleReady (table : List ℕ) (ps ns : List Float) (is W : List �
   pub rows-are : m ≡ length (rowsOf table)
 
 -- what it leaves, whatever the work area holds in the end
-pub record BodyAssembled (table : List ℕ) (ps ns : List Float) (is : List ℕ) (box : Aabb) (materials : List ℕ) (default : ℕ) (P P' N N' : List Float) (I I' parts parts' ranges ranges' failures failures' W E : List ℕ) (r : Assembled) : Type 0 where
+pub record BodyAssembled (table : List ℕ) (ps ns : List Float) (is : List ℕ) (box : Aabb) (materials : List ℕ) (default : ℕ) (P P' N N' : List Float)
+    (I I' parts parts' ranges ranges' failures failures' W E : List ℕ) (r : Assembled) : Type 0 where
   pub same : (work : List ℕ) → leftMesh r (slicesOf P' N' I' parts' ranges' failures' work)
       ≡ assembleAnswered (assembleOrRefuse (rowsOf table) materials default (acceptance box materials default (patchesOf (rowsOf table) ps ns is)) (slicesOf P N I parts ranges failures work))
   pub rest : drop (workNeeded (rowsOf table)) E ≡ drop (workNeeded (rowsOf table)) W

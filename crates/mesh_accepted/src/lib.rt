@@ -25,9 +25,12 @@ pub fn assemble_rows(
     m: usize,
 ) -> Assembled
     requires { ⌜ AssembleReady (now rows) (now positions) (now normals) (now indices) (now w) m ⌝ }
-    ensures { λ r. ⌜ BodyAssembled (now (rows .entry)) (now (positions .entry)) (now (normals .entry)) (now (indices .entry)) reference (now (materials .entry)) default
-        (now («mesh_positions» .entry)) (now («mesh_positions» .exit)) (now («mesh_normals» .entry)) (now («mesh_normals» .exit)) (now («mesh_indices» .entry)) (now («mesh_indices» .exit))
-        (now (parts .entry)) (now (parts .exit)) (now (ranges .entry)) (now (ranges .exit)) (now (failures .entry)) (now (failures .exit)) (now (w .entry)) (now (w .exit)) r ⌝ }
+    ensures { λ r. ⌜ BodyAssembled (now (rows .entry)) (now (positions .entry)) (now (normals .entry)) (now (indices .entry)) reference
+        (now (materials .entry)) default
+        (now («mesh_positions» .entry)) (now («mesh_positions» .exit)) (now («mesh_normals» .entry)) (now («mesh_normals» .exit)) (now («mesh_indices» .entry))
+        (now («mesh_indices» .exit))
+        (now (parts .entry)) (now (parts .exit)) (now (ranges .entry)) (now (ranges .exit)) (now (failures .entry)) (now (failures .exit)) (now (w .entry))
+        (now (w .exit)) r ⌝ }
 {
     if mesh_materials::bad_materials(materials, default) {
         return Assembled::Refused(42);

@@ -22,7 +22,8 @@ use Rattle.mesh_accepted.specs.Rows.{BodyAssembled}
 
 -- ---- the words cleared
 
-module _ {table : List ℕ} {ps ns : List Float} {is : List ℕ} (W : List ℕ) {u m n : ℕ} (p : Passed table ps ns is (length W)) (ev : Total (allVertices (rowsOf table)) u) (em : m ≡ length (rowsOf table)) (en : n ≡ length is) where
+module _ {table : List ℕ} {ps ns : List Float} {is : List ℕ} (W : List ℕ) {u m n : ℕ} (p : Passed table ps ns is (length W)) (ev : Total (allVertices (rowsOf table)) u)
+    (em : m ≡ length (rowsOf table)) (en : n ≡ length is) where
   -- the body is assembled as the definition says
   pub accepted-assembled : {box : Aabb} {materials : List ℕ} {default : ℕ} {P P' N N' : List Float} {I I' parts parts' ranges ranges' failures failures' X Z : List ℕ} {r : Assembled}
       → BodyAssembled table ps ns is box materials default P P' N N' I I' parts parts' ranges ranges' failures failures' W X r
@@ -31,11 +32,13 @@ module _ {table : List ℕ} {ps ns : List Float} {is : List ℕ} (W : List ℕ) 
   unfolding clearedMesh
   accepted-assembled {box} {materials} {default} {P} {P'} {N} {N'} {I} {I'} {parts} {parts'} {ranges} {ranges'} {failures} {failures'} {X} {Z} b z =
       b .same Z
-      ∙ ap (λ (work : List ℕ). assembleAnswered (assembleOrRefuse (rowsOf table) materials default (acceptance box materials default (patchesOf (rowsOf table) ps ns is)) (slicesOf P N I parts ranges failures work))) (cleared-is W p ev em en X (b .rest) z)
+      ∙ ap (λ (work : List ℕ). assembleAnswered (assembleOrRefuse (rowsOf table) materials default (acceptance box materials default (patchesOf (rowsOf table) ps ns is))
+      (slicesOf P N I parts ranges failures work))) (cleared-is W p ev em en X (b .rest) z)
 
 -- ---- the call
 
-module _ (table : List ℕ) (ps ns : List Float) (is : List ℕ) (box : Aabb) (materials : List ℕ) (default : ℕ) (out : MeshSlices) {refusal : ℕ} (f : refusal ≡ firstFailing (bodyChecks table ps ns is (length (out .work)))) where
+module _ (table : List ℕ) (ps ns : List Float) (is : List ℕ) (box : Aabb) (materials : List ℕ) (default : ℕ) (out : MeshSlices) {refusal : ℕ}
+    (f : refusal ≡ firstFailing (bodyChecks table ps ns is (length (out .work)))) where
   -- the definition assembles a body that no check refuses
   assemble-done : refusal ≡ 0 → assembleOf table ps ns is box materials default out ≡ assembleAccepted table ps ns is box materials default out
   unfolding assembleOf
@@ -55,6 +58,10 @@ module _ (table : List ℕ) (ps ns : List Float) (is : List ℕ) (box : Aabb) (m
   pub call-refused : (refusal ≡ 0 → ⊥) → leftMesh (Refused refusal) out ≡ assembleAnswered (assembleOf table ps ns is box materials default out)
   unfolding refuseMesh
   call-refused e =
-      ap (λ (b : Bool). leftMesh (elim b [ true ↦ Done (record { vertices = 0; indices = 0; parts = 0; ranges = 0; failures = 0; edges = 0; opens = 0; overs = 0; closed = false }) | false ↦ Refused refusal ]) out) (sym (ne-eqb refusal 0 e))
+      ap (λ (b : Bool). leftMesh (elim b [
+        | true ↦ Done (record { vertices = 0; indices = 0; parts = 0; ranges = 0; failures = 0; edges = 0; opens = 0; overs = 0; closed = false })
+        | false ↦ Refused
+            refusal
+      ]) out) (sym (ne-eqb refusal 0 e))
       ∙ ap (λ (k : ℕ). assembleAnswered (refuseMesh k out)) f
       ∙ ap assembleAnswered (sym (assemble-refused e))

@@ -28,9 +28,12 @@ fn assemble_accepted(
     work: &mut [u64],
 ) -> Assembled
     requires { ⌜ Passed (now rows) (now positions) (now normals) (now indices) (length (now work)) ⌝ }
-    ensures { λ r. ⌜ leftMesh r (slicesOf (now («mesh_positions» .exit)) (now («mesh_normals» .exit)) (now («mesh_indices» .exit)) (now (parts .exit)) (now (ranges .exit)) (now (failures .exit)) (now (work .exit)))
-        ≡ assembleAnswered (assembleAccepted (now (rows .entry)) (now (positions .entry)) (now (normals .entry)) (now (indices .entry)) reference (now (materials .entry)) default
-        (slicesOf (now («mesh_positions» .entry)) (now («mesh_normals» .entry)) (now («mesh_indices» .entry)) (now (parts .entry)) (now (ranges .entry)) (now (failures .entry)) (now (work .entry)))) ⌝ }
+    ensures { λ r. ⌜ leftMesh r (slicesOf (now («mesh_positions» .exit)) (now («mesh_normals» .exit)) (now («mesh_indices» .exit)) (now (parts .exit))
+        (now (ranges .exit)) (now (failures .exit)) (now (work .exit)))
+        ≡ assembleAnswered (assembleAccepted (now (rows .entry)) (now (positions .entry)) (now (normals .entry)) (now (indices .entry)) reference
+        (now (materials .entry)) default
+        (slicesOf (now («mesh_positions» .entry)) (now («mesh_normals» .entry)) (now («mesh_indices» .entry)) (now (parts .entry)) (now (ranges .entry))
+        (now (failures .entry)) (now (work .entry)))) ⌝ }
 {
     let v = body_rows::total_vertices(rows);
     let m = body_rows::row_count(rows);
@@ -74,9 +77,12 @@ pub fn assemble(
     failures: &mut [u64],
     work: &mut [u64],
 ) -> Assembled
-    ensures { λ r. ⌜ leftMesh r (slicesOf (now («mesh_positions» .exit)) (now («mesh_normals» .exit)) (now («mesh_indices» .exit)) (now (parts .exit)) (now (ranges .exit)) (now (failures .exit)) (now (work .exit)))
-        ≡ assembleAnswered (assembleOf (now (rows .entry)) (now (positions .entry)) (now (normals .entry)) (now (indices .entry)) reference (now (materials .entry)) default
-        (slicesOf (now («mesh_positions» .entry)) (now («mesh_normals» .entry)) (now («mesh_indices» .entry)) (now (parts .entry)) (now (ranges .entry)) (now (failures .entry)) (now (work .entry)))) ⌝ }
+    ensures { λ r. ⌜ leftMesh r (slicesOf (now («mesh_positions» .exit)) (now («mesh_normals» .exit)) (now («mesh_indices» .exit)) (now (parts .exit))
+        (now (ranges .exit)) (now (failures .exit)) (now (work .exit)))
+        ≡ assembleAnswered (assembleOf (now (rows .entry)) (now (positions .entry)) (now (normals .entry)) (now (indices .entry)) reference
+        (now (materials .entry)) default
+        (slicesOf (now («mesh_positions» .entry)) (now («mesh_normals» .entry)) (now («mesh_indices» .entry)) (now (parts .entry)) (now (ranges .entry))
+        (now (failures .entry)) (now (work .entry)))) ⌝ }
 {
     let refusal = body_checks::first_failing(rows, positions, normals, indices, work.len());
     if refusal == 0 {

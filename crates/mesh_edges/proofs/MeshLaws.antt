@@ -131,7 +131,8 @@ module _ {ps : List Float} {is : List ℕ} {v : ℕ} {W : List ℕ} (g : MeshRea
         place = omega arith
 
         stored : E ≡ sets X (4 * v) ns
-        stored = e ∙ ap (λ (k : ℕ). sets X k (map useName (triangleUses 0 0 (drop v X) (trianglesOf (take (length is - 0) (drop 0 is)))))) place ∙ ap (λ (us : List Use). sets X (4 * v) (map useName us)) (uses-met X joined-there)
+        stored = e ∙ ap (λ (k : ℕ). sets X k (map useName (triangleUses 0 0 (drop v X) (trianglesOf (take (length is - 0) (drop 0 is)))))) place
+            ∙ ap (λ (us : List Use). sets X (4 * v) (map useName us)) (uses-met X joined-there)
 
   -- ---- the uses counted
 
@@ -144,7 +145,8 @@ module _ {ps : List Float} {is : List ℕ} {v : ℕ} {W : List ℕ} (g : MeshRea
       pub runs-ready : RowReady is Y v v 0 (length is) (4 * v + 3 * length is)
       runs-ready = row-ready Y points-kept (4 * v + 3 * length is) (omega arith) (omega (arith, g .room))
 
-      module _ {Z : List ℕ} (d : Z ≡ sets Y (4 * v + 3 * length is + 0) (map useRun (triangleUses 0 0 (drop v Y) (trianglesOf (take (length is - 0) (drop 0 is)))))) (z-long : length Z ≡ length Y) where
+      module _ {Z : List ℕ} (d : Z ≡ sets Y (4 * v + 3 * length is + 0) (map useRun (triangleUses 0 0 (drop v Y) (trianglesOf (take (length is - 0) (drop 0 is))))))
+          (z-long : length Z ≡ length Y) where
         -- the ways the uses run
         abbrev runs : List ℕ
         runs = map useRun uses
@@ -183,7 +185,8 @@ module _ {ps : List Float} {is : List ℕ} {v : ℕ} {W : List ℕ} (g : MeshRea
                   let place : 4 * v + length is + 2 * length is + i ≡ 4 * v + 3 * length is + i = omega arith in
                   ap (λ (k : ℕ). getD Z k 0) place
                   ∙ sym (stretch-at (4 * v + 3 * length is) (length is) Z i 0 l)
-                  ∙ ap (λ (s : List ℕ). getD s i 0) (ap (λ (s : List ℕ). take (length is) (drop (4 * v + 3 * length is) s)) stored ∙ stretch-sets Y (4 * v + 3 * length is) runs (length is) runs-many (omega (arith, g .room)))
+                  ∙ ap (λ (s : List ℕ). getD s i 0) (ap (λ (s : List ℕ). take (length is) (drop (4 * v + 3 * length is) s)) stored
+                  ∙ stretch-sets Y (4 * v + 3 * length is) runs (length is) runs-many (omega (arith, g .room)))
                   ∙ getD-map useRun uses i (omega (arith, uses-many));
             }
 

@@ -37,9 +37,11 @@ module _ {o face : ℕ} {F G : List ℕ} {f : Failure} where
   put-upstream e a = subst (λ (g : Failure). Appended o (failureNumbers (record { face = face; failure = g })) F G) (sym e) a
 
   -- an escape
-  pub put-escape : {reach span : Float} {r s : ℕ} → f ≡ Escape reach span → r ≡ bits64 reach → s ≡ bits64 span → Appended o (face ∷ 256 ∷ r ∷ s ∷ []) F G → Appended o (failureNumbers (record { face = face; failure = f })) F G
+  pub put-escape : {reach span : Float} {r s : ℕ} → f ≡ Escape reach span → r ≡ bits64 reach → s ≡ bits64 span → Appended o (face ∷ 256 ∷ r ∷ s ∷ []) F G
+      → Appended o (failureNumbers (record { face = face; failure = f })) F G
   unfolding failureNumbers
-  put-escape e p q a = subst (λ (g : Failure). Appended o (failureNumbers (record { face = face; failure = g })) F G) (sym e) (subst (λ (xs : List ℕ). Appended o xs F G) (λ j. face ∷ 256 ∷ p j ∷ q j ∷ []) a)
+  put-escape e p q a = subst (λ (g : Failure). Appended o (failureNumbers (record { face = face; failure = g })) F G) (sym e)
+      (subst (λ (xs : List ℕ). Appended o xs F G) (λ j. face ∷ 256 ∷ p j ∷ q j ∷ []) a)
 
 -- four numbers for each
 four-numbers : (face : ℕ) (g : Failure) → length (failureNumbers (record { face = face; failure = g })) ≡ 4
@@ -68,12 +70,14 @@ module _ {box : Aabb} {p : Patch} {j : ℕ} {F : List ℕ} where
       }
 
   -- another has one
-  pub failure-one : {f : Failure} {face : ℕ} {G : List ℕ} → some f ≡ failureOf box p → face ≡ p .row .face → Appended (4 * j) (failureNumbers (record { face = face; failure = f })) F G → FailureWritten box p j F G (j + 1)
+  pub failure-one : {f : Failure} {face : ℕ} {G : List ℕ} → some f ≡ failureOf box p → face ≡ p .row .face → Appended (4 * j) (failureNumbers (record { face = face; failure = f })) F G
+      → FailureWritten box p j F G (j + 1)
   unfolding failedOf failedBy flatMap
   failure-one {f} {face} {G} e h a =
       let q : failedOf box p ≡ record { face = face; failure = f } ∷ [] = (λ j. failedBy (sym e j) (sym h j)) in
       record {
-        numbers = subst (λ (fs : List Failed). Appended (4 * j) (flatMap failureNumbers fs) F G) (sym q) (subst (λ (xs : List ℕ). Appended (4 * j) xs F G) (sym (append-nil (failureNumbers (record { face = face; failure = f })))) a);
+        numbers = subst (λ (fs : List Failed). Appended (4 * j) (flatMap failureNumbers fs) F G) (sym q)
+            (subst (λ (xs : List ℕ). Appended (4 * j) xs F G) (sym (append-nil (failureNumbers (record { face = face; failure = f })))) a);
         count = omega (arith, ap length q);
       }
 
@@ -112,12 +116,14 @@ module _ {table : List ℕ} {ps : List Float} {is : List ℕ} {box : Aabb} {F : 
             positions-in = omega (arith, g .all-positions, vertices-in (c .here) l);
             indices-in = omega (arith, g .all-indices, indices-in (c .here) l);
           };
-          other = λ n. sym (ap (failureOf box) (patch-at (rowsOf table) ps [] is k l ∙ (λ x. patchFrom (rowAt table k) ps [] is (sym (c .here .at-v) x) (sym (c .here .at-i) x)))) ∙ g .others k l (λ z. n (e ∙ z));
+          other = λ n. sym (ap (failureOf box) (patch-at (rowsOf table) ps [] is k l ∙ (λ x. patchFrom (rowAt table k) ps [] is (sym (c .here .at-v) x) (sym (c .here .at-i) x))))
+              ∙ g .others k l (λ z. n (e ∙ z));
           room = omega (arith, g .room, c .few, c .long);
         }
 
     -- it is written
-    pub failing-more : {r vertices indices : ℕ} {H : List ℕ} → FailureWritten box (patchFrom (rowAt table k) ps [] is base i) j G H r → vertices ≡ rowAt table k .vertices → indices ≡ rowAt table k .indices
+    pub failing-more : {r vertices indices : ℕ} {H : List ℕ} → FailureWritten box (patchFrom (rowAt table k) ps [] is base i) j G H r → vertices ≡ rowAt table k .vertices
+        → indices ≡ rowAt table k .indices
         → Failing table ps is box F r (base + vertices) (i + indices) (k + 1) H
     unfolding flatMap
     failing-more {r} {vertices} {indices} {H} w v n =

@@ -50,7 +50,8 @@ fn append_failure(
     j: usize,
 ) -> usize
     requires { ⌜ FailureReady (now rows) (now positions) (now indices) reference span k base i d (now failures) j ⌝ }
-    ensures { λ r. ⌜ FailureWritten reference (patchFrom (rowAt (now (rows .entry)) k) (now (positions .entry)) [] (now (indices .entry)) base i) j (now (failures .entry)) (now (failures .exit)) r ⌝ }
+    ensures { λ r. ⌜ FailureWritten reference (patchFrom (rowAt (now (rows .entry)) k) (now (positions .entry)) [] (now (indices .entry)) base i) j
+        (now (failures .entry)) (now (failures .exit)) r ⌝ }
 {
     if d != 0 {
         return j;
@@ -76,7 +77,8 @@ pub fn write_failures(
     failures: &mut [u64],
 ) -> usize
     requires { ⌜ FailuresReady (now rows) (now positions) (now indices) reference (now w) at (now failures) ⌝ }
-    ensures { λ r. ⌜ FailuresWritten (now (rows .entry)) (now (positions .entry)) (now (indices .entry)) reference (now (failures .entry)) (now (failures .exit)) r ⌝ }
+    ensures { λ r. ⌜ FailuresWritten (now (rows .entry)) (now (positions .entry)) (now (indices .entry)) reference (now (failures .entry))
+        (now (failures .exit)) r ⌝ }
 {
     let span = reference.diagonal();
     let m = body_rows::row_count(rows);

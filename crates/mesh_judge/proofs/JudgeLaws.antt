@@ -55,7 +55,8 @@ module _ {table : List ℕ} {ps : List Float} {is : List ℕ} {box : Aabb} {mate
   judging-none = record { here = at-first table; done = []; are = refl; many = refl; put = refl; long = refl }
 
   -- what the decision on row k asks
-  pub judging-ready : {base i k : ℕ} {E : List ℕ} {span : Float} → Judgeable table ps is materials default W → Judging table ps is box materials default W base i k E → k < length (rowsOf table) → span ≡ diagonal box
+  pub judging-ready : {base i k : ℕ} {E : List ℕ} {span : Float} → Judgeable table ps is materials default W → Judging table ps is box materials default W base i k E → k < length (rowsOf table)
+      → span ≡ diagonal box
       → DecisionReady table ps is box span materials default k base i
   judging-ready g c l s =
       record {

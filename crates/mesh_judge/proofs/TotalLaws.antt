@@ -21,7 +21,8 @@ total-no zero r t e = refl
 total-no (suc m) r t e = absurd (omega arith)
 
 -- another adds its counts
-pub total-yes : (d : ℕ) (r : Row) (t : Totals) {v n : ℕ} → (d ≡ 0 → ⊥) → v ≡ r .vertices → n ≡ r .indices → record { rows = t .rows + 1; vertices = t .vertices + v; indices = t .indices + n } ≡ totalsWith d r t
+pub total-yes : (d : ℕ) (r : Row) (t : Totals) {v n : ℕ} → (d ≡ 0 → ⊥) → v ≡ r .vertices → n ≡ r .indices
+    → record { rows = t .rows + 1; vertices = t .vertices + v; indices = t .indices + n } ≡ totalsWith d r t
 unfolding totalsWith
 total-yes zero r t h e f = absurd (h refl)
 total-yes (suc m) r t h e f = λ j. record { rows = t .rows + 1; vertices = t .vertices + e j; indices = t .indices + f j }

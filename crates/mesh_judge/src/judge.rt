@@ -56,7 +56,8 @@ fn decision(
     i: usize,
 ) -> u64
     requires { ⌜ DecisionReady (now rows) (now positions) (now indices) reference span (now materials) default k base i ⌝ }
-    ensures { λ r. ⌜ r ≡ decisionOf reference (now (materials .entry)) default (patchFrom (rowAt (now (rows .entry)) k) (now (positions .entry)) [] (now (indices .entry)) base i) ⌝ }
+    ensures { λ r. ⌜ r ≡ decisionOf reference (now (materials .entry)) default
+        (patchFrom (rowAt (now (rows .entry)) k) (now (positions .entry)) [] (now (indices .entry)) base i) ⌝ }
 {
     let verdict = row_verdict(rows, positions, indices, reference, span, k, base, i);
     match verdict {
@@ -80,7 +81,8 @@ pub fn judge_rows(
 )
     requires { ⌜ Judgeable (now rows) (now positions) (now indices) (now materials) default (now w) ⌝ }
     ensures { λ _. ⌜ now (w .exit) ≡ sets (now (w .entry)) 0
-        (map (decisionOf reference (now (materials .entry)) default) (patchesOf (rowsOf (now (rows .entry))) (now (positions .entry)) [] (now (indices .entry)))) ⌝ }
+        (map (decisionOf reference (now (materials .entry)) default)
+        (patchesOf (rowsOf (now (rows .entry))) (now (positions .entry)) [] (now (indices .entry)))) ⌝ }
 {
     let span = reference.diagonal();
     let m = body_rows::row_count(rows);

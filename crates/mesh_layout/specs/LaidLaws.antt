@@ -25,7 +25,8 @@ laid-by base [] rows ps ns is = refl
 laid-by base (d ∷ ds) [] ps ns is = refl
 laid-by base (zero ∷ ds) (r ∷ rs) ps ns is = laid-by base ds rs (drop (3 * r .vertices) ps) (drop (3 * r .vertices) ns) (drop (r .indices) is)
 laid-by base (suc m ∷ ds) (r ∷ rs) ps ns is =
-    ap (λ (ls : List Laid). record { face = r .face; material = m; indices = map (λ i. base + i) (take (r .indices) is) } ∷ ls) (laid-by (base + r .vertices) ds rs (drop (3 * r .vertices) ps) (drop (3 * r .vertices) ns) (drop (r .indices) is))
+    ap (λ (ls : List Laid). record { face = r .face; material = m; indices = map (λ i. base + i) (take (r .indices) is) } ∷ ls)
+    (laid-by (base + r .vertices) ds rs (drop (3 * r .vertices) ps) (drop (3 * r .vertices) ns) (drop (r .indices) is))
 
 -- their positions
 pub positions-by : (ds : List ℕ) (rows : List Row) (ps ns : List Float) (is : List ℕ) → flatMap (λ a. a .patch .positions) (acceptedBy ds (patchesOf rows ps ns is)) ≡ numbersBy (judgedRows ds rows) ps
@@ -97,7 +98,8 @@ unfolding laidBy sumOf baseAfter
 laid-low base [] is = omega arith
 laid-low base (j ∷ js) is = go (j .decision) (laid-low base js (drop (j .row .indices) is)) (laid-low (base + j .row .vertices) js (drop (j .row .indices) is))
   where
-    go : (d : ℕ) → sumOf (λ l. length (l .indices)) (laidBy base js (drop (j .row .indices) is)) ≤ judgedIndices js → sumOf (λ l. length (l .indices)) (laidBy (base + j .row .vertices) js (drop (j .row .indices) is)) ≤ judgedIndices js
+    go : (d : ℕ) → sumOf (λ l. length (l .indices)) (laidBy base js (drop (j .row .indices) is)) ≤ judgedIndices js
+        → sumOf (λ l. length (l .indices)) (laidBy (base + j .row .vertices) js (drop (j .row .indices) is)) ≤ judgedIndices js
         → sumOf (λ l. length (l .indices)) (laidBy base (record { decision = d; row = j .row } ∷ js) is) ≤ j .row .indices + judgedIndices js
     go zero p q = omega arith
     go (suc m) p q = omega (arith, length-map (take (j .row .indices) is) (λ i. base + i), length-take (j .row .indices) is)

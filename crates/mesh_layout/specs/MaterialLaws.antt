@@ -183,7 +183,8 @@ start-next n (l ∷ ls) =
     let here = go (ltb (l .material) (suc n)) (ltb (l .material) n) (eqb (l .material) n) refl refl refl in
     omega (arith, rest, both, here)
   where
-    go : (s t u : Bool) → ltb (l .material) (suc n) ≡ s → ltb (l .material) n ≡ t → eqb (l .material) n ≡ u → cond s (length (l .indices)) 0 ≡ cond t (length (l .indices)) 0 + length (cond u (l .indices) [])
+    go : (s t u : Bool) → ltb (l .material) (suc n) ≡ s → ltb (l .material) n ≡ t → eqb (l .material) n ≡ u
+        → cond s (length (l .indices)) 0 ≡ cond t (length (l .indices)) 0 + length (cond u (l .indices) [])
     go true true true e f g = let p = ltb-true (l .material) n f in let q = eqb-true (l .material) n g in absurd (omega arith)
     go true true false e f g = omega arith
     go true false true e f g = omega arith

@@ -16,7 +16,8 @@ use Rattle.mesh_layout.specs.LaidLaws.{judgedIndices}
 -- what one more patch adds to a run
 run-more : (before : List Laid) (l : Laid) (m : ℕ) → length (runOf (before ++ l ∷ []) m) ≡ length (runOf before m) + length (cond (eqb (l .material) m) (l .indices) [])
 unfolding runOf flatMap
-run-more [] l m = length-append (cond (eqb (l .material) m) (l .indices) []) [] ∙ add-zero (length (cond (eqb (l .material) m) (l .indices) [])) ∙ sym (zero-add (length (cond (eqb (l .material) m) (l .indices) [])))
+run-more [] l m = length-append (cond (eqb (l .material) m) (l .indices) []) [] ∙ add-zero (length (cond (eqb (l .material) m) (l .indices) []))
+    ∙ sym (zero-add (length (cond (eqb (l .material) m) (l .indices) [])))
 run-more (b ∷ bs) l m =
     let e = run-more bs l m in
     let x = cond (eqb (b .material) m) (b .indices) [] in
@@ -51,13 +52,15 @@ same-no before bs j s z =
     record {
       size = λ m.
           let e = with-more bs j (suc m) in
-          let t : cond (eqb (j .decision) (suc m)) (j .row .indices) 0 ≡ 0 = ap (λ (d : ℕ). cond (eqb d (suc m)) (j .row .indices) 0) z ∙ ap (λ (b : Bool). cond b (j .row .indices) 0) (eqb·zero-suc m) in
+          let t : cond (eqb (j .decision) (suc m)) (j .row .indices) 0 ≡ 0 = ap (λ (d : ℕ). cond (eqb d (suc m)) (j .row .indices) 0) z
+          ∙ ap (λ (b : Bool). cond b (j .row .indices) 0) (eqb·zero-suc m) in
           let q = s .size m in
           omega arith;
     }
 
 -- with an accepted row more
-same-yes : (before : List Laid) (bs : List JudgedRow) (j : JudgedRow) (l : Laid) → Same before bs → j .decision ≡ suc (l .material) → length (l .indices) ≡ j .row .indices → Same (before ++ l ∷ []) (bs ++ j ∷ [])
+same-yes : (before : List Laid) (bs : List JudgedRow) (j : JudgedRow) (l : Laid) → Same before bs → j .decision ≡ suc (l .material) → length (l .indices) ≡ j .row .indices
+    → Same (before ++ l ∷ []) (bs ++ j ∷ [])
 same-yes before bs j l s z n =
     record {
       size = λ m.
@@ -83,15 +86,18 @@ ranges-are all before bs base [] (j ∷ js) is s b h = let l = b .long in absurd
 ranges-are all before bs base (f ∷ fs) (j ∷ js) is s b h =
     go (j .decision) refl
     (λ z. ranges-are all before (bs ++ j ∷ []) base fs js (drop (j .row .indices) is) (same-no before bs j s z) (begun-next all bs f fs j js b) (omega (arith, length-drop (j .row .indices) is)))
-    (λ l z n. ranges-are all (before ++ l ∷ []) (bs ++ j ∷ []) (base + j .row .vertices) fs js (drop (j .row .indices) is) (same-yes before bs j l s z n) (begun-next all bs f fs j js b) (omega (arith, length-drop (j .row .indices) is)))
+    (λ l z n. ranges-are all (before ++ l ∷ []) (bs ++ j ∷ []) (base + j .row .vertices) fs js (drop (j .row .indices) is) (same-yes before bs j l s z n) (begun-next all bs f fs j js b)
+    (omega (arith, length-drop (j .row .indices) is)))
   where
     go : (d : ℕ) → j .decision ≡ d
         → (j .decision ≡ 0 → rangesWith fs js ≡ rangesFrom all before (laidBy base js (drop (j .row .indices) is)))
-        → ((l : Laid) → j .decision ≡ suc (l .material) → length (l .indices) ≡ j .row .indices → rangesWith fs js ≡ rangesFrom all (before ++ l ∷ []) (laidBy (base + j .row .vertices) js (drop (j .row .indices) is)))
+        → ((l : Laid) → j .decision ≡ suc (l .material) → length (l .indices) ≡ j .row .indices
+        → rangesWith fs js ≡ rangesFrom all (before ++ l ∷ []) (laidBy (base + j .row .vertices) js (drop (j .row .indices) is)))
         → keptIf d (j .row .face ∷ f ∷ (f + j .row .indices) ∷ []) ++ rangesWith fs js ≡ rangesFrom all before (laidBy base (record { decision = d; row = j .row } ∷ js) is)
     go zero e p q = p e
     go (suc m) e p q =
         let l : Laid = record { face = j .row .face; material = m; indices = map (λ i. base + i) (take (j .row .indices) is) } in
         let n : length (l .indices) ≡ j .row .indices = length-map (take (j .row .indices) is) (λ i. base + i) ∙ length-take-le (j .row .indices) is (omega arith) in
-        let first : f ≡ startOf all m + length (runOf before m) = b .first 0 m (omega arith) e ∙ ap (λ (xs : List JudgedRow). startOf all m + indicesWith (suc m) xs) (append-nil bs) ∙ ap (λ (x : ℕ). startOf all m + x) (sym (s .size m)) in
+        let first : f ≡ startOf all m + length (runOf before m) = b .first 0 m (omega arith) e ∙ ap (λ (xs : List JudgedRow). startOf all m + indicesWith (suc m) xs) (append-nil bs)
+        ∙ ap (λ (x : ℕ). startOf all m + x) (sym (s .size m)) in
         λ k. (j .row .face ∷ first k ∷ (first k + sym n k) ∷ []) ++ q l e n k

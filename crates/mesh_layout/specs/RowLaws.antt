@@ -55,7 +55,8 @@ module _ (table W : List ℕ) (at : ℕ) (room : at + length (rowsOf table) ≤ 
 
     -- row k's own
     pub judged-at : getD (judgedIn table W at) k noJudged ≡ record { decision = getD W (at + k) 0; row = rowAt table k }
-    judged-at = let z : k + 0 ≡ k = omega arith in ap (λ (n : ℕ). getD (judgedIn table W at) n noJudged) (sym z) ∙ sym (getD-drop k (judgedIn table W at) 0 noJudged) ∙ ap (λ (js : List JudgedRow). getD js 0 noJudged) judged-here
+    judged-at = let z : k + 0 ≡ k = omega arith in ap (λ (n : ℕ). getD (judgedIn table W at) n noJudged) (sym z) ∙ sym (getD-drop k (judgedIn table W at) 0 noJudged)
+        ∙ ap (λ (js : List JudgedRow). getD js 0 noJudged) judged-here
 
     -- a row more adds its own
     pub sum-here : (f : JudgedRow → ℕ) → sumOf f (take (k + 1) (judgedIn table W at)) ≡ sumOf f (take k (judgedIn table W at)) + f (record { decision = getD W (at + k) 0; row = rowAt table k })

@@ -98,11 +98,15 @@ module _ {table W : List ℕ} {at starts order m : ℕ} (g : Orderable table W a
           at-base = a ∙ (λ j. baseAfter (c .at-base j) (v j) ((e ∙ decision-is) j)) ∙ sym (bases-next table W at room k in-rows);
           at-i = omega (arith, c .at-i, indices-next table k in-rows);
           places = below-more (λ (q : ℕ). getD E' (starts + q) 0 ≡ placeWord (judgedIn table W at) (rowsOf table) q) k
-              (λ q h. at-place (starts + q) ∙ getD-set-other (set E (starts + k) x) (order + k) (starts + q) y 0 (λ z. absurd (omega (arith, g .order-is))) ∙ getD-set-other E (starts + k) (starts + q) x 0 (λ z. absurd (omega arith)) ∙ c .places q h)
-              (at-place (starts + k) ∙ getD-set-other (set E (starts + k) x) (order + k) (starts + k) y 0 (λ z. absurd (omega (arith, g .order-is))) ∙ getD-set-same E (starts + k) x 0 (omega (arith, g .order-is, g .room, c .long)) ∙ px ∙ (λ j. c .at-base j * 1048576 + c .at-i j));
+              (λ q h. at-place (starts + q) ∙ getD-set-other (set E (starts + k) x) (order + k) (starts + q) y 0 (λ z. absurd (omega (arith, g .order-is)))
+              ∙ getD-set-other E (starts + k) (starts + q) x 0 (λ z. absurd (omega arith)) ∙ c .places q h)
+              (at-place (starts + k) ∙ getD-set-other (set E (starts + k) x) (order + k) (starts + k) y 0 (λ z. absurd (omega (arith, g .order-is)))
+              ∙ getD-set-same E (starts + k) x 0 (omega (arith, g .order-is, g .room, c .long)) ∙ px ∙ (λ j. c .at-base j * 1048576 + c .at-i j));
           words = below-more (λ (q : ℕ). getD E' (order + q) 0 ≡ orderWord (getD W (at + q) 0) q) k
-              (λ q h. at-place (order + q) ∙ getD-set-other (set E (starts + k) x) (order + k) (order + q) y 0 (λ z. absurd (omega arith)) ∙ getD-set-other E (starts + k) (order + q) x 0 (λ z. absurd (omega (arith, g .order-is))) ∙ c .words q h)
-              (at-place (order + k) ∙ getD-set-same (set E (starts + k) x) (order + k) y 0 (omega (arith, g .room, c .long, length-set E (starts + k) x)) ∙ py ∙ ap (λ (t : ℕ). t * 4096 + k) (e ∙ decision-is));
+              (λ q h. at-place (order + q) ∙ getD-set-other (set E (starts + k) x) (order + k) (order + q) y 0 (λ z. absurd (omega arith))
+              ∙ getD-set-other E (starts + k) (order + q) x 0 (λ z. absurd (omega (arith, g .order-is))) ∙ c .words q h)
+              (at-place (order + k) ∙ getD-set-same (set E (starts + k) x) (order + k) y 0 (omega (arith, g .room, c .long, length-set E (starts + k) x)) ∙ py
+              ∙ ap (λ (t : ℕ). t * 4096 + k) (e ∙ decision-is));
           front = ap (take starts) w ∙ take-set-le starts (set E (starts + k) x) (order + k) y (omega (arith, g .order-is)) ∙ take-set-le starts E (starts + k) x (omega arith) ∙ c .front;
           rest = ap (drop (order + m)) w ∙ drop-set-lt (order + m) (set E (starts + k) x) (order + k) y (omega arith) ∙ drop-set-lt (order + m) E (starts + k) x (omega (arith, g .order-is)) ∙ c .rest;
           long = ap length w ∙ length-set (set E (starts + k) x) (order + k) y ∙ length-set E (starts + k) x ∙ c .long;

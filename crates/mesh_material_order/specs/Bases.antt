@@ -20,7 +20,8 @@ after-add base vertices (suc m) = omega arith
 -- one row more
 pub bases-next : (table W : List ℕ) (at : ℕ) → at + length (rowsOf table) ≤ length W → (k : ℕ) → k < length (rowsOf table)
     → basesBefore (judgedIn table W at) (k + 1) ≡ baseAfter (basesBefore (judgedIn table W at) k) (rowAt table k .vertices) (getD W (at + k) 0)
-bases-next table W at room k h = sum-here table W at room k h (λ j. baseAfter 0 (j .row .vertices) (j .decision)) ∙ after-add (basesBefore (judgedIn table W at) k) (rowAt table k .vertices) (getD W (at + k) 0)
+bases-next table W at room k h = sum-here table W at room k h (λ j. baseAfter 0 (j .row .vertices) (j .decision))
+    ∙ after-add (basesBefore (judgedIn table W at) k) (rowAt table k .vertices) (getD W (at + k) 0)
 
 -- no more than those of all rows before it
 pub bases-low : (k : ℕ) (ds : List ℕ) (rs : List Row) → basesBefore (judgedRows ds rs) k ≤ verticesBefore rs k

@@ -32,7 +32,8 @@ fn order_word(d: u64, k: u64) -> u64
     d * ROWS + k
 }
 
-// Each row's first vertex in the mesh and its first index in the body are kept in one word from `starts` on, its decision and its number in one from `order` on.
+// Each row's first vertex in the mesh and its first index in the body are kept in one word from `starts` on, its decision and its number in one from `order`
+// on.
 fn keep_rows(rows: &[u32], w: &mut [u64], at: usize, starts: usize, order: usize, m: usize)
     requires { ⌜ Orderable (now rows) (now w) at starts order m ⌝ }
     ensures { λ _. ⌜ RowsKept (now (rows .entry)) (now (w .entry)) (now (w .exit)) at starts order m ⌝ }

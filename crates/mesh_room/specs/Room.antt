@@ -23,7 +23,8 @@ shortBy v i m p n is parts ranges failures = (ltb p (3 * v) || ltb n (3 * v)) ||
 
 -- that is check 41
 pub short-is : (m : ℕ) (accepted : List Accepted) (out : MeshSlices)
-    → meshTooShort m accepted out ≡ shortBy (acceptedVertices accepted) (acceptedIndices accepted) m (length (out .vertices .positions)) (length (out .vertices .normals)) (length (out .indices)) (length (out .parts)) (length (out .ranges)) (length (out .failures))
+    → meshTooShort m accepted out ≡ shortBy (acceptedVertices accepted) (acceptedIndices accepted) m (length (out .vertices .positions)) (length (out .vertices .normals)) (length (out .indices))
+    (length (out .parts)) (length (out .ranges)) (length (out .failures))
 unfolding meshTooShort tooShort shortBy
 short-is m accepted out = refl
 

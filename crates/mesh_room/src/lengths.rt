@@ -17,7 +17,8 @@ pub fn too_short(
     failures: &[u64],
 ) -> bool
     requires { ⌜ RoomAsked vertices m ⌝ }
-    ensures { λ r. ⌜ r ≡ shortBy vertices indices m (length (now («mesh_positions» .entry))) (length (now («mesh_normals» .entry))) (length (now («mesh_indices» .entry)))
+    ensures { λ r. ⌜ r ≡ shortBy vertices indices m (length (now («mesh_positions» .entry))) (length (now («mesh_normals» .entry)))
+        (length (now («mesh_indices» .entry)))
         (length (now (parts .entry))) (length (now (ranges .entry))) (length (now (failures .entry))) ⌝ }
 {
     if mesh_positions.len() < 3 * vertices {

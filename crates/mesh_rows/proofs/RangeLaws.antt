@@ -42,10 +42,12 @@ after-is (suc m) r n = refl
 
 -- an accepted row has one
 pub range-yes : {table W : List ℕ} {at starts k : ℕ} {out : List ℕ} {r : ℕ} {new : List ℕ} {face first end : ℕ} → RowRangeable table W at starts k out r → (getD W (at + k) 0 ≡ 0 → ⊥)
-    → face ≡ rowAt table k .face → first ≡ getD W (starts + k) 0 → end ≡ getD W (starts + k) 0 + rowAt table k .indices → Appended (3 * r) (face ∷ first ∷ end ∷ []) out new → RowRanged table W at starts k out new r (r + 1)
+    → face ≡ rowAt table k .face → first ≡ getD W (starts + k) 0 → end ≡ getD W (starts + k) 0 + rowAt table k .indices → Appended (3 * r) (face ∷ first ∷ end ∷ []) out new
+    → RowRanged table W at starts k out new r (r + 1)
 range-yes {table} {W} {at} {starts} {k} {out} {r} {new} g n a b e t =
     record {
-      numbers = subst (λ (xs : List ℕ). Appended (3 * r) xs out new) ((λ j. a j ∷ b j ∷ e j ∷ []) ∙ kept-is (getD W (at + k) 0) (rowAt table k .face ∷ getD W (starts + k) 0 ∷ (getD W (starts + k) 0 + rowAt table k .indices) ∷ []) n) t;
+      numbers = subst (λ (xs : List ℕ). Appended (3 * r) xs out new) ((λ j. a j ∷ b j ∷ e j ∷ [])
+          ∙ kept-is (getD W (at + k) 0) (rowAt table k .face ∷ getD W (starts + k) 0 ∷ (getD W (starts + k) 0 + rowAt table k .indices) ∷ []) n) t;
       end = after-is (getD W (at + k) 0) r n;
     }
 
@@ -111,7 +113,8 @@ module _ {table W : List ℕ} {at starts : ℕ} {out : List ℕ} where
     unfolding rangesWith
     left-here =
         let f : suc k ≡ k + 1 = omega arith in
-        λ j. rangesWith ((drop-cons (firstsIn table W starts) k 0 (omega (arith, firsts-long)) ∙ (λ q. stretch-at starts (length (rowsOf table)) W k 0 l q ∷ drop (f q) (firstsIn table W starts))) j) (judged-here table W at (g .words) k l j)
+        λ j. rangesWith ((drop-cons (firstsIn table W starts) k 0 (omega (arith, firsts-long)) ∙ (λ q. stretch-at starts (length (rowsOf table)) W k 0 l q ∷ drop (f q) (firstsIn table W starts))) j)
+        (judged-here table W at (g .words) k l j)
 
     -- row k's is written
     pub ranging-more : {new' : List ℕ} {s : ℕ} → RowRanged table W at starts k new new' r s → Ranging table W at starts out s (k + 1) new'
@@ -127,7 +130,8 @@ module _ {table W : List ℕ} {at starts : ℕ} {out : List ℕ} where
           many = omega (arith, length-append (c .done) own, c .many, w .end, three);
           count =
               ap (λ (x : ℕ). x + length (acceptedRows (drop (k + 1) (decisionsIn table W at)) (drop (k + 1) (rowsOf table)))) (w .end)
-              ∙ after-count d r (length (acceptedRows (decisionsIn table W at) (rowsOf table))) (acceptedRows (drop k (decisionsIn table W at)) (drop k (rowsOf table))) (acceptedRows (drop (k + 1) (decisionsIn table W at)) (drop (k + 1) (rowsOf table))) (rowAt table k)
+              ∙ after-count d r (length (acceptedRows (decisionsIn table W at) (rowsOf table))) (acceptedRows (drop k (decisionsIn table W at)) (drop k (rowsOf table)))
+              (acceptedRows (drop (k + 1) (decisionsIn table W at)) (drop (k + 1) (rowsOf table))) (rowAt table k)
               (λ z. rows-no h (rows-here table k l) z) (λ n. rows-yes d h (rows-here table k l) n) (c .count);
           few = omega (arith, w .end, few);
           put = behind (c .put) (c .many) (w .numbers);

@@ -78,7 +78,8 @@ module _ {table : List ℕ} {xs : List Float} {W : List ℕ} {at : ℕ} {out : L
   pub copying-none : Copying table xs W at out 0 0 0 out
   copying-none = record { low = omega arith; at-v = starts (rowsOf table); done = []; are = refl; many = refl; put = appended-none 0 out; long = refl }
 
-  module _ (g : VerticesWritable table xs W at out) {o base k : ℕ} {new : List Float} (c : Copying table xs W at out o base k new) (l : k < length (rowsOf table)) {vertices : ℕ} (v : vertices ≡ rowAt table k .vertices) where
+  module _ (g : VerticesWritable table xs W at out) {o base k : ℕ} {new : List Float} (c : Copying table xs W at out o base k new) (l : k < length (rowsOf table)) {vertices : ℕ}
+      (v : vertices ≡ rowAt table k .vertices) where
     -- row k's vertices are there
     pub inside : 3 * (base + vertices) ≤ length xs
     unfolding rowAt
@@ -105,7 +106,8 @@ module _ {table : List ℕ} {xs : List Float} {W : List ℕ} {at : ℕ} {out : L
     room-here =
         omega (
           arith,
-          part-low (c .done) (keptIf (getD W (at + k) 0) own) (numbersBy (drop (k + 1) (judgedIn table W at)) (drop (3 * (base + vertices)) xs)) (numbersBy (judgedIn table W at) xs) (ap (λ (ys : List Float). c .done ++ ys) (sym left-here) ∙ c .are),
+          part-low (c .done) (keptIf (getD W (at + k) 0) own) (numbersBy (drop (k + 1) (judgedIn table W at)) (drop (3 * (base + vertices)) xs)) (numbersBy (judgedIn table W at) xs)
+              (ap (λ (ys : List Float). c .done ++ ys) (sym left-here) ∙ c .are),
           g .room,
           c .long,
         )
@@ -133,5 +135,6 @@ module _ {table : List ℕ} {xs : List Float} {W : List ℕ} {at : ℕ} {out : L
   unfolding numbersBy
   copying-all {o} {base} {k} {new} g c l =
       let js = judgedIn table W at in
-      let none-left : numbersBy (drop k js) (drop (3 * base) xs) ≡ [] = ap (λ (ks : List JudgedRow). numbersBy ks (drop (3 * base) xs)) (drop-of-length-le js {i = k} (omega (arith, judged-long table W at (g .words)))) in
+      let none-left : numbersBy (drop k js) (drop (3 * base) xs) ≡ [] = ap (λ (ks : List JudgedRow). numbersBy ks (drop (3 * base) xs))
+      (drop-of-length-le js {i = k} (omega (arith, judged-long table W at (g .words)))) in
       record { numbers = appended-written (c .put) ∙ ap (λ (ys : List Float). written ys out) (sym (append-nil (c .done)) ∙ ap (λ (ys : List Float). c .done ++ ys) (sym none-left) ∙ c .are) }

@@ -72,7 +72,8 @@ parts-three ls (m ∷ ms) = let e = parts-three ls ms in omega arith
 
 -- ---- the words made ready
 
-module _ {table is W : List ℕ} {at starts : ℕ} {out parts : List ℕ} (g : RunsWritable table is W at starts out parts) {m order : ℕ} (rows-are : m ≡ length (rowsOf table)) (order-is : order ≡ starts + m) where
+module _ {table is W : List ℕ} {at starts : ℕ} {out parts : List ℕ} (g : RunsWritable table is W at starts out parts) {m order : ℕ} (rows-are : m ≡ length (rowsOf table))
+    (order-is : order ≡ starts + m) where
   -- what ordering the rows asks
   pub order-ready : Orderable table W at starts order m
   order-ready =
@@ -438,7 +439,8 @@ module _ {table is W : List ℕ} {at starts order m : ℕ} {out parts : List ℕ
                 many = omega (arith, length-append (c .done) (x ∷ []), c .many);
                 indices-put = subst (λ (ys : List ℕ). Appended 0 ys out new') (sym (both (runOf rs) (c .done) x)) (behind (c .indices-put) (c .indices-many) run-is);
                 indices-many = ap length (both (runOf rs) (c .done) x) ∙ length-append (flatMap (runOf rs) (c .done)) (runOf rs x) ∙ (λ j. c .indices-many j + run-size j) ∙ sym run-end;
-                parts-put = subst (λ (ys : List ℕ). Appended 0 ys parts qs') (sym (both (partOf rs) (c .done) x)) (behind (c .parts-put) (parts-three rs (c .done) ∙ ap (λ (y : ℕ). 3 * y) (c .many)) part-is);
+                parts-put = subst (λ (ys : List ℕ). Appended 0 ys parts qs') (sym (both (partOf rs) (c .done) x))
+                    (behind (c .parts-put) (parts-three rs (c .done) ∙ ap (λ (y : ℕ). 3 * y) (c .many)) part-is);
                 firsts = λ k h z b. first-is k h z b (ℕ-discrete (getD W (at + k) 0) next);
                 later = λ k h b. w .others k (λ e. absurd (other k h b e)) ∙ c .later k h (omega (arith, above));
                 front = w .front ∙ c .front;

@@ -93,7 +93,8 @@ module _ {table is W : List ℕ} {at starts order m first wanted : ℕ} {out : L
     unfolding runBy
     left-here =
         ap (λ (xs : List JudgedRow). runBy wanted (basesBefore js k) xs (drop (indicesBefore (rowsOf table) k) is)) (judged-here table W at words k l)
-        ∙ (λ j. sameIf (getD W (at + k) 0) wanted moved ++ runBy wanted (sym (bases-next table W at words k l) j) (drop (k + 1) js) ((drop-drop size (indicesBefore (rowsOf table) k) is ∙ ap (λ (i : ℕ). drop i is) (sym (indices-next table k l))) j))
+        ∙ (λ j. sameIf (getD W (at + k) 0) wanted moved ++ runBy wanted (sym (bases-next table W at words k l) j) (drop (k + 1) js)
+        ((drop-drop size (indicesBefore (rowsOf table) k) is ∙ ap (λ (i : ℕ). drop i is) (sym (indices-next table k l))) j))
 
     -- what one row more has that is wanted
     before-next : before table W at wanted (k + 1) ≡ before table W at wanted k + cond (eqb (getD W (at + k) 0) wanted) size 0
@@ -164,7 +165,8 @@ module _ {table is W : List ℕ} {at starts order m first wanted : ℕ} {out : L
             let s : to - from ≡ size = omega arith in
             let same : map (λ i. base + i) (take (to - from) (drop from is)) ≡ moved = λ j. map (λ i. b j + i) (take (s j) (drop (f j) is)) in
             let own : Appended o moved new new' = subst (λ (ys : List ℕ). Appended o ys new new') same (w .run) in
-            let long : length moved ≡ size = length-map (take size (drop (indicesBefore (rowsOf table) k) is)) (λ i. basesBefore js k + i) ∙ length-take-le size (drop (indicesBefore (rowsOf table) k) is) (omega (arith, inside, length-drop (indicesBefore (rowsOf table) k) is)) in
+            let long : length moved ≡ size = length-map (take size (drop (indicesBefore (rowsOf table) k) is)) (λ i. basesBefore js k + i)
+            ∙ length-take-le size (drop (indicesBefore (rowsOf table) k) is) (omega (arith, inside, length-drop (indicesBefore (rowsOf table) k) is)) in
             record {
               low = omega arith;
               done = c .done ++ moved;
@@ -206,7 +208,8 @@ module _ {table is W : List ℕ} {at starts order m first wanted : ℕ} {out : L
   pub reached-run : {o : ℕ} {E new : List ℕ} → Reached table is W at starts wanted out start n o E new → Appended start (runBy wanted 0 js is) out new
   unfolding runBy
   reached-run {o} {E} {new} c =
-      let nothing : left table is W at wanted n ≡ [] = ap (λ (xs : List JudgedRow). runBy wanted (basesBefore js n) xs (drop (indicesBefore (rowsOf table) n) is)) (drop-of-length-le js {i = n} (omega (arith, judged-long table W at words))) in
+      let nothing : left table is W at wanted n ≡ [] = ap (λ (xs : List JudgedRow). runBy wanted (basesBefore js n) xs (drop (indicesBefore (rowsOf table) n) is))
+      (drop-of-length-le js {i = n} (omega (arith, judged-long table W at words))) in
       subst (λ (xs : List ℕ). Appended start xs out new) (sym (append-nil (c .done)) ∙ ap (λ (ys : List ℕ). c .done ++ ys) (sym nothing) ∙ c .are) (c .put)
 
   pub reached-end : {o : ℕ} {E new : List ℕ} → Reached table is W at starts wanted out start n o E new → o ≡ start + indicesWith wanted js

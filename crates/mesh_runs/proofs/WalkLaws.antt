@@ -141,7 +141,8 @@ module _ {table is W : List ℕ} {at starts order m first wanted : ℕ} {out : L
               let w = word-is in
               let v = wanted-here in
               subst (λ (x : ℕ). Reached table is W at starts wanted out start x o E new) z
-              (reached-skip g (q - c .k) (c .k) (omega (arith, in-rows, not-behind)) (λ r a b. no-row (getD W (order + p) 0) r (λ i x y. rises p i x y) a (omega (arith, in-rows, g .rows-are)) (omega arith)) (c .reached))
+              (reached-skip g (q - c .k) (c .k) (omega (arith, in-rows, not-behind))
+              (λ r a b. no-row (getD W (order + p) 0) r (λ i x y. rises p i x y) a (omega (arith, in-rows, g .rows-are)) (omega arith)) (c .reached))
 
           -- where it is found is as it was
           found-is : getD E (starts + q) 0 ≡ basesBefore (judgedIn table W at) q * 1048576 + indicesBefore (rowsOf table) q

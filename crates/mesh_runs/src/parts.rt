@@ -31,7 +31,8 @@ pub fn write_runs(
     parts: &mut [u32],
 ) -> usize
     requires { ⌜ RunsWritable (now rows) (now indices) (now w) at starts (now out) (now parts) ⌝ }
-    ensures { λ r. ⌜ RunsWritten (now (rows .entry)) (now (indices .entry)) (now (w .entry)) (now (w .exit)) at starts (now (out .entry)) (now (out .exit)) (now (parts .entry)) (now (parts .exit)) r ⌝ }
+    ensures { λ r. ⌜ RunsWritten (now (rows .entry)) (now (indices .entry)) (now (w .entry)) (now (w .exit)) at starts (now (out .entry)) (now (out .exit))
+        (now (parts .entry)) (now (parts .exit)) r ⌝ }
 {
     let m = body_rows::row_count(rows);
     let order = starts + m;

@@ -29,7 +29,8 @@ fn append_row(
     o + (to - from)
 }
 
-// The indices of all rows with the decision `wanted`, whose words begin at place `first`, are written to `out` from place `start` on, and where each row's begin is kept from `starts` on.
+// The indices of all rows with the decision `wanted`, whose words begin at place `first`, are written to `out` from place `start` on, and where each row's
+// begin is kept from `starts` on.
 pub fn write_run(
     rows: &[u32],
     indices: &[u32],
@@ -44,7 +45,8 @@ pub fn write_run(
     start: usize,
 ) -> RunEnd
     requires { ⌜ RunWritable (now rows) (now indices) (now w) at starts order m first wanted (now out) start ⌝ }
-    ensures { λ r. ⌜ RunWritten (now (rows .entry)) (now (indices .entry)) (now (w .entry)) (now (w .exit)) at starts order m wanted (now (out .entry)) (now (out .exit)) start r ⌝ }
+    ensures { λ r. ⌜ RunWritten (now (rows .entry)) (now (indices .entry)) (now (w .entry)) (now (w .exit)) at starts order m wanted (now (out .entry))
+        (now (out .exit)) start r ⌝ }
 {
     let mut o = start;
     let mut p = first;

@@ -25,7 +25,8 @@ pub fn write_tables(
 ) -> Tables
     requires { ⌜ TablesReady (now rows) (now positions) (now indices) reference (now w) m (now «mesh_indices») (now parts) (now ranges) (now failures) ⌝ }
     ensures { λ r. ⌜ TablesWritten (now (rows .entry)) (now (positions .entry)) (now (indices .entry)) reference (now (w .entry)) (now (w .exit)) m
-        (now («mesh_indices» .entry)) (now («mesh_indices» .exit)) (now (parts .entry)) (now (parts .exit)) (now (ranges .entry)) (now (ranges .exit)) (now (failures .entry)) (now (failures .exit)) r ⌝ }
+        (now («mesh_indices» .entry)) (now («mesh_indices» .exit)) (now (parts .entry)) (now (parts .exit)) (now (ranges .entry)) (now (ranges .exit))
+        (now (failures .entry)) (now (failures .exit)) r ⌝ }
 {
     let p = mesh_runs::write_runs(rows, indices, w, 0, m, mesh_indices, parts);
     let r = mesh_rows::write_ranges(rows, w, 0, m, ranges);

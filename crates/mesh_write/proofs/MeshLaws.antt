@@ -50,7 +50,8 @@ front-written xs old n e = take-at xs (drop (length xs) old) n e
 
 -- ---- writing
 
-module _ {table : List ℕ} {ps ns : List Float} {is : List ℕ} {box : Aabb} {W : List ℕ} {m : ℕ} {t : Totals} {P N : List Float} {I parts ranges failures : List ℕ} (g : WriteReady table ps ns is box W m t P N I parts ranges failures) where
+module _ {table : List ℕ} {ps ns : List Float} {is : List ℕ} {box : Aabb} {W : List ℕ} {m : ℕ} {t : Totals} {P N : List Float} {I parts ranges failures : List ℕ}
+    (g : WriteReady table ps ns is box W m t P N I parts ranges failures) where
   abbrev q : Passed table ps ns is (length W)
   q = g .decided .passed
 

@@ -50,7 +50,8 @@ abbrev pub countsOfMesh : MeshCounts → Counts
 countsOfMesh r = record { edges = r .edges; openEdges = r .opens; overEdges = r .overs }
 
 -- what it leaves: the mesh, its tables and failures at the front of their slices, and their counts
-pub record MeshWritten (table : List ℕ) (ps ns : List Float) (is : List ℕ) (box : Aabb) (W E : List ℕ) (m : ℕ) (t : Totals) (P P' N N' : List Float) (I I' parts parts' ranges ranges' failures failures' : List ℕ) (r : MeshCounts) : Type 0 where
+pub record MeshWritten (table : List ℕ) (ps ns : List Float) (is : List ℕ) (box : Aabb) (W E : List ℕ) (m : ℕ) (t : Totals) (P P' N N' : List Float)
+    (I I' parts parts' ranges ranges' failures failures' : List ℕ) (r : MeshCounts) : Type 0 where
   pub positions-are : P' ≡ written (numbersBy (judgedIn table W 0) ps) P
   pub normals-are : N' ≡ written (numbersBy (judgedIn table W 0) ns) N
   pub indices-are : I' ≡ written (runsOf (laidIn table W 0 is)) I

@@ -42,9 +42,12 @@ pub fn write_mesh(
     ranges: &mut [u32],
     failures: &mut [u64],
 ) -> MeshCounts
-    requires { ⌜ WriteReady (now rows) (now positions) (now normals) (now indices) reference (now w) m t (now «mesh_positions») (now «mesh_normals») (now «mesh_indices») (now parts) (now ranges) (now failures) ⌝ }
-    ensures { λ r. ⌜ MeshWritten (now (rows .entry)) (now (positions .entry)) (now (normals .entry)) (now (indices .entry)) reference (now (w .entry)) (now (w .exit)) m t
-        (now («mesh_positions» .entry)) (now («mesh_positions» .exit)) (now («mesh_normals» .entry)) (now («mesh_normals» .exit)) (now («mesh_indices» .entry)) (now («mesh_indices» .exit))
+    requires { ⌜ WriteReady (now rows) (now positions) (now normals) (now indices) reference (now w) m t (now «mesh_positions») (now «mesh_normals»)
+        (now «mesh_indices») (now parts) (now ranges) (now failures) ⌝ }
+    ensures { λ r. ⌜ MeshWritten (now (rows .entry)) (now (positions .entry)) (now (normals .entry)) (now (indices .entry)) reference (now (w .entry))
+        (now (w .exit)) m t
+        (now («mesh_positions» .entry)) (now («mesh_positions» .exit)) (now («mesh_normals» .entry)) (now («mesh_normals» .exit)) (now («mesh_indices» .entry))
+        (now («mesh_indices» .exit))
         (now (parts .entry)) (now (parts .exit)) (now (ranges .entry)) (now (ranges .exit)) (now (failures .entry)) (now (failures .exit)) r ⌝ }
 {
     mesh_rows::write_vertices(rows, positions, w, 0, mesh_positions);

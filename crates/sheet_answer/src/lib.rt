@@ -20,7 +20,8 @@ pub fn write_answer(
     ranges: &[u32],
     failures: &[u64],
 ) -> usize
-    ensures { λ r. ⌜ Written (now (out .entry)) (meshText z (now (positions .entry)) (now (normals .entry)) (now (indices .entry)) (now (parts .entry)) (now (ranges .entry)) (now (failures .entry)) ++ countText t) (now (out .exit)) r ⌝ }
+    ensures { λ r. ⌜ Written (now (out .entry)) (meshText z (now (positions .entry)) (now (normals .entry)) (now (indices .entry)) (now (parts .entry))
+        (now (ranges .entry)) (now (failures .entry)) ++ countText t) (now (out .exit)) r ⌝ }
 {
     let next = put_mesh(
         out,

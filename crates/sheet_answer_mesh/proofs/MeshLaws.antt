@@ -15,8 +15,10 @@ use Rattle.sheet_answer_rows.specs.Rows.{failureLines, threes, vertexLines}
 use Rattle.sheet_answer_text.specs.Answer.{meshForm, meshText, partForm, rangeForm}
 use Rattle.sheet_answer_rows.specs.FormLaws.{as-form, as-threes}
 
-pub mesh-written : {E W1 W2 W3 W4 W5 W6 : List ℕ} {at r1 r2 r3 r4 r5 r6 : ℕ} (z : Sizes) (ps ns : List Float) (is parts ranges failures : List ℕ) {ps' ns' : List Float} {is' parts' ranges' failures' : List ℕ}
-    → ps' ≡ take (3 * z .vertices) ps → ns' ≡ take (3 * z .vertices) ns → parts' ≡ take (3 * z .parts) parts → is' ≡ take (z .indices) is → ranges' ≡ take (3 * z .ranges) ranges → failures' ≡ take (4 * z .failures) failures
+pub mesh-written : {E W1 W2 W3 W4 W5 W6 : List ℕ} {at r1 r2 r3 r4 r5 r6 : ℕ} (z : Sizes) (ps ns : List Float)
+    (is parts ranges failures : List ℕ) {ps' ns' : List Float} {is' parts' ranges' failures' : List ℕ}
+    → ps' ≡ take (3 * z .vertices) ps → ns' ≡ take (3 * z .vertices) ns → parts' ≡ take (3 * z .parts) parts → is' ≡ take (z .indices) is → ranges' ≡ take (3 * z .ranges) ranges
+    → failures' ≡ take (4 * z .failures) failures
     → Wrote E at (line (pieces (bytes "(mesh##)")) (z .vertices ∷ z .indices ∷ [])) W1 r1
     → Wrote W1 r1 (vertexLines (map bits32 ps') (map bits32 ns')) W2 r2
     → Wrote W2 r2 (threes (pieces (bytes "(part###)")) parts') W3 r3

@@ -26,7 +26,8 @@ pub fn put_mesh(
     failures: &[u64],
 ) -> usize
     requires { ⌜ at ≤ length (now out) ⌝ }
-    ensures { λ r. ⌜ Wrote (now (out .entry)) at (meshText z (now (positions .entry)) (now (normals .entry)) (now (indices .entry)) (now (parts .entry)) (now (ranges .entry)) (now (failures .entry))) (now (out .exit)) r ⌝ }
+    ensures { λ r. ⌜ Wrote (now (out .entry)) at (meshText z (now (positions .entry)) (now (normals .entry)) (now (indices .entry)) (now (parts .entry))
+        (now (ranges .entry)) (now (failures .entry))) (now (out .exit)) r ⌝ }
 {
     let n = 3 * z.vertices as usize;
     let a = put_line(out, at, b"(mesh##)", &[z.vertices as u64, z.indices as u64]);

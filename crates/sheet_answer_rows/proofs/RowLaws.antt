@@ -42,7 +42,8 @@ pub record Going (E : List ℕ) (at : ℕ) (all W : List ℕ) (place : ℕ) (res
 going-none : (E : List ℕ) (at : ℕ) (all : List ℕ) → at ≤ length E → Going E at all E at all
 going-none E at all h = record { done = []; wrote = wrote-none E at h; same = refl }
 
-going-more : (E : List ℕ) (at : ℕ) (all W : List ℕ) (place : ℕ) (rest text left U : List ℕ) (r : ℕ) → Going E at all W place rest → rest ≡ text ++ left → Wrote W place text U r → Going E at all U r left
+going-more : (E : List ℕ) (at : ℕ) (all W : List ℕ) (place : ℕ) (rest text left U : List ℕ) (r : ℕ) → Going E at all W place rest → rest ≡ text ++ left → Wrote W place text U r
+    → Going E at all U r left
 going-more E at all W place rest text left U r v e w =
     record { done = v .done ++ text; wrote = wrote-then (v .wrote) w; same = append-assoc (v .done) text left ∙ ap (λ (xs : List ℕ). v .done ++ xs) (sym e) ∙ v .same }
 
@@ -129,10 +130,12 @@ module _ (E : List ℕ) (at : ℕ) (P N : List Float) (W : List ℕ) (place i : 
   long-of xs = length-map (drop i xs) bits32 ∙ length-drop i xs
 
   pub corners-all : length P - i < 3 → Wrote E at (vertexLines (map bits32 P) (map bits32 N)) W place
-  corners-all h = going-all E at (vertexLines (map bits32 P) (map bits32 N)) W place (vertexLines (map bits32 (drop i P)) (map bits32 (drop i N))) (v .going) (vertices-few (map bits32 (drop i P)) (map bits32 (drop i N)) (omega (arith, long-of P)))
+  corners-all h = going-all E at (vertexLines (map bits32 P) (map bits32 N)) W place (vertexLines (map bits32 (drop i P)) (map bits32 (drop i N))) (v .going)
+      (vertices-few (map bits32 (drop i P)) (map bits32 (drop i N)) (omega (arith, long-of P)))
 
   pub corners-short : 3 ≤ length P - i → length N - i < 3 → Wrote E at (vertexLines (map bits32 P) (map bits32 N)) W place
-  corners-short l h = going-all E at (vertexLines (map bits32 P) (map bits32 N)) W place (vertexLines (map bits32 (drop i P)) (map bits32 (drop i N))) (v .going) (normals-few (map bits32 (drop i P)) (map bits32 (drop i N)) (omega (arith, long-of P)) (omega (arith, long-of N)))
+  corners-short l h = going-all E at (vertexLines (map bits32 P) (map bits32 N)) W place (vertexLines (map bits32 (drop i P)) (map bits32 (drop i N))) (v .going)
+      (normals-few (map bits32 (drop i P)) (map bits32 (drop i N)) (omega (arith, long-of P)) (omega (arith, long-of N)))
 
   pub corners-more : (U : List ℕ) (r : ℕ) → 3 ≤ length P - i → 3 ≤ length N - i → Wrote W place (line vertexForm (cornerAt P N i)) U r → Corners E at P N U r (i + 3)
   unfolding vertexLines
@@ -141,24 +144,28 @@ module _ (E : List ℕ) (at : ℕ) (P N : List Float) (W : List ℕ) (place i : 
     beside = omega arith;
     long = w .long ∙ v .long;
     going =
-        going-more E at (vertexLines (map bits32 P) (map bits32 N)) W place (vertexLines (map bits32 (drop i P)) (map bits32 (drop i N))) (line vertexForm (cornerAt P N i)) (vertexLines (map bits32 (drop (i + 3) P)) (map bits32 (drop (i + 3) N))) U r
+        going-more E at (vertexLines (map bits32 P) (map bits32 N)) W place (vertexLines (map bits32 (drop i P)) (map bits32 (drop i N))) (line vertexForm (cornerAt P N i))
+        (vertexLines (map bits32 (drop (i + 3) P)) (map bits32 (drop (i + 3) N))) U r
         (v .going)
         (ap (λ (xs : List Float). vertexLines (map bits32 xs) (map bits32 (drop i N))) (three-more nan P i (omega (arith, v .inside)))
         ∙ ap (λ (xs : List Float). vertexLines (map bits32 (getD P i nan ∷ getD P (i + 1) nan ∷ getD P (i + 2) nan ∷ drop (i + 3) P)) (map bits32 xs)) (three-more nan N i (omega (arith, v .beside))))
         w;
   }
 
-pub three-written : (E form values W : List ℕ) (at i r a b c : ℕ) → a ≡ getD values i 0 → b ≡ getD values (i + 1) 0 → c ≡ getD values (i + 2) 0 → Wrote E at (line (pieces form) (a ∷ b ∷ c ∷ [])) W r → Wrote E at (line (pieces form) (threeAt values i)) W r
+pub three-written : (E form values W : List ℕ) (at i r a b c : ℕ) → a ≡ getD values i 0 → b ≡ getD values (i + 1) 0 → c ≡ getD values (i + 2) 0 → Wrote E at (line (pieces form) (a ∷ b ∷ c ∷ [])) W r
+    → Wrote E at (line (pieces form) (threeAt values i)) W r
 three-written E form values W at i r a b c p q s w = subst (λ (xs : List ℕ). Wrote E at (line (pieces form) xs) W r) (numbers p q s) w
   where
     numbers : a ≡ getD values i 0 → b ≡ getD values (i + 1) 0 → c ≡ getD values (i + 2) 0 → a ∷ b ∷ c ∷ [] ≡ threeAt values i
     numbers p q s = cc
 
 pub corner-written : (E : List ℕ) (P N : List Float) (W : List ℕ) (at i r a b c d e f : ℕ) → a ≡ bits32 (getD P i nan) → b ≡ bits32 (getD P (i + 1) nan) → c ≡ bits32 (getD P (i + 2) nan)
-    → d ≡ bits32 (getD N i nan) → e ≡ bits32 (getD N (i + 1) nan) → f ≡ bits32 (getD N (i + 2) nan) → Wrote E at (line vertexForm (a ∷ b ∷ c ∷ d ∷ e ∷ f ∷ [])) W r → Wrote E at (line vertexForm (cornerAt P N i)) W r
+    → d ≡ bits32 (getD N i nan) → e ≡ bits32 (getD N (i + 1) nan) → f ≡ bits32 (getD N (i + 2) nan) → Wrote E at (line vertexForm (a ∷ b ∷ c ∷ d ∷ e ∷ f ∷ [])) W r
+    → Wrote E at (line vertexForm (cornerAt P N i)) W r
 corner-written E P N W at i r a b c d e f pa pb pc pd pe pf w = subst (λ (xs : List ℕ). Wrote E at (line vertexForm xs) W r) (numbers pa pb pc pd pe pf) w
   where
-    numbers : a ≡ bits32 (getD P i nan) → b ≡ bits32 (getD P (i + 1) nan) → c ≡ bits32 (getD P (i + 2) nan) → d ≡ bits32 (getD N i nan) → e ≡ bits32 (getD N (i + 1) nan) → f ≡ bits32 (getD N (i + 2) nan) → a ∷ b ∷ c ∷ d ∷ e ∷ f ∷ [] ≡ cornerAt P N i
+    numbers : a ≡ bits32 (getD P i nan) → b ≡ bits32 (getD P (i + 1) nan) → c ≡ bits32 (getD P (i + 2) nan) → d ≡ bits32 (getD N i nan) → e ≡ bits32 (getD N (i + 1) nan)
+        → f ≡ bits32 (getD N (i + 2) nan) → a ∷ b ∷ c ∷ d ∷ e ∷ f ∷ [] ≡ cornerAt P N i
     numbers pa pb pc pd pe pf = cc
 
 -- ---- a failure
@@ -198,13 +205,15 @@ module _ (E : List ℕ) (at : ℕ) (values W : List ℕ) (place i : ℕ) (v : Fa
   pub failures-room : place ≤ length W
   failures-room = going-room E at (failureLines values) W place (failureLines (drop i values)) (v .going)
 
-  pub failures-more : (U : List ℕ) (r : ℕ) → 4 ≤ length values - i → Wrote W place (failureLine (getD values i 0) (getD values (i + 1) 0) (getD values (i + 2) 0) (getD values (i + 3) 0)) U r → Failures E at values U r (i + 4)
+  pub failures-more : (U : List ℕ) (r : ℕ) → 4 ≤ length values - i → Wrote W place (failureLine (getD values i 0) (getD values (i + 1) 0) (getD values (i + 2) 0) (getD values (i + 3) 0)) U r
+      → Failures E at values U r (i + 4)
   unfolding failureLines
   failures-more U r h w = record {
     inside = omega arith;
     long = w .long ∙ v .long;
     going =
-        going-more E at (failureLines values) W place (failureLines (drop i values)) (failureLine (getD values i 0) (getD values (i + 1) 0) (getD values (i + 2) 0) (getD values (i + 3) 0)) (failureLines (drop (i + 4) values)) U r
+        going-more E at (failureLines values) W place (failureLines (drop i values)) (failureLine (getD values i 0) (getD values (i + 1) 0) (getD values (i + 2) 0) (getD values (i + 3) 0))
+        (failureLines (drop (i + 4) values)) U r
         (v .going) (ap failureLines (four-more 0 values i (omega (arith, v .inside)))) w;
   }
 

@@ -25,5 +25,7 @@ pub counts-written : {E W1 W2 W3 W4 W5 W6 W7 W8 : List ℕ} {at r1 r2 r3 r4 r5 r
 unfolding countText piece split numbers
 counts-written {E} {W1} {W2} {W3} {W4} {W5} {W6} {W7} {W8} {at} {r1} {r2} {r3} {r4} {r5} {r6} {r7} {r8} t {n} z a b c d e f g h =
     wrote-then
-    (wrote-then (wrote-then (wrote-then (wrote-then (wrote-then (wrote-then (as-form turnedForm (bytes "(turned#)") refl (t .turned ∷ []) a) (as-form againstForm (bytes "(against#)") refl (t .against ∷ []) b)) (as-form splitForm (bytes "(split#)") refl (t .split ∷ []) c)) (as-form okForm (bytes "(ok#)") refl (t .ok ∷ []) d)) (as-form edgesForm (bytes "(edges#)") refl (t .edges ∷ []) e)) (as-form openForm (bytes "(open#)") refl (t .single ∷ []) f)) (as-form overForm (bytes "(over#)") refl (t .over ∷ []) g))
+    (wrote-then (wrote-then (wrote-then (wrote-then (wrote-then (wrote-then (as-form turnedForm (bytes "(turned#)") refl (t .turned ∷ []) a)
+    (as-form againstForm (bytes "(against#)") refl (t .against ∷ []) b)) (as-form splitForm (bytes "(split#)") refl (t .split ∷ []) c)) (as-form okForm (bytes "(ok#)") refl (t .ok ∷ []) d))
+    (as-form edgesForm (bytes "(edges#)") refl (t .edges ∷ []) e)) (as-form openForm (bytes "(open#)") refl (t .single ∷ []) f)) (as-form overForm (bytes "(over#)") refl (t .over ∷ []) g))
     (as-form closedForm (bytes "(closed#)") refl (cond (t .closed) 1 0 ∷ []) (subst (λ (m : ℕ). Wrote W7 r7 (line (pieces (bytes "(closed#)")) (m ∷ [])) W8 r8) z h))

@@ -14,7 +14,23 @@ use Rattle.sheet_lines.specs.Lengths.{longest}
 use Rattle.sheet_answer_text.specs.declared.Sizes.{Sizes}
 use Rattle.sheet_answer_text.specs.declared.Tallies.{Tallies}
 use Rattle.sheet_answer_rows.specs.Rows.{emptyForm, escapeForm, failureLine, failureLines, threes, upstreamForm, vertexLines}
-use Rattle.sheet_answer_text.specs.Answer.{againstForm, closedForm, countText, edgesForm, meshForm, meshText, okForm, openForm, overForm, partForm, rangeForm, refusalLine, refusedForm, splitForm, turnedForm}
+use Rattle.sheet_answer_text.specs.Answer.{
+  againstForm,
+  closedForm,
+  countText,
+  edgesForm,
+  meshForm,
+  meshText,
+  okForm,
+  openForm,
+  overForm,
+  partForm,
+  rangeForm,
+  refusalLine,
+  refusedForm,
+  splitForm,
+  turnedForm,
+}
 
 -- ---- numbers
 
@@ -74,7 +90,11 @@ failure-length : (face n reach span : ℕ) → length (failureLine face n reach 
 unfolding failureLine
 failure-length face n reach span = go (eqb n 0) (eqb n 256)
   where
-    go : (b d : Bool) → length {A = ℕ} (elim b as (λ x. List ℕ) [ true ↦ line emptyForm (face ∷ []) | false ↦ elim d as (λ x. List ℕ) [ true ↦ line escapeForm (face ∷ reach ∷ span ∷ []) | false ↦ line upstreamForm (face ∷ n ∷ []) ] ]) ≤ 73
+    go : (b d : Bool) → length {A = ℕ} (elim b as (λ x. List ℕ) [
+      | true ↦ line emptyForm (face ∷ [])
+      | false ↦ elim d as
+          (λ x. List ℕ) [ true ↦ line escapeForm (face ∷ reach ∷ span ∷ []) | false ↦ line upstreamForm (face ∷ n ∷ []) ]
+    ]) ≤ 73
     go true d = omega (arith, line-length emptyForm (face ∷ []))
     go false true = omega (arith, line-length escapeForm (face ∷ reach ∷ span ∷ []))
     go false false = omega (arith, line-length upstreamForm (face ∷ n ∷ []))

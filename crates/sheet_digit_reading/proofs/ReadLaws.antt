@@ -51,7 +51,13 @@ pub record Hexed (text : List ℕ) (at k value i : ℕ) : Type 0 where
   pub same : hexFrom value (k - i) (drop (at + i) text) ≡ readHex k (drop at text)
 
 pub hexed-none : (text : List ℕ) (at k : ℕ) → at ≤ length text → Hexed text at k 0 0
-hexed-none text at k h = record { few = omega arith; inside = omega arith; small = omega arith; same = ap (λ (n : ℕ). hexFrom 0 n (drop (at + 0) text)) (let e : k - 0 ≡ k = omega arith in e) ∙ ap (λ (n : ℕ). hexFrom 0 k (drop n text)) (add-zero at) }
+hexed-none text at k h = record {
+  few = omega arith;
+  inside = omega arith;
+  small = omega arith;
+  same = ap (λ (n : ℕ). hexFrom 0 n (drop (at + 0) text)) (let e : k - 0 ≡ k = omega arith in e)
+      ∙ ap (λ (n : ℕ). hexFrom 0 k (drop n text)) (add-zero at);
+}
 
 pub hexed-room : (text : List ℕ) (at k value i : ℕ) → Hexed text at k value i → i < k → k ≤ 16 → value * 16 + 15 < 2 ^ 64
 hexed-room text at k value i v h l =
@@ -92,7 +98,8 @@ module _ (text : List ℕ) (at k value i : ℕ) (v : Hexed text at k value i) (h
         ap (λ (n : ℕ). hexFrom (value * 16 + n) (k - (i + 1)) (drop (at + (i + 1)) text)) e ∙ sym (rw (t, hexFrom)) ∙ there l;
   }
 
-pub no-hex : (text : List ℕ) (at k : ℕ) (r : Taken) → at ≤ length text → r ≡ record { ok = false; value = 0; next = at } → none ≡ readHex k (drop at text) → Number text (16 ^ k) (readHex k (drop at text)) r
+pub no-hex : (text : List ℕ) (at k : ℕ) (r : Taken) → at ≤ length text → r ≡ record { ok = false; value = 0; next = at } → none ≡ readHex k (drop at text)
+    → Number text (16 ^ k) (readHex k (drop at text)) r
 no-hex text at k r h e q = no-number text (16 ^ k) (readHex k (drop at text)) r at h (sixteen-pos k) e q
 
 pub hexed-all : (text : List ℕ) (at k value i : ℕ) → Hexed text at k value i → k ≤ i → Number text (16 ^ k) (readHex k (drop at text)) (record { ok = true; value = value; next = at + k })
@@ -126,7 +133,8 @@ large before xs h =
     rw (le-ltb (decimalFrom before xs .value) (2 ^ 32) b)
 
 -- a number that was read whole
-whole : (text : List ℕ) (value i : ℕ) (o : Option Found) → i ≤ length text → value < 2 ^ 32 → below32 (found value (drop i text)) ≡ o → Number text (2 ^ 32) o (record { ok = true; value = value; next = i })
+whole : (text : List ℕ) (value i : ℕ) (o : Option Found) → i ≤ length text → value < 2 ^ 32 → below32 (found value (drop i text)) ≡ o
+    → Number text (2 ^ 32) o (record { ok = true; value = value; next = i })
 unfolding below32
 whole text value i o l h e = record { is = sym (rw (lt-ltb value (2 ^ 32) h)) ∙ e; small = h; within = l }
 
@@ -157,7 +165,8 @@ module _ (text : List ℕ) (at before value i : ℕ) (v : Tens text at before va
     pub tens-more : d < 10 → value * 10 + d ≤ 4294967295 → Tens text at before (value * 10 + d) (i + 1)
     tens-more b s = record { inside = omega arith; small = omega arith; same = step b }
 
-    pub tens-large : (r : Taken) → at ≤ length text → d < 10 → 4294967295 < value * 10 + d → r ≡ record { ok = false; value = 0; next = at } → Number text (2 ^ 32) (below32 (decimalFrom before (drop at text))) r
+    pub tens-large : (r : Taken) → at ≤ length text → d < 10 → 4294967295 < value * 10 + d → r ≡ record { ok = false; value = 0; next = at }
+        → Number text (2 ^ 32) (below32 (decimalFrom before (drop at text))) r
     tens-large r h b s q = no-number text (2 ^ 32) (below32 (decimalFrom before (drop at text))) r at h (omega arith) q (sym (large (value * 10 + d) (drop (i + 1) text) (omega arith)) ∙ step b)
 
 -- ---- a decimal number

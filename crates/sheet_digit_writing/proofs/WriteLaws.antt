@@ -75,7 +75,12 @@ pub record Filled (base k n : ℕ) (W : List ℕ) (m i : ℕ) : Type 0 where
   pub same : digits base (k - i) m ++ drop (20 - i) W ≡ digits base k n
 
 pub filled-none : (base k n : ℕ) (W : List ℕ) → length W ≡ 20 → Filled base k n W n 0
-filled-none base k n W h = record { few = omega arith; long = h; same = ap (λ (y : ℕ). digits base y n ++ drop 20 W) (let e : k - 0 ≡ k = omega arith in e) ∙ ap (λ (xs : List ℕ). digits base k n ++ xs) (drop-of-length-le W (le-of-eq h)) ∙ append-nil (digits base k n) }
+filled-none base k n W h = record {
+  few = omega arith;
+  long = h;
+  same = ap (λ (y : ℕ). digits base y n ++ drop 20 W) (let e : k - 0 ≡ k = omega arith in e)
+      ∙ ap (λ (xs : List ℕ). digits base k n ++ xs) (drop-of-length-le W (le-of-eq h)) ∙ append-nil (digits base k n);
+}
 
 pub filled-more : (base k n : ℕ) (W : List ℕ) (m i b : ℕ) → Filled base k n W m i → i < k → k ≤ 20 → b ≡ digitByte (m % base) → Filled base k n (set W (19 - i) b) (m / base) (i + 1)
 filled-more base k n W m i b v h l e =
@@ -110,7 +115,8 @@ filled-all base k n W m i v h =
 pub small-digit : (m base : ℕ) → 0 < base → base ≤ 16 → m % base < 16
 small-digit m base p h = omega (arith, mod-lt m p)
 
-pub wrote-digits : (E : List ℕ) (at base k n : ℕ) (room W : List ℕ) (r : ℕ) → Filling base k n room → k ≤ 20 → Wrote E at (take (20 - (20 - k)) (drop (20 - k) room)) W r → Wrote E at (digits base k n) W r
+pub wrote-digits : (E : List ℕ) (at base k n : ℕ) (room W : List ℕ) (r : ℕ) → Filling base k n room → k ≤ 20 → Wrote E at (take (20 - (20 - k)) (drop (20 - k) room)) W r
+    → Wrote E at (digits base k n) W r
 wrote-digits E at base k n room W r v h w =
     let fit : length (drop (20 - k) room) ≤ 20 - (20 - k) = simp length-drop (omega (arith, v .long)) in
     subst (λ (xs : List ℕ). Wrote E at xs W r) (take-all (20 - (20 - k)) (drop (20 - k) room) fit ∙ v .is) w

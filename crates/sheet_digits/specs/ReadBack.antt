@@ -4,7 +4,26 @@ use mathlib.Core.List.{List, [], _∷_, _++_}
 use mathlib.Core.Option.{some}
 use mathlib.Core.Path.{_≡_, refl, sym, _∙_, ap}
 use Prim.Native.Nat.{ℕ, zero, suc, _+_, _*_, _/_, _%_, _^_, _≤_, _<_}
-use native.Mathlib.Nat.{add-zero, mul-one, mod-one, add-mul, mul-assoc, add-assoc, mod-lt, mod-eq-of-lt, div-add-mod', add-mul-mod-self-right, mul-le-mul-right, one-le-pow, pow-succ', suc-mul, zero-mul, zero-add, div-lt-iff-lt-mul, le-div-iff-mul-le}
+use native.Mathlib.Nat.{
+  add-zero,
+  mul-one,
+  mod-one,
+  add-mul,
+  mul-assoc,
+  add-assoc,
+  mod-lt,
+  mod-eq-of-lt,
+  div-add-mod',
+  add-mul-mod-self-right,
+  mul-le-mul-right,
+  one-le-pow,
+  pow-succ',
+  suc-mul,
+  zero-mul,
+  zero-add,
+  div-lt-iff-lt-mul,
+  le-div-iff-mul-le,
+}
 use native.Mathlib.Omega.{arith}
 use lib.Dec.{T, leb, ltb, eqb, eqb→eq, leb→le}
 use lib.Ieee.Fits.{and-l, and-r}

@@ -26,7 +26,8 @@ begun-short M W r h e q =
     let whole : length M ≤ length M = omega arith in
     record {
       reader = q;
-      materials = e ∙ ap (λ (xs : List ℕ). xs ++ drop (length M) M) (front (length M) 64 past) ∙ ap (λ (xs : List ℕ). take (length M) (replicate 64 0) ++ xs) (drop-of-length-le M whole ∙ sym (drop-of-length-le M past));
+      materials = e ∙ ap (λ (xs : List ℕ). xs ++ drop (length M) M) (front (length M) 64 past)
+          ∙ ap (λ (xs : List ℕ). take (length M) (replicate 64 0) ++ xs) (drop-of-length-le M whole ∙ sym (drop-of-length-le M past));
     }
 
 pub begun-long : (M W : List ℕ) (r : Reader) → 64 ≤ length M → W ≡ replicate 64 0 ++ drop 64 M → r ≡ readerOf start → Begun M r W

@@ -46,13 +46,15 @@ module _ (s : Reader) (T P N I M : List ℕ) where
 
   module _ (r : Reader) where
     -- ---- box, sag, default
-    box-six : (a b c d e f : ℕ) (rest : List ℕ) → Ready here Box (a ∷ b ∷ c ∷ d ∷ e ∷ f ∷ rest) → r ≡ boxed s (a ∷ b ∷ c ∷ d ∷ e ∷ f ∷ rest) → lent r T P N I M ≡ takenUp here Box (a ∷ b ∷ c ∷ d ∷ e ∷ f ∷ rest)
+    box-six : (a b c d e f : ℕ) (rest : List ℕ) → Ready here Box (a ∷ b ∷ c ∷ d ∷ e ∷ f ∷ rest) → r ≡ boxed s (a ∷ b ∷ c ∷ d ∷ e ∷ f ∷ rest)
+        → lent r T P N I M ≡ takenUp here Box (a ∷ b ∷ c ∷ d ∷ e ∷ f ∷ rest)
     unfolding takenUp takeUp withLine form countIn
     box-six a b c d e f rest v q =
         let h = held-of s T P N I M (v .fitting .roomy .held) in
         let ns : List ℕ = a ∷ b ∷ c ∷ d ∷ e ∷ f ∷ rest in
         header s T P N I M r (takeUp (stateOf here) (lineFrom Box ns))
-        (q ∙ same-reader (boxed s ns) (s .refusal) 0 1 1 (s .rows) _ (s .vertices) _ (s .indices) _ (s .default) (s .default) (s .sag) (v .fitting .roomy .clean) refl (same-rows s T P N I M h) (same-vertices s T P N I M h) (same-indices s T P N I M h) refl)
+        (q ∙ same-reader (boxed s ns) (s .refusal) 0 1 1 (s .rows) _ (s .vertices) _ (s .indices) _ (s .default) (s .default) (s .sag) (v .fitting .roomy .clean) refl (same-rows s T P N I M h)
+        (same-vertices s T P N I M h) (same-indices s T P N I M h) refl)
         refl refl refl refl refl
 
     sag-six : (a b c d e f : ℕ) (rest : List ℕ) → Ready here Sag (a ∷ b ∷ c ∷ d ∷ e ∷ f ∷ rest) → r ≡ sagged s a → lent r T P N I M ≡ takenUp here Sag (a ∷ b ∷ c ∷ d ∷ e ∷ f ∷ rest)
@@ -60,7 +62,8 @@ module _ (s : Reader) (T P N I M : List ℕ) where
     sag-six a b c d e f rest v q =
         let h = held-of s T P N I M (v .fitting .roomy .held) in
         header s T P N I M r (takeUp (stateOf here) (lineFrom Sag (a ∷ b ∷ c ∷ d ∷ e ∷ f ∷ rest)))
-        (q ∙ same-reader s (s .refusal) 0 2 2 (s .rows) _ (s .vertices) _ (s .indices) _ (s .default) (s .default) a (v .fitting .roomy .clean) refl (same-rows s T P N I M h) (same-vertices s T P N I M h) (same-indices s T P N I M h) refl)
+        (q ∙ same-reader s (s .refusal) 0 2 2 (s .rows) _ (s .vertices) _ (s .indices) _ (s .default) (s .default) a (v .fitting .roomy .clean) refl (same-rows s T P N I M h)
+        (same-vertices s T P N I M h) (same-indices s T P N I M h) refl)
         refl refl refl refl refl
 
     none-six : (ns : List ℕ) → Ready here NoDefault ns → r ≡ defaulted s 0 → lent r T P N I M ≡ takenUp here NoDefault ns
@@ -68,20 +71,24 @@ module _ (s : Reader) (T P N I M : List ℕ) where
     none-six ns v q =
         let h = held-of s T P N I M (v .fitting .roomy .held) in
         header s T P N I M r (takeUp (stateOf here) (lineFrom NoDefault ns))
-        (q ∙ same-reader s (s .refusal) 0 3 3 (s .rows) _ (s .vertices) _ (s .indices) _ 0 0 (s .sag) (v .fitting .roomy .clean) refl (same-rows s T P N I M h) (same-vertices s T P N I M h) (same-indices s T P N I M h) refl)
+        (q ∙ same-reader s (s .refusal) 0 3 3 (s .rows) _ (s .vertices) _ (s .indices) _ 0 0 (s .sag) (v .fitting .roomy .clean) refl (same-rows s T P N I M h) (same-vertices s T P N I M h)
+        (same-indices s T P N I M h) refl)
         refl refl refl refl refl
 
-    default-six : (a b c d e f : ℕ) (rest : List ℕ) → Ready here Default (a ∷ b ∷ c ∷ d ∷ e ∷ f ∷ rest) → r ≡ defaulted s (a % 2 ^ 32 + 1) → lent r T P N I M ≡ takenUp here Default (a ∷ b ∷ c ∷ d ∷ e ∷ f ∷ rest)
+    default-six : (a b c d e f : ℕ) (rest : List ℕ) → Ready here Default (a ∷ b ∷ c ∷ d ∷ e ∷ f ∷ rest) → r ≡ defaulted s (a % 2 ^ 32 + 1)
+        → lent r T P N I M ≡ takenUp here Default (a ∷ b ∷ c ∷ d ∷ e ∷ f ∷ rest)
     unfolding takenUp takeUp withLine form numbers countIn
     default-six a b c d e f rest v q =
         let h = held-of s T P N I M (v .fitting .roomy .held) in
         let small : Dec.T (ltb a (2 ^ 32)) = and-l (ltb a (2 ^ 32)) true (v .fitting .small) in
         header s T P N I M r (takeUp (stateOf here) (lineFrom Default (a ∷ b ∷ c ∷ d ∷ e ∷ f ∷ rest)))
-        (q ∙ same-reader s (s .refusal) 0 3 3 (s .rows) _ (s .vertices) _ (s .indices) _ (a % 2 ^ 32 + 1) (a + 1) (s .sag) (v .fitting .roomy .clean) refl (same-rows s T P N I M h) (same-vertices s T P N I M h) (same-indices s T P N I M h) (ap (λ (n : ℕ). n + 1) (low a small)))
+        (q ∙ same-reader s (s .refusal) 0 3 3 (s .rows) _ (s .vertices) _ (s .indices) _ (a % 2 ^ 32 + 1) (a + 1) (s .sag) (v .fitting .roomy .clean) refl (same-rows s T P N I M h)
+        (same-vertices s T P N I M h) (same-indices s T P N I M h) (ap (λ (n : ℕ). n + 1) (low a small)))
         refl refl refl refl refl
 
     -- ---- a material
-    material-six : (a b c d e f : ℕ) (rest W : List ℕ) → Ready here Material (a ∷ b ∷ c ∷ d ∷ e ∷ f ∷ rest) → W ≡ set M a (b % 2 ^ 32 + 1) → lent s T P N I W ≡ takenUp here Material (a ∷ b ∷ c ∷ d ∷ e ∷ f ∷ rest)
+    material-six : (a b c d e f : ℕ) (rest W : List ℕ) → Ready here Material (a ∷ b ∷ c ∷ d ∷ e ∷ f ∷ rest) → W ≡ set M a (b % 2 ^ 32 + 1)
+        → lent s T P N I W ≡ takenUp here Material (a ∷ b ∷ c ∷ d ∷ e ∷ f ∷ rest)
     unfolding takenUp takeUp withLine form numbers countIn passesLimit
     material-six a b c d e f rest W v q =
         let h = held-of s T P N I M (v .fitting .roomy .held) in
@@ -92,7 +99,8 @@ module _ (s : Reader) (T P N I M : List ℕ) where
         let place : s .place ≡ 3 = omega (arith, leb-true 3 (s .place) first, leb-true (s .place) 3 last) in
         let small : Dec.T (ltb b (2 ^ 32)) = and-l (ltb b (2 ^ 32)) true (and-r (ltb a (2 ^ 32)) (ltb b (2 ^ 32) && true) (v .fitting .small)) in
         same-lent
-        (same-reader s (s .refusal) 0 (s .place) 3 (s .rows) _ (s .vertices) _ (s .indices) _ (s .default) (s .default) (s .sag) (v .fitting .roomy .clean) place (same-rows s T P N I M h) (same-vertices s T P N I M h) (same-indices s T P N I M h) refl)
+        (same-reader s (s .refusal) 0 (s .place) 3 (s .rows) _ (s .vertices) _ (s .indices) _ (s .default) (s .default) (s .sag) (v .fitting .roomy .clean) place (same-rows s T P N I M h)
+        (same-vertices s T P N I M h) (same-indices s T P N I M h) refl)
         (kept (5 * s .rows) T)
         (kept (3 * s .vertices) P)
         (kept (3 * s .vertices) N)
@@ -100,13 +108,29 @@ module _ (s : Reader) (T P N I M : List ℕ) where
         (q ∙ ap (λ (n : ℕ). set M a (n + 1)) (low b small) ∙ changed 64 M a (b + 1) (omega arith) (h .limits .materials))
 
     -- ---- a row
-    row-more : (place x y z : ℕ) (W : List ℕ) → Held s T P N I M → s .rows < 16 → s .refusal ≡ 0 → r ≡ moved s place (s .rows + 1) (s .vertices) (s .indices) (s .default) (s .sag) → W ≡ placed T (5 * s .rows) (x ∷ y ∷ z ∷ 0 ∷ 0 ∷ [])
-        → lent r W P N I M ≡ over here (record { refusal = 0; place = place; sheet = record { box = patternsOf here .box; sag = s .sag; default = s .default; materials = take 64 M; table = take (5 * s .rows) T ++ x ∷ y ∷ z ∷ 0 ∷ 0 ∷ []; positions = take (3 * s .vertices) P; normals = take (3 * s .vertices) N; indices = take (s .indices) I } })
+    row-more : (place x y z : ℕ) (W : List ℕ) → Held s T P N I M → s .rows < 16 → s .refusal ≡ 0 → r ≡ moved s place (s .rows + 1) (s .vertices) (s .indices) (s .default) (s .sag)
+        → W ≡ placed T (5 * s .rows) (x ∷ y ∷ z ∷ 0 ∷ 0 ∷ [])
+        → lent r W P N I M ≡ over here (record {
+          refusal = 0;
+          place = place;
+          sheet = record {
+            box = patternsOf here .box;
+            sag = s .sag;
+            default = s .default;
+            materials = take 64 M;
+            table = take (5 * s .rows) T ++ x ∷ y ∷ z ∷ 0 ∷ 0
+                ∷ [];
+            positions = take (3 * s .vertices) P;
+            normals = take (3 * s .vertices) N;
+            indices = take (s .indices) I;
+          };
+        })
     row-more place x y z W h l clean q e =
         let long : length (take (5 * s .rows) T ++ x ∷ y ∷ z ∷ 0 ∷ 0 ∷ []) ≡ length (take (5 * s .rows) T) + 5 = length-append (take (5 * s .rows) T) (x ∷ y ∷ z ∷ 0 ∷ 0 ∷ []) in
         let rows : s .rows + 1 ≡ length (take (5 * s .rows) T ++ x ∷ y ∷ z ∷ 0 ∷ 0 ∷ []) / 5 = omega (arith, counts-of s T P N I M h .table) in
         same-lent
-        (q ∙ same-reader s (s .refusal) 0 place place (s .rows + 1) _ (s .vertices) _ (s .indices) _ (s .default) (s .default) (s .sag) clean refl rows (same-vertices s T P N I M h) (same-indices s T P N I M h) refl)
+        (q ∙ same-reader s (s .refusal) 0 place place (s .rows + 1) _ (s .vertices) _ (s .indices) _ (s .default) (s .default) (s .sag) clean refl rows (same-vertices s T P N I M h)
+        (same-indices s T P N I M h) refl)
         (e ∙ grown (5 * s .rows) T (x ∷ y ∷ z ∷ 0 ∷ 0 ∷ []) (rows-fit s T P N I M h))
         (kept (3 * s .vertices) P)
         (kept (3 * s .vertices) N)
@@ -123,7 +147,8 @@ module _ (s : Reader) (T P N I M : List ℕ) where
       let ok : Passed (lineFrom k ns) (stateOf here) = passed _ _ (v .taken) in
       record { rows = few-rows (ltb 63 (at (lineFrom k ns .numbers) 1)) h (sym (is (lineFrom k ns .numbers) (patternsOf here)) ∙ ok .limit); table = h .limits .table }
 
-  face-six : (r : Reader) (a b c d e f : ℕ) (rest W : List ℕ) → Ready here Face (a ∷ b ∷ c ∷ d ∷ e ∷ f ∷ rest) → RowAdded s T a b 0 4 r W → lent r W P N I M ≡ takenUp here Face (a ∷ b ∷ c ∷ d ∷ e ∷ f ∷ rest)
+  face-six : (r : Reader) (a b c d e f : ℕ) (rest W : List ℕ) → Ready here Face (a ∷ b ∷ c ∷ d ∷ e ∷ f ∷ rest) → RowAdded s T a b 0 4 r W
+      → lent r W P N I M ≡ takenUp here Face (a ∷ b ∷ c ∷ d ∷ e ∷ f ∷ rest)
   unfolding takenUp takeUp withLine form numbers countIn passesLimit
   face-six r a b c d e f rest W v q =
       let h = held-of s T P N I M (v .fitting .roomy .held) in
@@ -132,7 +157,8 @@ module _ (s : Reader) (T P N I M : List ℕ) where
       row-more r 4 a b 0 W h (row-room Face (λ ms x. refl) (a ∷ b ∷ c ∷ d ∷ e ∷ f ∷ rest) v .rows) (v .fitting .roomy .clean) (q .reader)
       (three-same T (5 * s .rows) (0 ∷ 0 ∷ []) (low a t0) (low b t1) refl (q .table))
 
-  fail-six : (r : Reader) (a b c d e f : ℕ) (rest W : List ℕ) → Ready here Fail (a ∷ b ∷ c ∷ d ∷ e ∷ f ∷ rest) → RowAdded s T a b c 6 r W → lent r W P N I M ≡ takenUp here Fail (a ∷ b ∷ c ∷ d ∷ e ∷ f ∷ rest)
+  fail-six : (r : Reader) (a b c d e f : ℕ) (rest W : List ℕ) → Ready here Fail (a ∷ b ∷ c ∷ d ∷ e ∷ f ∷ rest) → RowAdded s T a b c 6 r W
+      → lent r W P N I M ≡ takenUp here Fail (a ∷ b ∷ c ∷ d ∷ e ∷ f ∷ rest)
   unfolding takenUp takeUp withLine form numbers countIn passesLimit
   fail-six r a b c d e f rest W v q =
       let h = held-of s T P N I M (v .fitting .roomy .held) in
@@ -203,10 +229,14 @@ module _ (s : Reader) (T P N I M : List ℕ) where
       let long : length (take (3 * s .vertices) P ++ a ∷ b ∷ c ∷ []) ≡ length (take (3 * s .vertices) P) + 3 = length-append (take (3 * s .vertices) P) (a ∷ b ∷ c ∷ []) in
       let vertices : s .vertices + 1 ≡ length (take (3 * s .vertices) P ++ a ∷ b ∷ c ∷ []) / 3 = omega (arith, counts-of s T P N I M h .positions) in
       same-lent
-      (q .reader ∙ same-reader s (s .refusal) 0 4 4 (s .rows) _ (s .vertices + 1) _ (s .indices) _ (s .default) (s .default) (s .sag) (v .fitting .roomy .clean) refl (raised-rows 2 1 h (omega arith) back) vertices (same-indices s T P N I M h) refl)
+      (q .reader ∙ same-reader s (s .refusal) 0 4 4 (s .rows) _ (s .vertices + 1) _ (s .indices) _ (s .default) (s .default) (s .sag) (v .fitting .roomy .clean) refl
+      (raised-rows 2 1 h (omega arith) back) vertices (same-indices s T P N I M h) refl)
       (raised-in 2 1 h (omega arith) back T' (q .table))
-      (three-same P (3 * s .vertices) [] (low a (and-l (short a) (short b && (short c && (short d && (short e && (short f && true))))) w0)) (low b (and-l (short b) (short c && (short d && (short e && (short f && true)))) w1)) (low c (and-l (short c) (short d && (short e && (short f && true))) w2)) (q .positions) ∙ grown (3 * s .vertices) P (a ∷ b ∷ c ∷ []) (vertices-fit s T P N I M h))
-      (three-same N (3 * s .vertices) [] (low d (and-l (short d) (short e && (short f && true)) w3)) (low e (and-l (short e) (short f && true) w4)) (low f (and-l (short f) true w5)) (q .normals) ∙ grown (3 * s .vertices) N (d ∷ e ∷ f ∷ []) (normals-fit s T P N I M h))
+      (three-same P (3 * s .vertices) [] (low a (and-l (short a) (short b && (short c && (short d && (short e && (short f && true))))) w0))
+      (low b (and-l (short b) (short c && (short d && (short e && (short f && true)))) w1)) (low c (and-l (short c) (short d && (short e && (short f && true))) w2)) (q .positions)
+      ∙ grown (3 * s .vertices) P (a ∷ b ∷ c ∷ []) (vertices-fit s T P N I M h))
+      (three-same N (3 * s .vertices) [] (low d (and-l (short d) (short e && (short f && true)) w3)) (low e (and-l (short e) (short f && true) w4)) (low f (and-l (short f) true w5)) (q .normals)
+      ∙ grown (3 * s .vertices) N (d ∷ e ∷ f ∷ []) (normals-fit s T P N I M h))
       (kept (s .indices) I)
       (kept 64 M)
 
@@ -240,11 +270,13 @@ module _ (s : Reader) (T P N I M : List ℕ) where
       let long : length (take (s .indices) I ++ a ∷ b ∷ c ∷ []) ≡ length (take (s .indices) I) + 3 = length-append (take (s .indices) I) (a ∷ b ∷ c ∷ []) in
       let indices : s .indices + 3 ≡ length (take (s .indices) I ++ a ∷ b ∷ c ∷ []) = omega (arith, counts-of s T P N I M h .indices) in
       same-lent
-      (q .reader ∙ same-reader s (s .refusal) 0 5 5 (s .rows) _ (s .vertices) _ (s .indices + 3) _ (s .default) (s .default) (s .sag) (v .fitting .roomy .clean) refl (raised-rows 1 3 h (omega arith) back) (same-vertices s T P N I M h) indices refl)
+      (q .reader ∙ same-reader s (s .refusal) 0 5 5 (s .rows) _ (s .vertices) _ (s .indices + 3) _ (s .default) (s .default) (s .sag) (v .fitting .roomy .clean) refl
+      (raised-rows 1 3 h (omega arith) back) (same-vertices s T P N I M h) indices refl)
       (raised-in 1 3 h (omega arith) back T' (q .table))
       (kept (3 * s .vertices) P)
       (kept (3 * s .vertices) N)
-      (three-same I (s .indices) [] (low a (and-l (ltb a (2 ^ 32)) (ltb b (2 ^ 32) && (ltb c (2 ^ 32) && true)) w0)) (low b (and-l (ltb b (2 ^ 32)) (ltb c (2 ^ 32) && true) w1)) (low c (and-l (ltb c (2 ^ 32)) true w2)) (q .indices) ∙ grown (s .indices) I (a ∷ b ∷ c ∷ []) (indices-fit s T P N I M h))
+      (three-same I (s .indices) [] (low a (and-l (ltb a (2 ^ 32)) (ltb b (2 ^ 32) && (ltb c (2 ^ 32) && true)) w0)) (low b (and-l (ltb b (2 ^ 32)) (ltb c (2 ^ 32) && true) w1))
+      (low c (and-l (ltb c (2 ^ 32)) true w2)) (q .indices) ∙ grown (s .indices) I (a ∷ b ∷ c ∷ []) (indices-fit s T P N I M h))
       (kept 64 M)
 
   -- ---- every kind, whatever numbers follow the line's own
@@ -266,39 +298,45 @@ module _ (s : Reader) (T P N I M : List ℕ) where
 
     pub take-default : (r : Reader) (d : ℕ) → k ≡ Default → d ≡ getD ns 0 0 % 2 ^ 32 + 1 → r ≡ defaulted s d → lent r T P N I M ≡ takenUp here k ns
     take-default r d e p q =
-        six (λ xs. Ready here Default xs → r ≡ defaulted s (getD xs 0 0 % 2 ^ 32 + 1) → lent r T P N I M ≡ takenUp here Default xs) (default-six r) ns (v .fitting .long) (ready Default e) (q ∙ ap (defaulted s) p) ∙ back-to Default e
+        six (λ xs. Ready here Default xs → r ≡ defaulted s (getD xs 0 0 % 2 ^ 32 + 1) → lent r T P N I M ≡ takenUp here Default xs) (default-six r) ns (v .fitting .long) (ready Default e)
+        (q ∙ ap (defaulted s) p) ∙ back-to Default e
 
     pub material-room : k ≡ Material → getD ns 0 0 < length M
     material-room e = six (λ xs. Ready here Material xs → getD xs 0 0 < length M) material-below ns (v .fitting .long) (ready Material e)
 
     pub take-material : (W : List ℕ) → k ≡ Material → W ≡ set M (getD ns 0 0) (getD ns 1 0 % 2 ^ 32 + 1) → lent s T P N I W ≡ takenUp here k ns
     take-material W e q =
-        six (λ xs. Ready here Material xs → W ≡ set M (getD xs 0 0) (getD xs 1 0 % 2 ^ 32 + 1) → lent s T P N I W ≡ takenUp here Material xs) (λ a b c d e f rest. material-six s a b c d e f rest W) ns (v .fitting .long) (ready Material e) q ∙ back-to Material e
+        six (λ xs. Ready here Material xs → W ≡ set M (getD xs 0 0) (getD xs 1 0 % 2 ^ 32 + 1) → lent s T P N I W ≡ takenUp here Material xs) (λ a b c d e f rest. material-six s a b c d e f rest W) ns
+        (v .fitting .long) (ready Material e) q ∙ back-to Material e
 
     pub open-room : (j : Kind) → ((ms : List ℕ) (x : Patterns) → passesLimit j ms x ≡ ltb 63 (at ms 1) || leb 80 (length (x .table))) → k ≡ j → RowRoom s T
     open-room j is e = row-room j is ns (ready j e)
 
     pub take-face : (r : Reader) (W : List ℕ) → k ≡ Face → RowAdded s T (getD ns 0 0) (getD ns 1 0) 0 4 r W → lent r W P N I M ≡ takenUp here k ns
     take-face r W e q =
-        six (λ xs. Ready here Face xs → RowAdded s T (getD xs 0 0) (getD xs 1 0) 0 4 r W → lent r W P N I M ≡ takenUp here Face xs) (λ a b c d e f rest. face-six r a b c d e f rest W) ns (v .fitting .long) (ready Face e) q ∙ back-to Face e
+        six (λ xs. Ready here Face xs → RowAdded s T (getD xs 0 0) (getD xs 1 0) 0 4 r W → lent r W P N I M ≡ takenUp here Face xs) (λ a b c d e f rest. face-six r a b c d e f rest W) ns
+        (v .fitting .long) (ready Face e) q ∙ back-to Face e
 
     pub take-fail : (r : Reader) (W : List ℕ) → k ≡ Fail → RowAdded s T (getD ns 0 0) (getD ns 1 0) (getD ns 2 0) 6 r W → lent r W P N I M ≡ takenUp here k ns
     take-fail r W e q =
-        six (λ xs. Ready here Fail xs → RowAdded s T (getD xs 0 0) (getD xs 1 0) (getD xs 2 0) 6 r W → lent r W P N I M ≡ takenUp here Fail xs) (λ a b c d e f rest. fail-six r a b c d e f rest W) ns (v .fitting .long) (ready Fail e) q ∙ back-to Fail e
+        six (λ xs. Ready here Fail xs → RowAdded s T (getD xs 0 0) (getD xs 1 0) (getD xs 2 0) 6 r W → lent r W P N I M ≡ takenUp here Fail xs) (λ a b c d e f rest. fail-six r a b c d e f rest W) ns
+        (v .fitting .long) (ready Fail e) q ∙ back-to Fail e
 
     pub vertex-room : k ≡ Vertex → VertexRoom s T P N ns
     vertex-room e = six (λ xs. Ready here Vertex xs → VertexRoom s T P N xs) vertex-six-room ns (v .fitting .long) (ready Vertex e)
 
     pub take-vertex : (r : Reader) (T' P' N' : List ℕ) → k ≡ Vertex → VertexAdded s T P N ns r T' P' N' → lent r T' P' N' I M ≡ takenUp here k ns
     take-vertex r T' P' N' e q =
-        six (λ xs. Ready here Vertex xs → VertexAdded s T P N xs r T' P' N' → lent r T' P' N' I M ≡ takenUp here Vertex xs) (λ a b c d e f rest. vertex-six r a b c d e f rest T' P' N') ns (v .fitting .long) (ready Vertex e) q ∙ back-to Vertex e
+        six (λ xs. Ready here Vertex xs → VertexAdded s T P N xs r T' P' N' → lent r T' P' N' I M ≡ takenUp here Vertex xs) (λ a b c d e f rest. vertex-six r a b c d e f rest T' P' N') ns
+        (v .fitting .long) (ready Vertex e) q ∙ back-to Vertex e
 
     pub triangle-room : k ≡ Triangle → TriangleRoom s T I ns
     triangle-room e = six (λ xs. Ready here Triangle xs → TriangleRoom s T I xs) triangle-six-room ns (v .fitting .long) (ready Triangle e)
 
     pub take-triangle : (r : Reader) (T' I' : List ℕ) → k ≡ Triangle → TriangleAdded s T I ns r T' I' → lent r T' P N I' M ≡ takenUp here k ns
     take-triangle r T' I' e q =
-        six (λ xs. Ready here Triangle xs → TriangleAdded s T I xs r T' I' → lent r T' P N I' M ≡ takenUp here Triangle xs) (λ a b c d e f rest. triangle-six r a b c d e f rest T' I') ns (v .fitting .long) (ready Triangle e) q ∙ back-to Triangle e
+        six (λ xs. Ready here Triangle xs → TriangleAdded s T I xs r T' I' → lent r T' P N I' M ≡ takenUp here Triangle xs) (λ a b c d e f rest. triangle-six r a b c d e f rest T' I') ns
+        (v .fitting .long) (ready Triangle e) q ∙ back-to Triangle e
 
 -- ---- the parts that are stored
 pub material-set : (M : List ℕ) (face material x : ℕ) → x ≡ material % 2 ^ 32 + 1 → set M face x ≡ set M face (material % 2 ^ 32 + 1)

@@ -85,7 +85,8 @@ fn add_vertex(
     numbers: &[u64],
 ) -> Reader
     requires { ⌜ VertexRoom s (now table) (now positions) (now normals) (now numbers) ⌝ }
-    ensures { λ r. ⌜ VertexAdded s (now (table .entry)) (now (positions .entry)) (now (normals .entry)) (now (numbers .entry)) r (now (table .exit)) (now (positions .exit)) (now (normals .exit)) ⌝ }
+    ensures { λ r. ⌜ VertexAdded s (now (table .entry)) (now (positions .entry)) (now (normals .entry)) (now (numbers .entry)) r (now (table .exit))
+        (now (positions .exit)) (now (normals .exit)) ⌝ }
 {
     let rows = s.rows;
     let at = 3 * s.vertices;
@@ -124,7 +125,9 @@ pub fn take_up(
     materials: &mut [u64],
 ) -> Reader
     requires { ⌜ Ready (lent s (now table) (now positions) (now normals) (now indices) (now materials)) k (now numbers) ⌝ }
-    ensures { λ r. ⌜ lent r (now (table .exit)) (now (positions .exit)) (now (normals .exit)) (now (indices .exit)) (now (materials .exit)) ≡ takenUp (lent s (now (table .entry)) (now (positions .entry)) (now (normals .entry)) (now (indices .entry)) (now (materials .entry))) k (now (numbers .entry)) ⌝ }
+    ensures { λ r. ⌜ lent r (now (table .exit)) (now (positions .exit)) (now (normals .exit)) (now (indices .exit)) (now (materials .exit))
+        ≡ takenUp (lent s (now (table .entry)) (now (positions .entry)) (now (normals .entry)) (now (indices .entry)) (now (materials .entry))) k
+        (now (numbers .entry)) ⌝ }
 {
     match k {
         Kind::Box => with_box(s, numbers),

@@ -31,13 +31,19 @@ pub claims : List Case
 claims =
     case 1 (reading [] ∷ reading (face ∷ vertex ∷ vertex ∷ triangle ∷ triangle ∷ face ∷ []) ∷ reading (bytes "(fail 0 1 255)" ∷ face ∷ bytes "(fail 0 1 300)" ∷ []) ∷ []) (0 ∷ 0 ∷ 0 ∷ [])
     ∷ case 2 (refusal [] ∷ refusal (sheet [] ++ face) ∷ refusal (lines (face ∷ [])) ∷ refusal (lines (bytes "" ∷ [])) ∷ refusal (take 120 (sheet [])) ∷ []) (51 ∷ 51 ∷ 51 ∷ 51 ∷ 51 ∷ [])
-    ∷ case 3 (reading (bytes "(face 0 07)" ∷ []) ∷ reading (bytes "(face 00 7)" ∷ []) ∷ reading (bytes "(face 0  7)" ∷ []) ∷ reading (bytes "(face 0 7) " ∷ []) ∷ reading (bytes "(face 4294967296 7)" ∷ []) ∷ reading (bytes "(face 4294967295 7)" ∷ []) ∷ []) (51 ∷ 51 ∷ 51 ∷ 51 ∷ 51 ∷ 0 ∷ [])
-    ∷ case 4 (reading (face ∷ bytes "(v (p 3f800000 00000000 80000000) (n 00000000 00000000 7FC00000))" ∷ []) ∷ reading (face ∷ bytes "(v (p 3F80000 00000000 80000000) (n 00000000 00000000 7FC00000))" ∷ []) ∷ []) (51 ∷ 51 ∷ [])
-    ∷ case 5 (reading (vertex ∷ []) ∷ reading (triangle ∷ []) ∷ reading (face ∷ triangle ∷ vertex ∷ []) ∷ reading (face ∷ bytes "(material 1 1)" ∷ []) ∷ reading (bytes "(fail 0 1 2)" ∷ vertex ∷ []) ∷ reading (bytes "(sag 3FD0000000000000)" ∷ []) ∷ []) (51 ∷ 51 ∷ 51 ∷ 51 ∷ 51 ∷ 51 ∷ [])
-    ∷ case 6 (reading (bytes "(fail 0 1 0)" ∷ []) ∷ reading (bytes "(fail 0 1 4294967296)" ∷ []) ∷ reading (bytes "(fail 0 64 1)" ∷ []) ∷ reading (bytes "(face 0 64)" ∷ []) ∷ reading (bytes "(material 64 1)" ∷ []) ∷ reading (bytes "(material 63 4294967295)" ∷ []) ∷ []) (51 ∷ 51 ∷ 52 ∷ 52 ∷ 52 ∷ 0 ∷ [])
-    ∷ case 7 (reading (bytes "(fail 0 64 0)" ∷ []) ∷ reading (bytes "(face 0 64)" ∷ bytes "(face" ∷ []) ∷ reading (bytes "(face" ∷ bytes "(face 0 64)" ∷ []) ∷ reading (face ∷ triangle ∷ bytes "(material 64 1)" ∷ []) ∷ []) (51 ∷ 52 ∷ 51 ∷ 51 ∷ [])
+    ∷ case 3 (reading (bytes "(face 0 07)" ∷ []) ∷ reading (bytes "(face 00 7)" ∷ []) ∷ reading (bytes "(face 0  7)" ∷ []) ∷ reading (bytes "(face 0 7) " ∷ [])
+    ∷ reading (bytes "(face 4294967296 7)" ∷ []) ∷ reading (bytes "(face 4294967295 7)" ∷ []) ∷ []) (51 ∷ 51 ∷ 51 ∷ 51 ∷ 51 ∷ 0 ∷ [])
+    ∷ case 4 (reading (face ∷ bytes "(v (p 3f800000 00000000 80000000) (n 00000000 00000000 7FC00000))" ∷ [])
+    ∷ reading (face ∷ bytes "(v (p 3F80000 00000000 80000000) (n 00000000 00000000 7FC00000))" ∷ []) ∷ []) (51 ∷ 51 ∷ [])
+    ∷ case 5 (reading (vertex ∷ []) ∷ reading (triangle ∷ []) ∷ reading (face ∷ triangle ∷ vertex ∷ []) ∷ reading (face ∷ bytes "(material 1 1)" ∷ []) ∷ reading (bytes "(fail 0 1 2)" ∷ vertex ∷ [])
+    ∷ reading (bytes "(sag 3FD0000000000000)" ∷ []) ∷ []) (51 ∷ 51 ∷ 51 ∷ 51 ∷ 51 ∷ 51 ∷ [])
+    ∷ case 6 (reading (bytes "(fail 0 1 0)" ∷ []) ∷ reading (bytes "(fail 0 1 4294967296)" ∷ []) ∷ reading (bytes "(fail 0 64 1)" ∷ []) ∷ reading (bytes "(face 0 64)" ∷ [])
+    ∷ reading (bytes "(material 64 1)" ∷ []) ∷ reading (bytes "(material 63 4294967295)" ∷ []) ∷ []) (51 ∷ 51 ∷ 52 ∷ 52 ∷ 52 ∷ 0 ∷ [])
+    ∷ case 7 (reading (bytes "(fail 0 64 0)" ∷ []) ∷ reading (bytes "(face 0 64)" ∷ bytes "(face" ∷ []) ∷ reading (bytes "(face" ∷ bytes "(face 0 64)" ∷ [])
+    ∷ reading (face ∷ triangle ∷ bytes "(material 64 1)" ∷ []) ∷ []) (51 ∷ 52 ∷ 51 ∷ 51 ∷ [])
     ∷ case 8 (reading (times 16 face) ∷ reading (times 17 face) ∷ reading (face ∷ times 32 triangle) ∷ reading (face ∷ times 33 triangle) ∷ []) (0 ∷ 52 ∷ 0 ∷ 52 ∷ [])
-    ∷ case 9 (sheetOf (sheet (bytes "(material 1 5)" ∷ bytes "(material 2 0)" ∷ bytes "(material 1 6)" ∷ [])) .sheet .default ∷ take 4 (sheetOf (sheet (bytes "(material 1 5)" ∷ bytes "(material 2 0)" ∷ bytes "(material 1 6)" ∷ [])) .sheet .materials)) (3 ∷ 0 ∷ 7 ∷ 1 ∷ 0 ∷ [])
+    ∷ case 9 (sheetOf (sheet (bytes "(material 1 5)" ∷ bytes "(material 2 0)" ∷ bytes "(material 1 6)" ∷ [])) .sheet .default
+    ∷ take 4 (sheetOf (sheet (bytes "(material 1 5)" ∷ bytes "(material 2 0)" ∷ bytes "(material 1 6)" ∷ [])) .sheet .materials)) (3 ∷ 0 ∷ 7 ∷ 1 ∷ 0 ∷ [])
     ∷ case 10 (sheetOf (sheet (face ∷ vertex ∷ vertex ∷ triangle ∷ bytes "(fail 8 9 3)" ∷ [])) .sheet .table) (0 ∷ 63 ∷ 0 ∷ 2 ∷ 3 ∷ 8 ∷ 9 ∷ 3 ∷ 0 ∷ 0 ∷ [])
     ∷ []
 

@@ -53,7 +53,8 @@ past-none line ks = record { left = refl }
 pub past-more : (k : Kind) {line : List ℕ} {all ks : List Kind} {N : List ℕ} {r : Bool} → Past line all (k ∷ ks) → Scanned (pieces (pattern k)) line N r → r ≡ false → Past line all ks
 past-more k {line} {all} {ks} {N} {r} p v e = record { left = p .left ∙ among-next k ks line (no-form k line N r v e) }
 
-pub past-here : (k : Kind) {line : List ℕ} {all ks : List Kind} {N : List ℕ} {r : Bool} → Past line all (k ∷ ks) → Scanned (pieces (pattern k)) line N r → r ≡ true → given (Given.Line k) N ≡ lineAmong all line
+pub past-here : (k : Kind) {line : List ℕ} {all ks : List Kind} {N : List ℕ} {r : Bool} → Past line all (k ∷ ks) → Scanned (pieces (pattern k)) line N r → r ≡ true
+    → given (Given.Line k) N ≡ lineAmong all line
 past-here k {line} {all} {ks} {N} {r} p v e = among-here k ks line N (of-form k line N r v e) ∙ sym (p .left)
 
 pub past-all : (line N : List ℕ) (all : List Kind) → Past line all [] → given Given.Nothing N ≡ lineAmong all line

@@ -80,7 +80,8 @@ pub number-none : (line : List ℕ) (at c : ℕ) (r : Taken) → at ≤ length l
 unfolding readNumber
 number-none line at c r h m n o e = no-piece line (readNumber (piece c) (drop at line)) r at h e (ap (λ (p : Piece). readNumber p (drop at line)) (sym (piece-byte c m n o)))
 
-pub number-as : (p : Piece) (line : List ℕ) (at c bound : ℕ) (r : Taken) → piece c ≡ p → Digits.Number line bound (readNumber p (drop at line)) r → PieceTaken line (readNumber (piece c) (drop at line)) r
+pub number-as : (p : Piece) (line : List ℕ) (at c bound : ℕ) (r : Taken) → piece c ≡ p → Digits.Number line bound (readNumber p (drop at line)) r
+    → PieceTaken line (readNumber (piece c) (drop at line)) r
 number-as p line at c bound r e v = record { is = v .is ∙ ap (λ (q : Piece). readNumber q (drop at line)) (sym e); within = v .within }
 
 -- ---- a byte that stands for itself, or for a space and a number
@@ -125,7 +126,8 @@ module _ (line : List ℕ) (at c n : ℕ) (space : Taken) (v : Numbers c n) (m :
   after b e =
       number-piece (piece c) (drop at line) (λ z. m (v .is ∙ z))
       ∙ spaced-is (readNumber (piece c)) (drop at line)
-      ∙ ap (λ (o : Option Found). elim o as (λ x. Option Found) [ none ↦ none | some g ↦ readNumber (piece c) (g .rest) ]) (sym (w .is) ∙ ap (λ (x : Bool). cond x (some (found (space .value) (drop (space .next) line))) none) e)
+      ∙ ap (λ (o : Option Found). elim o as (λ x. Option Found) [ none ↦ none | some g ↦ readNumber (piece c) (g .rest) ])
+      (sym (w .is) ∙ ap (λ (x : Bool). cond x (some (found (space .value) (drop (space .next) line))) none) e)
 
   pub no-space : not (space .ok) ≡ true → PieceTaken line (readPiece (piece c) (drop at line)) space
   no-space e =

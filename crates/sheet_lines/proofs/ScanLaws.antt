@@ -54,17 +54,20 @@ read-step : (p : Piece) (ps : List Piece) (xs : List ℕ) → read (p ∷ ps) xs
 unfolding read readPiece one-then own
 read-step (Word w) ps xs = go (afterWord w xs)
   where
-    go : (o : Option (List ℕ)) → elim o as (λ x. Option (List ℕ)) [ none ↦ none | some rest ↦ read ps rest ] ≡ one-then (Word w) (elim o as (λ x. Option Found) [ none ↦ none | some rest ↦ some (found 0 rest) ]) ps
+    go : (o : Option (List ℕ)) → elim o as (λ x. Option (List ℕ)) [ none ↦ none | some rest ↦ read ps rest ]
+        ≡ one-then (Word w) (elim o as (λ x. Option Found) [ none ↦ none | some rest ↦ some (found 0 rest) ]) ps
     go none = refl
     go (some rest) = sym (after-nil (read ps rest))
 read-step (Bits k) ps xs = go (spaced (readHex k) xs)
   where
-    go : (o : Option Found) → elim o as (λ x. Option (List ℕ)) [ none ↦ none | some f ↦ elim (read ps (f .rest)) as (λ x. Option (List ℕ)) [ none ↦ none | some ns ↦ some (f .value ∷ ns) ] ] ≡ one-then (Bits k) o ps
+    go : (o : Option Found) → elim o as (λ x. Option (List ℕ)) [ none ↦ none | some f ↦ elim (read ps (f .rest)) as (λ x. Option (List ℕ)) [ none ↦ none | some ns ↦ some (f .value ∷ ns) ] ]
+        ≡ one-then (Bits k) o ps
     go none = refl
     go (some f) = after-one (f .value) (read ps (f .rest))
 read-step Number ps xs = go (spaced readDecimal xs)
   where
-    go : (o : Option Found) → elim o as (λ x. Option (List ℕ)) [ none ↦ none | some f ↦ elim (read ps (f .rest)) as (λ x. Option (List ℕ)) [ none ↦ none | some ns ↦ some (f .value ∷ ns) ] ] ≡ one-then Number o ps
+    go : (o : Option Found) → elim o as (λ x. Option (List ℕ)) [ none ↦ none | some f ↦ elim (read ps (f .rest)) as (λ x. Option (List ℕ)) [ none ↦ none | some ns ↦ some (f .value ∷ ns) ] ]
+        ≡ one-then Number o ps
     go none = refl
     go (some f) = after-one (f .value) (read ps (f .rest))
 

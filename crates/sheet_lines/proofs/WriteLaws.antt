@@ -34,11 +34,13 @@ number-text (Word w) n m = absurd (m refl)
 number-text (Bits k) n m = refl
 number-text Number n m = refl
 
-pub put-spaced : (E : List ℕ) (at c k n : ℕ) (W : List ℕ) (q : ℕ) (U : List ℕ) (r : ℕ) → Numbers c k → ¬ (k ≡ 0) → Wrote E at (32 ∷ []) W q → Wrote W q (printNumber (piece c) n) U r → Wrote E at (printPiece (piece c) n) U r
+pub put-spaced : (E : List ℕ) (at c k n : ℕ) (W : List ℕ) (q : ℕ) (U : List ℕ) (r : ℕ) → Numbers c k → ¬ (k ≡ 0) → Wrote E at (32 ∷ []) W q → Wrote W q (printNumber (piece c) n) U r
+    → Wrote E at (printPiece (piece c) n) U r
 put-spaced E at c k n W q U r v m w u = subst (λ (xs : List ℕ). Wrote E at xs U r) (sym (number-text (piece c) n (λ z. m (v .is ∙ z)))) (wrote-then w u)
 
 -- ---- the form
-print-step : (p : Piece) (ps : List Piece) (ns : List ℕ) (count : ℕ) → count + numbersOf p ≤ length ns → print (p ∷ ps) (drop count ns) ≡ printPiece p (getD ns count 0) ++ print ps (drop (count + numbersOf p) ns)
+print-step : (p : Piece) (ps : List Piece) (ns : List ℕ) (count : ℕ) → count + numbersOf p ≤ length ns
+    → print (p ∷ ps) (drop count ns) ≡ printPiece p (getD ns count 0) ++ print ps (drop (count + numbersOf p) ns)
 unfolding print printPiece numbersOf
 print-step (Word w) ps ns count h = ap (λ (k : ℕ). w ++ print ps (drop k ns)) (sym (add-zero count))
 print-step (Bits k) ps ns count h = ap (print (Bits k ∷ ps)) (next ns count 0 (omega arith))
@@ -87,10 +89,12 @@ module _ (E : List ℕ) (at : ℕ) (form numbers W : List ℕ) (place count i : 
 
     pub formed-short : length numbers - count < n → Wrote E at (print (pieces form) numbers) W place
     formed-short l =
-        let nothing : print (pieces (drop i form)) (drop count numbers) ≡ [] = rest ∙ print-short here (pieces (drop (i + 1) form)) numbers count (v .counted) (subst (λ (k : ℕ). length numbers - count < k) e l) in
+        let nothing : print (pieces (drop i form)) (drop count numbers) ≡ [] = rest
+        ∙ print-short here (pieces (drop (i + 1) form)) numbers count (v .counted) (subst (λ (k : ℕ). length numbers - count < k) e l) in
         subst (λ (xs : List ℕ). Wrote E at xs W place) (sym (append-nil (v .done)) ∙ ap (λ (xs : List ℕ). v .done ++ xs) (sym nothing) ∙ v .same) (v .wrote)
 
-    pub formed-more : (value : ℕ) (U : List ℕ) (r : ℕ) → n ≤ length numbers - count → value ≡ getD numbers count 0 → Wrote W place (printPiece here value) U r → Formed E at form numbers U r (count + n) (i + 1)
+    pub formed-more : (value : ℕ) (U : List ℕ) (r : ℕ) → n ≤ length numbers - count → value ≡ getD numbers count 0 → Wrote W place (printPiece here value) U r
+        → Formed E at form numbers U r (count + n) (i + 1)
     formed-more value U r l q w =
         let fits : count + numbersOf here ≤ length numbers = omega (arith, v .counted, e) in
         record {

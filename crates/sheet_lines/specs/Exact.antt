@@ -99,7 +99,8 @@ read-fits (Bits k ∷ ps) xs ns e =
 read-fits (Number ∷ ps) xs ns e =
     let r = spaced-then (spaced readDecimal xs) ps ns e in
     subst (λ (ms : List ℕ). T (fits (Number ∷ ps) ms)) (r .4)
-    (and-i (ltb (r .0 .value) (2 ^ 32)) (fits ps (r .1)) (lt→ltb (r .0 .value) (2 ^ 32) (spaced-value readDecimal (2 ^ 32) readDecimal-small xs (r .0) (r .2))) (read-fits ps (r .0 .rest) (r .1) (r .3)))
+    (and-i (ltb (r .0 .value) (2 ^ 32)) (fits ps (r .1)) (lt→ltb (r .0 .value) (2 ^ 32) (spaced-value readDecimal (2 ^ 32) readDecimal-small xs (r .0) (r .2)))
+    (read-fits ps (r .0 .rest) (r .1) (r .3)))
 
 among-fits : (ks : List Kind) (xs : List ℕ) (l : Line) → lineAmong ks xs ≡ some l → T (fits (form (l .kind)) (l .numbers))
 unfolding lineAmong

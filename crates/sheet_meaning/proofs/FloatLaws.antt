@@ -34,7 +34,8 @@ module _ (B : List ℕ) (E W : List Float) (i : ℕ) (v : Floated B E W i) where
   pub floated-full : i < length B → length W ≤ i → W ≡ take (length E) (map f32 B) ++ drop (length B) E
   floated-full l h = copied-full v (omega (arith, length-map B f32)) h ∙ ap (λ (n : ℕ). take (length E) (map f32 B) ++ drop n E) (length-map B f32)
 
-pub box-is : (a b c d e f : ℕ) (p q : Vec3) → p ≡ record { x = f64 a; y = f64 b; z = f64 c } → q ≡ record { x = f64 d; y = f64 e; z = f64 f } → _≡_ {A = Aabb} (record { min = p; max = q }) (boxOf (a ∷ b ∷ c ∷ d ∷ e ∷ f ∷ []))
+pub box-is : (a b c d e f : ℕ) (p q : Vec3) → p ≡ record { x = f64 a; y = f64 b; z = f64 c } → q ≡ record { x = f64 d; y = f64 e; z = f64 f }
+    → _≡_ {A = Aabb} (record { min = p; max = q }) (boxOf (a ∷ b ∷ c ∷ d ∷ e ∷ f ∷ []))
 unfolding boxOf
 box-is a b c d e f p q g h = ap (λ (x : Vec3). record { min = x; max = q }) g ∙ ap (λ (x : Vec3). record { min = record { x = f64 a; y = f64 b; z = f64 c }; max = x }) h
 

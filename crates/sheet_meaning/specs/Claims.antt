@@ -12,7 +12,9 @@ use Rattle.sheet_meaning.specs.Evaluation.{evaluation}
 pub claims : List Case
 claims =
     case 11 (bench (sheet (bytes "(fail 0 1 256)" ∷ [])) ++ bench (sheet (bytes "(fail 0 1 256)" ∷ vertex ∷ []))) (lines (bytes "(refused 12)" ∷ bytes "(refused 51)" ∷ []))
-    ∷ case 12 (bench (sheet (bytes "(fail 0 9 255)" ∷ face ∷ []))) (lines (bytes "(mesh 0 0)" ∷ bytes "(failed 9 (upstream 255))" ∷ bytes "(failed 63 (empty))" ∷ bytes "(turned 0)" ∷ bytes "(against 0)" ∷ bytes "(split 0)" ∷ bytes "(ok 0)" ∷ bytes "(edges 0)" ∷ bytes "(open 0)" ∷ bytes "(over 0)" ∷ bytes "(closed 1)" ∷ []))
+    ∷ case 12 (bench (sheet (bytes "(fail 0 9 255)" ∷ face ∷ []))) (lines
+    (bytes "(mesh 0 0)" ∷ bytes "(failed 9 (upstream 255))" ∷ bytes "(failed 63 (empty))" ∷ bytes "(turned 0)" ∷ bytes "(against 0)" ∷ bytes "(split 0)" ∷ bytes "(ok 0)" ∷ bytes "(edges 0)"
+    ∷ bytes "(open 0)" ∷ bytes "(over 0)" ∷ bytes "(closed 1)" ∷ []))
     ∷ []
 
 -- The definitions yield each.

@@ -13,7 +13,8 @@ ghost use Rattle.sheet_meaning.specs.Meaning.{boxOf};
 
 // The floats of bits, as many as there is room for.
 pub fn floats_of(bits: &[u32], out: &mut [f32])
-    ensures { λ r. ⌜ now (out .exit) ≡ take (length (now (out .entry))) (map f32 (now (bits .entry))) ++ drop (length (now (bits .entry))) (now (out .entry)) ⌝ }
+    ensures { λ r. ⌜ now (out .exit) ≡ take (length (now (out .entry))) (map f32 (now (bits .entry)))
+        ++ drop (length (now (bits .entry))) (now (out .entry)) ⌝ }
 {
     let mut i: usize = 0;
     while i < bits.len() {

@@ -44,7 +44,8 @@ module _ (s : Reader) (T P N I M : List ℕ) where
         ap (λ (x : Reader). lent x T P N I M) e
         ∙ over-refused n held
         ∙ ap (λ (m : ℕ). over here (refuse m (stateOf here))) refusal-is
-        ∙ ap (over here) (sym (ap (λ (b : Bool). elim b as (λ x. State) [ true ↦ takeUp (stateOf here) (lineFrom k ns) | false ↦ refuse (lineRefusal (lineFrom k ns) (stateOf here)) (stateOf here) ]) no))
+        ∙ ap (over here) (sym (ap (λ (b : Bool). elim b as (λ x. State) [ true ↦ takeUp (stateOf here) (lineFrom k ns) | false ↦ refuse (lineRefusal (lineFrom k ns) (stateOf here)) (stateOf here) ])
+        no))
 
     pub form-ready : n ≡ 0 → Ready here k ns
     form-ready z = record { fitting = v; taken = sym refusal-is ∙ z }
@@ -53,14 +54,19 @@ module _ (s : Reader) (T P N I M : List ℕ) where
     unfolding readForm withForm takenUp
     form-taken x z e =
         let yes : eqb (lineRefusal (lineFrom k ns) (stateOf here)) 0 ≡ true = ap (λ (m : ℕ). eqb m 0) (sym refusal-is) ∙ eq-eqb n 0 z in
-        e ∙ ap (over here) (sym (ap (λ (b : Bool). elim b as (λ x. State) [ true ↦ takeUp (stateOf here) (lineFrom k ns) | false ↦ refuse (lineRefusal (lineFrom k ns) (stateOf here)) (stateOf here) ]) yes))
+        e ∙ ap (over here) (sym (ap (λ (b : Bool). elim b as (λ x. State) [ true ↦ takeUp (stateOf here) (lineFrom k ns) | false ↦ refuse (lineRefusal (lineFrom k ns) (stateOf here)) (stateOf here) ])
+        yes))
 
   module _ (line : List ℕ) (v : Roomy here) where
     -- what the line's form makes of it
     read-as : (o : Option Line) → lineOf line ≡ o → readRoomy here line ≡ over here (elim o as (λ x. State) [ none ↦ refuse 51 (stateOf here) | some l ↦ withForm (stateOf here) l ])
     unfolding readRoomy readLine
     read-as o e =
-        ap (λ (b : Bool). over here (elim b as (λ x. State) [ true ↦ elim (lineOf line) as (λ x. State) [ none ↦ refuse 51 (stateOf here) | some l ↦ withForm (stateOf here) l ] | false ↦ stateOf here ])) (eq-eqb (s .refusal) 0 (v .clean))
+        ap (λ (b : Bool). over here (elim b as (λ x. State) [
+          | true ↦ elim (lineOf line) as
+              (λ x. State) [ none ↦ refuse 51 (stateOf here) | some l ↦ withForm (stateOf here) l ]
+          | false ↦ stateOf here
+        ])) (eq-eqb (s .refusal) 0 (v .clean))
         ∙ ap (λ (p : Option Line). over here (elim p as (λ x. State) [ none ↦ refuse 51 (stateOf here) | some l ↦ withForm (stateOf here) l ])) e
 
     module _ (g : Given) (ns : List ℕ) (q : given g ns ≡ lineOf line) where

@@ -24,7 +24,9 @@ fn with_form(
     materials: &mut [u64],
 ) -> Reader
     requires { ⌜ Fitting (lent s (now table) (now positions) (now normals) (now indices) (now materials)) k (now numbers) ⌝ }
-    ensures { λ r. ⌜ lent r (now (table .exit)) (now (positions .exit)) (now (normals .exit)) (now (indices .exit)) (now (materials .exit)) ≡ readForm (lent s (now (table .entry)) (now (positions .entry)) (now (normals .entry)) (now (indices .entry)) (now (materials .entry))) k (now (numbers .entry)) ⌝ }
+    ensures { λ r. ⌜ lent r (now (table .exit)) (now (positions .exit)) (now (normals .exit)) (now (indices .exit)) (now (materials .exit))
+        ≡ readForm (lent s (now (table .entry)) (now (positions .entry)) (now (normals .entry)) (now (indices .entry)) (now (materials .entry))) k
+        (now (numbers .entry)) ⌝ }
 {
     let n = line_refusal(s.place, s.rows, s.vertices, s.indices, k, numbers);
     if n != 0 {
@@ -44,7 +46,9 @@ fn read_roomy(
     materials: &mut [u64],
 ) -> Reader
     requires { ⌜ Roomy (lent s (now table) (now positions) (now normals) (now indices) (now materials)) ⌝ }
-    ensures { λ r. ⌜ lent r (now (table .exit)) (now (positions .exit)) (now (normals .exit)) (now (indices .exit)) (now (materials .exit)) ≡ readRoomy (lent s (now (table .entry)) (now (positions .entry)) (now (normals .entry)) (now (indices .entry)) (now (materials .entry))) (now (line .entry)) ⌝ }
+    ensures { λ r. ⌜ lent r (now (table .exit)) (now (positions .exit)) (now (normals .exit)) (now (indices .exit)) (now (materials .exit))
+        ≡ readRoomy (lent s (now (table .entry)) (now (positions .entry)) (now (normals .entry)) (now (indices .entry)) (now (materials .entry)))
+        (now (line .entry)) ⌝ }
 {
     let mut numbers = [0u64; 7];
     let given = line_of(line, &mut numbers);
@@ -73,7 +77,9 @@ pub fn read_line(
     indices: &mut [u32],
     materials: &mut [u64],
 ) -> Reader
-    ensures { λ r. ⌜ lent r (now (table .exit)) (now (positions .exit)) (now (normals .exit)) (now (indices .exit)) (now (materials .exit)) ≡ readInto (lent s (now (table .entry)) (now (positions .entry)) (now (normals .entry)) (now (indices .entry)) (now (materials .entry))) (now (line .entry)) ⌝ }
+    ensures { λ r. ⌜ lent r (now (table .exit)) (now (positions .exit)) (now (normals .exit)) (now (indices .exit)) (now (materials .exit))
+        ≡ readInto (lent s (now (table .entry)) (now (positions .entry)) (now (normals .entry)) (now (indices .entry)) (now (materials .entry)))
+        (now (line .entry)) ⌝ }
 {
     let before = s.refusal;
     if before != 0 {

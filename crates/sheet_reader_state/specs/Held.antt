@@ -29,7 +29,12 @@ pub held-of : (s : Reader) (T P N I M : List ℕ) → fits (lent s T P N I M) �
 unfolding fitsIn
 held-of s T P N I M e =
     let rest : eqb (s .indices % 3) 0 && lastFits (s .place) (s .rows) T ≡ true = and-right (inLimits s (length T) (length P) (length N) (length I) (length M)) _ e in
-    record { limits = limited s (length T) (length P) (length N) (length I) (length M) (and-left _ _ e); whole = eqb-true (s .indices % 3) 0 (and-left _ _ rest); last = and-right (eqb (s .indices % 3) 0) _ rest }
+    record {
+      limits = limited s (length T) (length P) (length N) (length I) (length M) (and-left _ _ e);
+      whole = eqb-true (s .indices % 3) 0 (and-left _ _ rest);
+      last = and-right
+          (eqb (s .indices % 3) 0) _ rest;
+    }
 
 module _ (s : Reader) (T P N I M : List ℕ) (h : Held s T P N I M) where
   pub some-row : 3 < s .place → 0 < s .rows

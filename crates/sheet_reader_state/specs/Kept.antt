@@ -96,7 +96,8 @@ module _ (T row : List ℕ) (rows : ℕ) (e : length T ≡ 5 * rows) where
 
 module _ (s : State) (v : Sized s) where
   -- a line before the faces
-  header : (k : Kind) (x : Patterns) → length (x .box) ≡ 6 → length (x .materials) ≡ 64 → x .table ≡ s .sheet .table → x .positions ≡ s .sheet .positions → x .normals ≡ s .sheet .normals → x .indices ≡ s .sheet .indices → orderOf k .then < 4
+  header : (k : Kind) (x : Patterns) → length (x .box) ≡ 6 → length (x .materials) ≡ 64 → x .table ≡ s .sheet .table → x .positions ≡ s .sheet .positions → x .normals ≡ s .sheet .normals
+      → x .indices ≡ s .sheet .indices → orderOf k .then < 4
       → Sized (record { refusal = 0; place = orderOf k .then; sheet = x })
   header k x b m t p n i l =
       record {
@@ -118,7 +119,8 @@ module _ (s : State) (v : Sized s) where
       }
 
   -- a row more
-  row-more : (x : Patterns) (place a b c : ℕ) → x .box ≡ s .sheet .box → x .materials ≡ s .sheet .materials → x .table ≡ s .sheet .table ++ a ∷ b ∷ c ∷ 0 ∷ 0 ∷ [] → x .positions ≡ s .sheet .positions → x .normals ≡ s .sheet .normals → x .indices ≡ s .sheet .indices
+  row-more : (x : Patterns) (place a b c : ℕ) → x .box ≡ s .sheet .box → x .materials ≡ s .sheet .materials → x .table ≡ s .sheet .table ++ a ∷ b ∷ c ∷ 0 ∷ 0 ∷ [] → x .positions ≡ s .sheet .positions
+      → x .normals ≡ s .sheet .normals → x .indices ≡ s .sheet .indices
       → (d : Bool) → d || leb 80 (length (s .sheet .table)) ≡ false → Sized (record { refusal = 0; place = place; sheet = x })
   row-more x place a b c e m t p n i d l =
       let few : length (s .sheet .table) < 80 = leb-false 80 (length (s .sheet .table)) (or-right d (leb 80 (length (s .sheet .table))) l) in
@@ -274,7 +276,8 @@ six-of (a ∷ b ∷ c ∷ d ∷ e ∷ []) h = absurd (omega arith)
 six-of (a ∷ b ∷ c ∷ d ∷ e ∷ f ∷ g ∷ xs) h = absurd (omega arith)
 
 same-patterns : {b b' m m' t t' p p' n n' i i' : List ℕ} (sag default : ℕ) → b ≡ b' → m ≡ m' → t ≡ t' → p ≡ p' → n ≡ n' → i ≡ i'
-    → _≡_ {A = Patterns} (record { box = b; sag = sag; default = default; materials = m; table = t; positions = p; normals = n; indices = i }) (record { box = b'; sag = sag; default = default; materials = m'; table = t'; positions = p'; normals = n'; indices = i' })
+    → _≡_ {A = Patterns} (record { box = b; sag = sag; default = default; materials = m; table = t; positions = p; normals = n; indices = i })
+    (record { box = b'; sag = sag; default = default; materials = m'; table = t'; positions = p'; normals = n'; indices = i' })
 same-patterns sag default eb em et ep en ei = cc
 
 module _ (l : Lent) (room : Room l) (s : State) (v : Sized s) where
@@ -286,7 +289,9 @@ module _ (l : Lent) (room : Room l) (s : State) (v : Sized s) where
       let vertices : 3 * (length (x .positions) / 3) ≡ length (x .positions) = omega (arith, v .positions) in
       let as-many : 3 * (length (x .positions) / 3) ≡ length (x .normals) = omega (arith, v .positions, v .normals) in
       ap (λ (y : Patterns). record { refusal = s .refusal; place = s .place; sheet = y })
-      (same-patterns (x .sag) (x .default) (six-of (x .box) (v .box)) (onto-front (x .materials) (l .materials) 64 (v .materials)) (onto-front (x .table) (l .table) (5 * (length (x .table) / 5)) (sym rows)) (onto-front (x .positions) (l .positions) (3 * (length (x .positions) / 3)) (sym vertices)) (onto-front (x .normals) (l .normals) (3 * (length (x .positions) / 3)) (sym as-many)) (onto-front (x .indices) (l .indices) (length (x .indices)) refl))
+      (same-patterns (x .sag) (x .default) (six-of (x .box) (v .box)) (onto-front (x .materials) (l .materials) 64 (v .materials))
+      (onto-front (x .table) (l .table) (5 * (length (x .table) / 5)) (sym rows)) (onto-front (x .positions) (l .positions) (3 * (length (x .positions) / 3)) (sym vertices))
+      (onto-front (x .normals) (l .normals) (3 * (length (x .positions) / 3)) (sym as-many)) (onto-front (x .indices) (l .indices) (length (x .indices)) refl))
 
   last-over : (rows : ℕ) → rows ≡ v .rows → lastFits (s .place) rows (onto (s .sheet .table) (l .table)) ≡ true
   last-over zero e = lt-ltb (s .place) 4 (v .no-row (sym e))
@@ -306,7 +311,21 @@ module _ (l : Lent) (room : Room l) (s : State) (v : Sized s) where
       let vertices : length (x .positions) / 3 ≤ 96 = omega (arith, v .positions, v .few-vertices) in
       let indices : length (x .indices) ≤ 96 = omega (arith, v .indices, v .few-triangles) in
       let whole : length (x .indices) % 3 ≡ 0 = omega (arith, v .indices) in
-      rw (le-leb 80 (length (onto (x .table) (l .table))) (onto-long 80 (x .table) (l .table) (room .table)), le-leb 288 (length (onto (x .positions) (l .positions))) (onto-long 288 (x .positions) (l .positions) (room .positions)), le-leb 288 (length (onto (x .normals) (l .normals))) (onto-long 288 (x .normals) (l .normals) (room .normals)), le-leb 96 (length (onto (x .indices) (l .indices))) (onto-long 96 (x .indices) (l .indices) (room .indices)), le-leb 64 (length (onto (x .materials) (l .materials))) (onto-long 64 (x .materials) (l .materials) (room .materials)), le-leb (length (x .table) / 5) 16 rows, le-leb (length (x .positions) / 3) 96 vertices, le-leb (length (x .indices)) 96 indices, eq-eqb (length (x .indices) % 3) 0 whole)
+      rw (
+        le-leb 80 (length (onto (x .table) (l .table))) (onto-long 80 (x .table) (l .table) (room .table)),
+        le-leb 288 (length (onto (x .positions) (l .positions)))
+            (onto-long 288 (x .positions) (l .positions) (room .positions)),
+        le-leb 288 (length (onto (x .normals) (l .normals))) (onto-long 288 (x .normals) (l .normals) (room .normals)),
+        le-leb 96
+            (length (onto (x .indices) (l .indices))) (onto-long 96 (x .indices) (l .indices) (room .indices)),
+        le-leb 64 (length (onto (x .materials) (l .materials)))
+            (onto-long 64 (x .materials) (l .materials) (room .materials)),
+        le-leb (length (x .table) / 5) 16 rows,
+        le-leb (length (x .positions) / 3) 96 vertices,
+        le-leb
+            (length (x .indices)) 96 indices,
+        eq-eqb (length (x .indices) % 3) 0 whole,
+      )
       (last-over (length (x .table) / 5) (omega (arith, v .table)))
 
   room-over : Room (over l s)
@@ -341,7 +360,8 @@ kept-line l s xs k = go (eqb (s .refusal) 0) refl
     go true q =
         let into : readInto l xs ≡ over l (readLine s xs) = rw (ap (λ (n : ℕ). eqb n 0) first ∙ q, k .fit, readInto) (ap (λ (t : State). over l (readLine t xs)) (k .same)) in
         let sized : Sized (readLine s xs) = sized-line s (k .sized) xs in
-        subst (λ (m : Lent). Kept m (readLine s xs)) (sym into) (record { room = room-over l (k .room) (readLine s xs) sized; sized = sized; same = state-over l (k .room) (readLine s xs) sized; fit = fits-over l (k .room) (readLine s xs) sized })
+        subst (λ (m : Lent). Kept m (readLine s xs)) (sym into) (record
+        { room = room-over l (k .room) (readLine s xs) sized; sized = sized; same = state-over l (k .room) (readLine s xs) sized; fit = fits-over l (k .room) (readLine s xs) sized })
     go false q =
         let into : readInto l xs ≡ l = rw (ap (λ (n : ℕ). eqb n 0) first ∙ q, readInto) in
         let line : readLine s xs ≡ s = rw (q, readLine) in
@@ -350,14 +370,26 @@ kept-line l s xs k = go (eqb (s .refusal) 0) refl
 fits-begin : (T P N I M : List ℕ) → Room (lent (readerOf start) T P N I M) → fits (lent (readerOf start) T P N I M) ≡ true
 unfolding fitsIn inLimits start
 fits-begin T P N I M room =
-    rw (le-leb 80 (length T) (room .table), le-leb 288 (length P) (room .positions), le-leb 288 (length N) (room .normals), le-leb 96 (length I) (room .indices), le-leb 64 (length M) (room .materials))
+    rw (
+      le-leb 80 (length T) (room .table),
+      le-leb 288 (length P) (room .positions),
+      le-leb 288 (length N) (room .normals),
+      le-leb 96 (length I) (room .indices),
+      le-leb 64 (length M)
+          (room .materials),
+    )
 
 -- The slices that `begin` leaves hold the state before the first line.
 pub kept-begin : (T P N I M : List ℕ) → Room (lent (readerOf start) T P N I M) → take 64 M ≡ replicate 64 0 → Kept (lent (readerOf start) T P N I M) start
 unfolding start
 kept-begin T P N I M room e =
     let l : Lent = lent (readerOf start) T P N I M in
-    let same : stateOf l ≡ start = ap (λ (ms : List ℕ). record { refusal = 0; place = 0; sheet = record { box = replicate 6 0; sag = 0; default = 0; materials = ms; table = []; positions = []; normals = []; indices = [] } }) e in
+    let same : stateOf l ≡ start = ap (λ (ms : List ℕ). record {
+      refusal = 0;
+      place = 0;
+      sheet = record
+          { box = replicate 6 0; sag = 0; default = 0; materials = ms; table = []; positions = []; normals = []; indices = [] };
+    }) e in
     record { room = room; sized = sized-start; same = same; fit = fits-begin T P N I M room }
 
 -- The end of the sheet is the definition's.

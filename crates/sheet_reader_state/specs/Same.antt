@@ -65,11 +65,13 @@ module _ (s : Reader) (T P N I M : List ℕ) where
     indices-fit = omega (arith, h .limits .indices, h .limits .counted)
 
   -- a line before the faces: only the reader changes
-  pub header : (r : Reader) (s' : State) → r ≡ readerOf s' → s' .sheet .table ≡ take (5 * s .rows) T → s' .sheet .positions ≡ take (3 * s .vertices) P → s' .sheet .normals ≡ take (3 * s .vertices) N → s' .sheet .indices ≡ take (s .indices) I → s' .sheet .materials ≡ take 64 M → lent r T P N I M ≡ over here s'
+  pub header : (r : Reader) (s' : State) → r ≡ readerOf s' → s' .sheet .table ≡ take (5 * s .rows) T → s' .sheet .positions ≡ take (3 * s .vertices) P → s' .sheet .normals ≡ take (3 * s .vertices) N
+      → s' .sheet .indices ≡ take (s .indices) I → s' .sheet .materials ≡ take 64 M → lent r T P N I M ≡ over here s'
   header r s' e a b c d f =
       same-lent e (kept (5 * s .rows) T ∙ ap (λ (xs : List ℕ). onto xs T) (sym a)) (kept (3 * s .vertices) P ∙ ap (λ (xs : List ℕ). onto xs P) (sym b))
       (kept (3 * s .vertices) N ∙ ap (λ (xs : List ℕ). onto xs N) (sym c)) (kept (s .indices) I ∙ ap (λ (xs : List ℕ). onto xs I) (sym d)) (kept 64 M ∙ ap (λ (xs : List ℕ). onto xs M) (sym f))
 
   -- the state as it is, in its slices
   pub over-same : Held s T P N I M → here ≡ over here (stateOf here)
-  over-same h = header s (stateOf here) (same-reader s (s .refusal) (s .refusal) (s .place) (s .place) (s .rows) _ (s .vertices) _ (s .indices) _ (s .default) (s .default) (s .sag) refl refl (same-rows h) (same-vertices h) (same-indices h) refl) refl refl refl refl refl
+  over-same h = header s (stateOf here) (same-reader s (s .refusal) (s .refusal) (s .place) (s .place) (s .rows) _ (s .vertices) _ (s .indices) _ (s .default) (s .default) (s .sag) refl refl
+      (same-rows h) (same-vertices h) (same-indices h) refl) refl refl refl refl refl

@@ -20,5 +20,6 @@ pub row-placed : (S : List ℕ) (at a b c d e : ℕ) → at + 5 ≤ length S →
 row-placed S at a b c d e h = five-stored S at a b c d e ∙ run-placed S at (a ∷ b ∷ c ∷ d ∷ e ∷ []) h
 
 -- the low 32 bits of three numbers
-pub low-stored : (S W : List ℕ) (place i a b c : ℕ) (ns : List ℕ) → a ≡ getD ns i 0 % 2 ^ 32 → b ≡ getD ns (i + 1) 0 % 2 ^ 32 → c ≡ getD ns (i + 2) 0 % 2 ^ 32 → W ≡ placed S place (a ∷ b ∷ c ∷ []) → W ≡ placed S place (lowThree ns i)
+pub low-stored : (S W : List ℕ) (place i a b c : ℕ) (ns : List ℕ) → a ≡ getD ns i 0 % 2 ^ 32 → b ≡ getD ns (i + 1) 0 % 2 ^ 32 → c ≡ getD ns (i + 2) 0 % 2 ^ 32 → W ≡ placed S place (a ∷ b ∷ c ∷ [])
+    → W ≡ placed S place (lowThree ns i)
 low-stored S W place i a b c ns p q r e = three-same S place [] p q r e

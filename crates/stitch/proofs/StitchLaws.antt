@@ -39,12 +39,14 @@ module _ (sag : Float) (ns : List ℕ) (patches : List Patch) where
     pub sag-above : lt zero64 sag ≡ true → BodyStitched (stitchedBody sag ns patches) R R' P P' N N' I I' needed W E r → BodyStitched (stitchBody sag ns patches) R R' P P' N N' I I' needed W E r
     sag-above h b = subst (λ (s : StitchedBody). BodyStitched s R R' P P' N N' I I' needed W E r) (sym (body-above h)) b
 
-    pub sag-not-above : lt zero64 sag ≡ false → BodyStitched (record { patches = patches; splits = 0 }) R R' P P' N N' I I' needed W E r → BodyStitched (stitchBody sag ns patches) R R' P P' N N' I I' needed W E r
+    pub sag-not-above : lt zero64 sag ≡ false → BodyStitched (record { patches = patches; splits = 0 }) R R' P P' N N' I I' needed W E r
+        → BodyStitched (stitchBody sag ns patches) R R' P P' N N' I I' needed W E r
     sag-not-above h b = subst (λ (s : StitchedBody). BodyStitched s R R' P P' N N' I I' needed W E r) (sym (body-not-above h)) b
 
 -- ---- an accepted body
 
-module _ {table : List ℕ} {ps ns : List Float} {is : List ℕ} (W : List ℕ) {v m n : ℕ} (p : Passed table ps ns is (length W)) (ev : Total (allVertices (rowsOf table)) v) (em : m ≡ length (rowsOf table)) (en : n ≡ length is) where
+module _ {table : List ℕ} {ps ns : List Float} {is : List ℕ} (W : List ℕ) {v m n : ℕ} (p : Passed table ps ns is (length W)) (ev : Total (allVertices (rowsOf table)) v)
+    (em : m ≡ length (rowsOf table)) (en : n ≡ length is) where
   -- it can be stitched
   pub ready : StitchReady table ps ns is W v m
   ready = record { passed = p; vertices = ev .is; rows = em }
@@ -64,7 +66,8 @@ module _ {table : List ℕ} {ps ns : List Float} {is : List ℕ} (W : List ℕ) 
 
 -- ---- the call
 
-module _ (table : List ℕ) (ps ns : List Float) (is : List ℕ) (sag : Float) (R : List ℕ) (P N : List Float) (I W : List ℕ) {refusal : ℕ} (f : refusal ≡ firstFailing (bodyChecks table ps ns is (length W))) where
+module _ (table : List ℕ) (ps ns : List Float) (is : List ℕ) (sag : Float) (R : List ℕ) (P N : List Float) (I W : List ℕ) {refusal : ℕ}
+    (f : refusal ≡ firstFailing (bodyChecks table ps ns is (length W))) where
   -- the definition stitches a body that no check refuses
   stitch-done : refusal ≡ 0 → stitchOf key table ps ns is sag (slicesOf R P N I W) ≡ stitchAccepted table ps ns is sag (slicesOf R P N I W)
   unfolding stitchOf

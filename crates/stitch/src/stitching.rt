@@ -30,8 +30,10 @@ fn stitch_rows(
     m: usize,
 ) -> Stitched
     requires { ⌜ StitchReady (now rows) (now positions) (now normals) (now indices) (now w) v m ⌝ }
-    ensures { λ r. ⌜ BodyStitched (stitchBody sag (names key (now (positions .entry))) (patchesOf (rowsOf (now (rows .entry))) (now (positions .entry)) (now (normals .entry)) (now (indices .entry))))
-        (now («out_rows» .entry)) (now («out_rows» .exit)) (now («out_positions» .entry)) (now («out_positions» .exit)) (now («out_normals» .entry)) (now («out_normals» .exit))
+    ensures { λ r. ⌜ BodyStitched (stitchBody sag (names key (now (positions .entry)))
+        (patchesOf (rowsOf (now (rows .entry))) (now (positions .entry)) (now (normals .entry)) (now (indices .entry))))
+        (now («out_rows» .entry)) (now («out_rows» .exit)) (now («out_positions» .entry)) (now («out_positions» .exit)) (now («out_normals» .entry))
+        (now («out_normals» .exit))
         (now («out_indices» .entry)) (now («out_indices» .exit)) (16 * length (now (indices .entry)) + 16 * m + 4 * v) (now (w .entry)) (now (w .exit)) r ⌝ }
 {
     if sag > 0.0 {
@@ -79,7 +81,8 @@ fn stitch_accepted(
     work: &mut [u64],
 ) -> Stitched
     requires { ⌜ Passed (now rows) (now positions) (now normals) (now indices) (length (now work)) ⌝ }
-    ensures { λ r. ⌜ leftStitch r (slicesOf (now («out_rows» .exit)) (now («out_positions» .exit)) (now («out_normals» .exit)) (now («out_indices» .exit)) (now (work .exit)))
+    ensures { λ r. ⌜ leftStitch r (slicesOf (now («out_rows» .exit)) (now («out_positions» .exit)) (now («out_normals» .exit)) (now («out_indices» .exit))
+        (now (work .exit)))
         ≡ stitchAnswered (stitchAccepted (now (rows .entry)) (now (positions .entry)) (now (normals .entry)) (now (indices .entry)) sag
         (slicesOf (now («out_rows» .entry)) (now («out_positions» .entry)) (now («out_normals» .entry)) (now («out_indices» .entry)) (now (work .entry)))) ⌝ }
 {
@@ -118,7 +121,8 @@ pub fn stitch(
     out_indices: &mut [u32],
     work: &mut [u64],
 ) -> Stitched
-    ensures { λ r. ⌜ leftStitch r (slicesOf (now («out_rows» .exit)) (now («out_positions» .exit)) (now («out_normals» .exit)) (now («out_indices» .exit)) (now (work .exit)))
+    ensures { λ r. ⌜ leftStitch r (slicesOf (now («out_rows» .exit)) (now («out_positions» .exit)) (now («out_normals» .exit)) (now («out_indices» .exit))
+        (now (work .exit)))
         ≡ stitchAnswered (stitchOf key (now (rows .entry)) (now (positions .entry)) (now (normals .entry)) (now (indices .entry)) sag
         (slicesOf (now («out_rows» .entry)) (now («out_positions» .entry)) (now («out_normals» .entry)) (now («out_indices» .entry)) (now (work .entry)))) ⌝ }
 {

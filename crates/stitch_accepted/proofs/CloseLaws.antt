@@ -20,7 +20,21 @@ use Rattle.stitch_result_checks.specs.Results.{resultChecks, ResultFits, result
 use Rattle.stitch_result_checks.specs.Stitched.{StitchReady, BodyStitched, result-refused, result-written, words-needed}
 use Rattle.stitch_write.specs.Writing.{BodyWritable, BodyWritten}
 use Rattle.stitch_copy.specs.Put.{Puttable}
-use Rattle.stitch_accepted.proofs.OpenLaws.{vertices-are, indices-many, rows-many, splits-is, rows-there, writable, table-is, positions-is, normals-is, indices-is, rest-written, rest-counted, kept-there}
+use Rattle.stitch_accepted.proofs.OpenLaws.{
+  vertices-are,
+  indices-many,
+  rows-many,
+  splits-is,
+  rows-there,
+  writable,
+  table-is,
+  positions-is,
+  normals-is,
+  indices-is,
+  rest-written,
+  rest-counted,
+  kept-there,
+}
 use Rattle.edge_uses.specs.Area.{AreaReady}
 
 -- a result that passed its checks fits
@@ -67,7 +81,8 @@ module _ {table : List ℕ} {ps ns : List Float} {is W : List ℕ} {v m : ℕ} (
     open-refused n =
         record {
           same = λ work.
-              result-refused (stitchedBody sag (names key ps) (patchesOf (rowsOf table) ps ns is)) (rows-there ns p c) R P N I work (vertices-are ns p c) (indices-many ns p c) (g .rows ∙ rows-many ns p c) e n;
+              result-refused (stitchedBody sag (names key ps) (patchesOf (rowsOf table) ps ns is)) (rows-there ns p c) R P N I work (vertices-are ns p c) (indices-many ns p c)
+              (g .rows ∙ rows-many ns p c) e n;
           rest = rest-counted ns p c;
         }
 
@@ -79,7 +94,15 @@ module _ {table : List ℕ} {ps ns : List Float} {is W : List ℕ} {v m : ℕ} (
     open-writable l z =
         let r = open-fits z in
         writable ns p c l all-normals
-        (record { vertices = r .vertices; indices = r .indices; room-rows = omega (arith, r .room-rows, g .rows); room-positions = r .room-positions; room-normals = r .room-normals; room-indices = r .room-indices })
+        (record {
+          vertices = r .vertices;
+          indices = r .indices;
+          room-rows = omega
+              (arith, r .room-rows, g .rows);
+          room-positions = r .room-positions;
+          room-normals = r .room-normals;
+          room-indices = r .room-indices;
+        })
 
     -- or copied, if there is no new vertex
     pub open-puttable : length X ≡ length E → refusal ≡ 0 → Puttable table ps ns is (f .sag) (f .beyond) (f .v) (f .list) (f .count) (f .at) (f .ts) (f .flags) kept X R P N I
@@ -93,7 +116,8 @@ module _ {table : List ℕ} {ps ns : List Float} {is W : List ℕ} {v m : ℕ} (
     open-done {F} {R'} {P'} {N'} {I'} l z d =
         record {
           same = λ work.
-              result-written (stitchedBody sag (names key ps) (patchesOf (rowsOf table) ps ns is)) (rows-there ns p c) R P N I work (vertices-are ns p c) (indices-many ns p c) (g .rows ∙ rows-many ns p c) e z (splits-is ns p c)
+              result-written (stitchedBody sag (names key ps) (patchesOf (rowsOf table) ps ns is)) (rows-there ns p c) R P N I work (vertices-are ns p c) (indices-many ns p c)
+              (g .rows ∙ rows-many ns p c) e z (splits-is ns p c)
               (table-is ns p c l all-normals d) (positions-is ns p c l all-normals d) (normals-is ns p c l all-normals d) (indices-is ns p c l all-normals d);
           rest = rest-written ns p c l all-normals d;
         }
@@ -106,7 +130,8 @@ module _ {table : List ℕ} {ps ns : List Float} {is W : List ℕ} {v m : ℕ} (
         → BodyStitched (record { patches = patchesOf (rowsOf table) ps ns is; splits = 0 }) R R P P N N I I (16 * length is + 16 * m + 4 * v) W W (Refused refusal)
     nothing-refused n =
         record {
-          same = λ work. result-refused (record { patches = patchesOf (rowsOf table) ps ns is; splits = 0 }) (flat-rows (rowsOf table) ps ns is) R P N I work (g .vertices) (g .passed .all-indices) (g .rows) e n;
+          same = λ work. result-refused (record { patches = patchesOf (rowsOf table) ps ns is; splits = 0 }) (flat-rows (rowsOf table) ps ns is) R P N I work (g .vertices) (g .passed .all-indices)
+              (g .rows) e n;
           rest = refl;
         }
 
@@ -131,7 +156,8 @@ module _ {table : List ℕ} {ps ns : List Float} {is W : List ℕ} {v m : ℕ} (
     nothing-done {R'} {P'} {N'} {I'} z d =
         record {
           same = λ work.
-              result-written (record { patches = patchesOf (rowsOf table) ps ns is; splits = 0 }) (flat-rows (rowsOf table) ps ns is) R P N I work (g .vertices) (g .passed .all-indices) (g .rows) e z refl
+              result-written (record { patches = patchesOf (rowsOf table) ps ns is; splits = 0 }) (flat-rows (rowsOf table) ps ns is) R P N I work (g .vertices) (g .passed .all-indices)
+              (g .rows) e z refl
               (d .rows ∙ ap (λ (xs : List ℕ). written xs R) (sym (flat-table table (g .passed .whole))))
               (d .positions ∙ ap (λ (xs : List Float). written xs P) (sym (flat-positions (rowsOf table) ps ns is (g .passed .all-positions))))
               (d .normals ∙ ap (λ (xs : List Float). written xs N) (sym (flat-normals (rowsOf table) ps ns is (g .passed .all-normals))))

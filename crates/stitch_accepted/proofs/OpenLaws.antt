@@ -38,13 +38,15 @@ uses-any : (f : Row → ℕ) (P : List ℕ) (rows : List Row) (ps ns : List Floa
 uses-any f P rows ps ns is = sym (rows-uses f 0 P rows ps [] is) ∙ rows-uses f 0 P rows ps ns is
 
 -- a body that is ready stays so
-ready-kept : {table : List ℕ} {ps : List Float} {is : List ℕ} {sag beyond : Float} {v list count at ts flags : ℕ} {W E : List ℕ} → BodyReady table ps is sag beyond v list count at ts flags W → take at E ≡ take at W → length E ≡ length W
+ready-kept : {table : List ℕ} {ps : List Float} {is : List ℕ} {sag beyond : Float} {v list count at ts flags : ℕ} {W E : List ℕ} → BodyReady table ps is sag beyond v list count at ts flags W
+    → take at E ≡ take at W → length E ≡ length W
     → BodyReady table ps is sag beyond v list count at ts flags E
 ready-kept b e l =
     record { stands = stands-kept (b .stands) e l; rows = b .rows; vertices = b .vertices; all = b .all; few = b .few; threes = b .threes; inside = b .inside }
 
 -- so do the views of its triangles
-views-kept : {table : List ℕ} {ps : List Float} {is : List ℕ} {sag beyond : Float} {v list count at ts flags : ℕ} {W : List ℕ} (E : List ℕ) → BodyReady table ps is sag beyond v list count at ts flags W → take at E ≡ take at W
+views-kept : {table : List ℕ} {ps : List Float} {is : List ℕ} {sag beyond : Float} {v list count at ts flags : ℕ} {W : List ℕ} (E : List ℕ)
+    → BodyReady table ps is sag beyond v list count at ts flags W → take at E ≡ take at W
     → viewsOf table ps is sag v list count flags E ≡ viewsOf table ps is sag v list count flags W
 views-kept {table} {ps} {is} {sag} {beyond} {v} {list} {count} {at} {ts} {flags} {W} E b e =
     let n : take v E ≡ take v W = front-less v at W E e (omega (arith, b .stands .listed .behind, b .stands .flags-behind, b .stands .behind)) in
@@ -68,7 +70,8 @@ module _ {table : List ℕ} {ps : List Float} (ns : List Float) {is : List ℕ} 
   uses-are : bodyUses table ps is ≡ usesFrom (λ r. 0) 0 (joined (names key ps)) (patchesOf (rowsOf table) ps ns is)
   uses-are = uses-any (λ r. 0) (joined (names key ps)) (rowsOf table) ps ns is
 
-  gs-are : gs ≡ bodyVertices (names key ps) 0 (map (flagOf (usesFrom (λ r. 0) 0 (joined (names key ps)) (patchesOf (rowsOf table) ps ns is))) (usesFrom (λ r. 0) 0 (joined (names key ps)) (patchesOf (rowsOf table) ps ns is))) (rowsOf table) is []
+  gs-are : gs ≡ bodyVertices (names key ps) 0 (map (flagOf (usesFrom (λ r. 0) 0 (joined (names key ps)) (patchesOf (rowsOf table) ps ns is)))
+      (usesFrom (λ r. 0) 0 (joined (names key ps)) (patchesOf (rowsOf table) ps ns is))) (rowsOf table) is []
   gs-are = p .loose-are ∙ ap (λ (us : List Use). bodyVertices (names key ps) 0 (map (flagOf us) us) (rowsOf table) is []) uses-are
 
   gs-long : length gs ≡ f .count
@@ -166,10 +169,12 @@ module _ {table : List ℕ} {ps : List Float} (ns : List Float) {is : List ℕ} 
         table-is = d .rows-are ∙ ap (λ (vs : List (List View)). written (tableOf (viewedRows (rowsOf table) vs)) R) same-views
 
         pub positions-is : P' ≡ written (flatMap (λ q. q .positions) (body .patches)) P
-        positions-is = d .positions-are ∙ ap (λ (vs : List (List View)). written (viewedPositions ps (rowsOf table) ps vs) P) same-views ∙ ap (λ (xs : List Float). written xs P) (sym (positions-are sag viewable))
+        positions-is = d .positions-are ∙ ap (λ (vs : List (List View)). written (viewedPositions ps (rowsOf table) ps vs) P) same-views
+            ∙ ap (λ (xs : List Float). written xs P) (sym (positions-are sag viewable))
 
         pub normals-is : N' ≡ written (flatMap (λ q. q .normals) (body .patches)) N
-        normals-is = d .normals-are ∙ ap (λ (vs : List (List View)). written (viewedNormals ns 0 (rowsOf table) ns vs) N) same-views ∙ ap (λ (xs : List Float). written xs N) (sym (normals-are sag viewable))
+        normals-is = d .normals-are ∙ ap (λ (vs : List (List View)). written (viewedNormals ns 0 (rowsOf table) ns vs) N) same-views
+            ∙ ap (λ (xs : List Float). written xs N) (sym (normals-are sag viewable))
 
         pub indices-is : I' ≡ written (flatMap (λ q. q .indices) (body .patches)) I
         indices-is = d .indices-are ∙ ap (λ (vs : List (List View)). written (viewedIndices (rowsOf table) vs) I) same-views ∙ ap (λ (xs : List ℕ). written xs I) (sym (indices-are sag viewable))

@@ -32,8 +32,10 @@ pub fn stitch_open(
     m: usize,
 ) -> Stitched
     requires { ⌜ StitchReady (now rows) (now positions) (now normals) (now indices) (now w) v m ⌝ }
-    ensures { λ r. ⌜ BodyStitched (stitchedBody sag (names key (now (positions .entry))) (patchesOf (rowsOf (now (rows .entry))) (now (positions .entry)) (now (normals .entry)) (now (indices .entry))))
-        (now («out_rows» .entry)) (now («out_rows» .exit)) (now («out_positions» .entry)) (now («out_positions» .exit)) (now («out_normals» .entry)) (now («out_normals» .exit))
+    ensures { λ r. ⌜ BodyStitched (stitchedBody sag (names key (now (positions .entry)))
+        (patchesOf (rowsOf (now (rows .entry))) (now (positions .entry)) (now (normals .entry)) (now (indices .entry))))
+        (now («out_rows» .entry)) (now («out_rows» .exit)) (now («out_positions» .entry)) (now («out_positions» .exit)) (now («out_normals» .entry))
+        (now («out_normals» .exit))
         (now («out_indices» .entry)) (now («out_indices» .exit)) (16 * length (now (indices .entry)) + 16 * m + 4 * v) (now (w .entry)) (now (w .exit)) r ⌝ }
 {
     let n = indices.len();
@@ -88,8 +90,13 @@ pub fn stitch_nothing(
     m: usize,
 ) -> Stitched
     requires { ⌜ StitchReady (now rows) (now positions) (now normals) (now indices) (now w) v m ⌝ }
-    ensures { λ r. ⌜ BodyStitched (record { patches = patchesOf (rowsOf (now (rows .entry))) (now (positions .entry)) (now (normals .entry)) (now (indices .entry)); splits = 0 })
-        (now («out_rows» .entry)) (now («out_rows» .exit)) (now («out_positions» .entry)) (now («out_positions» .exit)) (now («out_normals» .entry)) (now («out_normals» .exit))
+    ensures { λ r. ⌜ BodyStitched (record {
+      patches = patchesOf (rowsOf (now (rows .entry))) (now (positions .entry)) (now (normals .entry))
+          (now (indices .entry));
+      splits = 0;
+    })
+        (now («out_rows» .entry)) (now («out_rows» .exit)) (now («out_positions» .entry)) (now («out_positions» .exit)) (now («out_normals» .entry))
+        (now («out_normals» .exit))
         (now («out_indices» .entry)) (now («out_indices» .exit)) (16 * length (now (indices .entry)) + 16 * m + 4 * v) (now (w .entry)) (now (w .entry)) r ⌝ }
 {
     let n = indices.len();

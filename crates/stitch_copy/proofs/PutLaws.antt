@@ -49,16 +49,20 @@ module _ {table : List ℕ} {ps ns : List Float} {is : List ℕ} {sag beyond : F
           rows-are =
               d .rows
               ∙ ap (λ (xs : List ℕ). written xs R) (sym (flat-table table (g .writable .body .rows .whole)))
-              ∙ ap (λ (rs : List Row). written (tableOf rs) R) (sym (rows-none sag ps (take v W) (take count (drop list W)) 0 (take (length is) (drop flags W)) (rowsOf table) is (g .writable .body .all) marked threes none));
+              ∙ ap (λ (rs : List Row). written (tableOf rs) R) (sym (rows-none sag ps (take v W) (take count (drop list W)) 0 (take (length is) (drop flags W)) (rowsOf table) is
+              (g .writable .body .all) marked threes none));
           positions-are =
               d .positions
-              ∙ ap (λ (xs : List Float). written xs P) (sym (positions-none ps (rowsOf table) ps (viewsOf table ps is sag v list count flags W) many (omega (arith, g .writable .body .stands .all, g .writable .body .vertices)) none));
+              ∙ ap (λ (xs : List Float). written xs P) (sym (positions-none ps (rowsOf table) ps (viewsOf table ps is sag v list count flags W) many
+              (omega (arith, g .writable .body .stands .all, g .writable .body .vertices)) none));
           normals-are =
               d .normals
-              ∙ ap (λ (xs : List Float). written xs N) (sym (normals-none ns 0 (rowsOf table) ns (viewsOf table ps is sag v list count flags W) many (omega (arith, g .writable .all, g .writable .body .vertices)) none));
+              ∙ ap (λ (xs : List Float). written xs N) (sym (normals-none ns 0 (rowsOf table) ns (viewsOf table ps is sag v list count flags W) many
+              (omega (arith, g .writable .all, g .writable .body .vertices)) none));
           indices-are =
               d .indices
-              ∙ ap (λ (xs : List ℕ). written xs I) (sym (indices-none sag ps (take v W) (take count (drop list W)) 0 (take (length is) (drop flags W)) (rowsOf table) is (g .writable .body .all) marked threes none));
+              ∙ ap (λ (xs : List ℕ). written xs I) (sym (indices-none sag ps (take v W) (take count (drop list W)) 0 (take (length is) (drop flags W)) (rowsOf table) is
+              (g .writable .body .all) marked threes none));
           front = refl;
           rest = refl;
         }

@@ -43,7 +43,8 @@ pub fn copy_body(
     out_normals: &mut [f32],
     out_indices: &mut [u32],
 )
-    requires { ⌜ BodyRoom (now rows) (now positions) (now normals) (now indices) (now «out_rows») (now «out_positions») (now «out_normals») (now «out_indices») ⌝ }
+    requires { ⌜ BodyRoom (now rows) (now positions) (now normals) (now indices) (now «out_rows») (now «out_positions») (now «out_normals»)
+        (now «out_indices») ⌝ }
     ensures { λ _. ⌜ BodyCopied (now (rows .entry)) (now (positions .entry)) (now (normals .entry)) (now (indices .entry))
         (now («out_rows» .entry)) (now («out_positions» .entry)) (now («out_normals» .entry)) (now («out_indices» .entry))
         (now («out_rows» .exit)) (now («out_positions» .exit)) (now («out_normals» .exit)) (now («out_indices» .exit)) ⌝ }

@@ -20,9 +20,11 @@ pub fn put_body(
     out_normals: &mut [f32],
     out_indices: &mut [u32],
 )
-    requires { ⌜ Puttable (now rows) (now positions) (now normals) (now indices) (f .sag) (f .beyond) (f .v) (f .list) (f .count) (f .at) (f .ts) (f .flags) kept
+    requires { ⌜ Puttable (now rows) (now positions) (now normals) (now indices) (f .sag) (f .beyond) (f .v) (f .list) (f .count) (f .at) (f .ts)
+        (f .flags) kept
         (now w) (now «out_rows») (now «out_positions») (now «out_normals») (now «out_indices») ⌝ }
-    ensures { λ _. ⌜ BodyWritten (now (rows .entry)) (now (positions .entry)) (now (normals .entry)) (now (indices .entry)) (f .sag) (f .v) (f .list) (f .count) (f .at) (f .ts) (f .flags)
+    ensures { λ _. ⌜ BodyWritten (now (rows .entry)) (now (positions .entry)) (now (normals .entry)) (now (indices .entry)) (f .sag) (f .v) (f .list) (f .count)
+        (f .at) (f .ts) (f .flags)
         (now (w .entry)) (now (w .exit)) (now («out_rows» .entry)) (now («out_rows» .exit)) (now («out_positions» .entry)) (now («out_positions» .exit))
         (now («out_normals» .entry)) (now («out_normals» .exit)) (now («out_indices» .entry)) (now («out_indices» .exit)) ⌝ }
 {

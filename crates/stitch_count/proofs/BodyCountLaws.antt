@@ -45,7 +45,8 @@ module _ {table : List ℕ} {ps : List Float} {is : List ℕ} {sag beyond : Floa
         long = refl;
       }
 
-  module _ {total new base i k m n : ℕ} {E : List ℕ} (c : CountingRows table ps is sag v list count at ts flags W total new base i k E) (em : m ≡ length (rowsOf table)) (en : n ≡ length is) (l : k < m) {vertices end : ℕ}
+  module _ {total new base i k m n : ℕ} {E : List ℕ} (c : CountingRows table ps is sag v list count at ts flags W total new base i k E) (em : m ≡ length (rowsOf table)) (en : n ≡ length is)
+      (l : k < m) {vertices end : ℕ}
       (ev : vertices ≡ rowAt table k .vertices) (ee : end ≡ i + rowAt table k .indices) where
     more : k < length (rowsOf table)
     more = omega arith

@@ -33,7 +33,8 @@ module _ {table : List ℕ} {ps : List Float} {is : List ℕ} {sag beyond : Floa
     module _ (base : ℕ) (E : List ℕ) (front : take at E ≡ take at W) where
       -- the row's views
       views-are : viewsIn ps is sag v list count flags base i end E
-          ≡ rowViews sag ps (take v W) (take count (drop list W)) base (take (rowAt table k .indices) (drop i (take (length is) (drop flags W)))) (trianglesOf (take (rowAt table k .indices) (drop i is)))
+          ≡ rowViews sag ps (take v W) (take count (drop list W)) base (take (rowAt table k .indices) (drop i (take (length is) (drop flags W))))
+          (trianglesOf (take (rowAt table k .indices) (drop i is)))
       views-are =
           let size : end - i ≡ rowAt table k .indices = omega arith in
           let names : take v E ≡ take v W = front-less v at W E front (omega (arith, g .stands .listed .behind, g .stands .flags-behind, g .stands .behind)) in
@@ -53,4 +54,5 @@ module _ {table : List ℕ} {ps : List Float} {is : List ℕ} {sag beyond : Floa
           let FL = take (length is) (drop flags W) in
           let r = rowAt table k in
           ap (λ (rows : List Row). bodyViews sag ps (take v W) (take count (drop list W)) base (drop i FL) rows (drop i is)) (rows-here table k more)
-          ∙ (λ j. sym views-are j ∷ bodyViews sag ps (take v W) (take count (drop list W)) (base + sym ev j) ((drop-drop (r .indices) i FL ∙ ap (λ (x : ℕ). drop x FL) (sym ee)) j) (drop (k + 1) (rowsOf table)) ((drop-drop (r .indices) i is ∙ ap (λ (x : ℕ). drop x is) (sym ee)) j))
+          ∙ (λ j. sym views-are j ∷ bodyViews sag ps (take v W) (take count (drop list W)) (base + sym ev j) ((drop-drop (r .indices) i FL ∙ ap (λ (x : ℕ). drop x FL) (sym ee)) j)
+          (drop (k + 1) (rowsOf table)) ((drop-drop (r .indices) i is ∙ ap (λ (x : ℕ). drop x is) (sym ee)) j))

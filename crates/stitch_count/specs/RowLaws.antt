@@ -29,7 +29,8 @@ entries-long W at ts kept a b =
     entries-many (take kept (drop at W)) (take kept (drop ts W)) (x ∙ sym y) ∙ x
 
 -- what stands in front of the entries is kept
-pub stands-kept : {ps : List Float} {sag beyond : Float} {n v list count at ts flags : ℕ} {W E : List ℕ} → Stands ps sag beyond n v list count at ts flags W → take at E ≡ take at W → length E ≡ length W
+pub stands-kept : {ps : List Float} {sag beyond : Float} {n v list count at ts flags : ℕ} {W E : List ℕ} → Stands ps sag beyond n v list count at ts flags W → take at E ≡ take at W
+    → length E ≡ length W
     → Stands ps sag beyond n v list count at ts flags E
 stands-kept {ps} {sag} {beyond} {n} {v} {list} {count} {at} {ts} {flags} {W} {E} s e l =
     record {
@@ -88,14 +89,16 @@ module _ {ps : List Float} {is : List ℕ} {sag beyond : Float} {n v list count 
 
     -- the view of the triangle at k
     abbrev pub view : View
-    view = viewOf sag ps (take v W) (take count (drop list W)) base (getD W (flags + k) 0) (getD W (flags + k + 1) 0) (getD W (flags + k + 2) 0) (record { a = getD is k 0; b = getD is (k + 1) 0; c = getD is (k + 2) 0 })
+    view = viewOf sag ps (take v W) (take count (drop list W)) base (getD W (flags + k) 0) (getD W (flags + k + 1) 0) (getD W (flags + k + 2) 0)
+        (record { a = getD is k 0; b = getD is (k + 1) 0; c = getD is (k + 2) 0 })
 
     -- the views begin with it
     pub views-here : viewsIn ps is sag v list count flags base k to W ≡ view ∷ viewsIn ps is sag v list count flags base (k + 3) to W
     unfolding rowViews trianglesOf
     views-here =
         ap (λ (fs : List ℕ). rowViews sag ps (take v W) (take count (drop list W)) base fs (trianglesOf (take (to - k) (drop k is)))) flags-three
-        ∙ ap (λ (xs : List ℕ). rowViews sag ps (take v W) (take count (drop list W)) base (getD W (flags + k) 0 ∷ getD W (flags + k + 1) 0 ∷ getD W (flags + k + 2) 0 ∷ take (to - (k + 3)) (drop (flags + (k + 3)) W)) (trianglesOf xs))
+        ∙ ap (λ (xs : List ℕ). rowViews sag ps (take v W) (take count (drop list W)) base
+        (getD W (flags + k) 0 ∷ getD W (flags + k + 1) 0 ∷ getD W (flags + k + 2) 0 ∷ take (to - (k + 3)) (drop (flags + (k + 3)) W)) (trianglesOf xs))
         (stretch-three is k to 0 three (omega (arith, g .inside, g .all)))
 
     -- what stands in E is what stands in W

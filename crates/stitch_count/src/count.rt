@@ -20,7 +20,13 @@ fn edge_between(
     opens: bool,
 ) -> TriangleEdge
     requires { ⌜ EdgeReady (now positions) v g h (now w) ⌝ }
-    ensures { λ r. ⌜ r ≡ record { edge = edgeOf (pointAt (now (positions .entry)) g) (pointAt (now (positions .entry)) h); start = getD (now (w .entry)) g 0; end = getD (now (w .entry)) h 0; opens = opens } ⌝ }
+    ensures { λ r. ⌜ r ≡ record {
+      edge = edgeOf (pointAt (now (positions .entry)) g) (pointAt (now (positions .entry)) h);
+      start = getD
+          (now (w .entry)) g 0;
+      end = getD (now (w .entry)) h 0;
+      opens = opens;
+    } ⌝ }
 {
     let p = patch_geometry::vertex(positions, 3 * g);
     let q = patch_geometry::vertex(positions, 3 * h);
@@ -97,8 +103,10 @@ fn count_row(
     found: u64,
     kept: usize,
 ) -> Tally
-    requires { ⌜ RowReady (now positions) (now indices) (f .sag) (f .beyond) n (f .v) (f .list) (f .count) (f .at) (f .ts) (f .flags) base vertices from to found kept (now w) ⌝ }
-    ensures { λ r. ⌜ RowCounted (now (positions .entry)) (now (indices .entry)) (f .sag) (f .v) (f .list) (f .count) (f .at) (f .ts) (f .flags) base from to found kept
+    requires { ⌜ RowReady (now positions) (now indices) (f .sag) (f .beyond) n (f .v) (f .list) (f .count) (f .at) (f .ts)
+        (f .flags) base vertices from to found kept (now w) ⌝ }
+    ensures { λ r. ⌜ RowCounted (now (positions .entry)) (now (indices .entry)) (f .sag) (f .v) (f .list) (f .count) (f .at) (f .ts)
+        (f .flags) base from to found kept
         (now (w .entry)) (now (w .exit)) (r .found) (r .placed) ⌝ }
 {
     let mut total = found;
@@ -125,7 +133,8 @@ pub fn count_splits(
     f: Finder,
 ) -> Tally
     requires { ⌜ BodyReady (now rows) (now positions) (now indices) (f .sag) (f .beyond) (f .v) (f .list) (f .count) (f .at) (f .ts) (f .flags) (now w) ⌝ }
-    ensures { λ r. ⌜ BodyCounted (now (rows .entry)) (now (positions .entry)) (now (indices .entry)) (f .sag) (f .v) (f .list) (f .count) (f .at) (f .ts) (f .flags)
+    ensures { λ r. ⌜ BodyCounted (now (rows .entry)) (now (positions .entry)) (now (indices .entry)) (f .sag) (f .v) (f .list) (f .count) (f .at) (f .ts)
+        (f .flags)
         (now (w .entry)) (now (w .exit)) (r .found) (r .placed) ⌝ }
 {
     let n = indices.len();

@@ -143,5 +143,6 @@ claims =
 
 -- The definitions yield each.
 pub claims-hold : T (all agrees claims)
-unfolding evaluation roomy stitchGiven stitched vertex tight wide refused quarter two six twoZeros nearest tied distant shells apex fifth fifthNormals mixedNormal sameKey sameKeySplits constants meant claims
+unfolding evaluation roomy stitchGiven stitched vertex tight wide refused quarter two six twoZeros nearest tied distant shells apex fifth fifthNormals mixedNormal sameKey sameKeySplits constants meant
+    claims
 claims-hold = tt

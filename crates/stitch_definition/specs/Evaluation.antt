@@ -9,5 +9,6 @@ use Rattle.stitch_definition.specs.Stitch.{stitchBody, stitchOf}
 
 -- every definition that computes
 unfoldable pub evaluation : ℕ
-unfolding Refusals.evaluation Rings.evaluation faceIndices newNormal coordinates ring fanned stitchedPatch stitchedPatches stitchedBodyOf stitchedBody stitchChecks writeBody refuseStitch clearedSlices stitchOrRefuse stitchBody stitchOf
+unfolding Refusals.evaluation Rings.evaluation faceIndices newNormal coordinates ring fanned stitchedPatch stitchedPatches stitchedBodyOf stitchedBody stitchChecks writeBody refuseStitch clearedSlices
+    stitchOrRefuse stitchBody stitchOf
 evaluation = 0

@@ -8,7 +8,21 @@ ghost use mathlib.Core.Path.{_≡_};
 ghost use Prim.Native.Nat.{_+_, _/_, _<_};
 ghost use lib.ListN.{length, getD};
 ghost use Rattle.float_steps.specs.Floats.{f64};
-ghost use Rattle.stitch_splits.specs.Entries.{EntryRoom, EntryInserted, EntriesHeld, EntriesKept, after, entryAt, closeTo, copied, EntryPlace, EntryPosition, WordRoom, WordInserted, EntryPlaces};
+ghost use Rattle.stitch_splits.specs.Entries.{
+  EntryRoom,
+  EntryInserted,
+  EntriesHeld,
+  EntriesKept,
+  after,
+  entryAt,
+  closeTo,
+  copied,
+  EntryPlace,
+  EntryPosition,
+  WordRoom,
+  WordInserted,
+  EntryPlaces,
+};
 
 // The edge of the entry at place j.
 pub fn entry_edge(w: &[u64], at: usize, j: usize) -> u64

@@ -11,7 +11,25 @@ use Rattle.body_rows.specs.Body.{Row, trianglesOf, rowsOf, allIndices}
 use Rattle.body_rows.specs.Rows.{noRow, rowAt, verticesBefore, indicesBefore}
 use Rattle.body_rows.specs.Patches.{before-none, indices-front, indices-next, indices-room, vertices-next, vertices-room}
 use Rattle.edge_uses.specs.RowUses.{row-inside}
-use Rattle.stitch_loose_points.specs.Listed.{insertVertex, insertTriangle, anySet, withTriangle, rowVertices, bodyVertices, Listed, Insertable, Inserted, TriangleInsertable, TriangleInserted, TriangleGatherable, TriangleGathered, RowGatherable, RowGathered, Gatherable, Gathered}
+use Rattle.stitch_loose_points.specs.Listed.{
+  insertVertex,
+  insertTriangle,
+  anySet,
+  withTriangle,
+  rowVertices,
+  bodyVertices,
+  Listed,
+  Insertable,
+  Inserted,
+  TriangleInsertable,
+  TriangleInserted,
+  TriangleGatherable,
+  TriangleGathered,
+  RowGatherable,
+  RowGathered,
+  Gatherable,
+  Gathered,
+}
 
 -- ---- the corners of a triangle
 
@@ -50,7 +68,8 @@ module _ {is : List ℕ} {v at count base k flags : ℕ} {W : List ℕ} (g : Tri
         list =
             i .list
             ∙ (λ j. insertTriangle (take v W) (ea j) (eb j) (ec j) (take count (drop at W)))
-            ∙ ap (λ (u : Bool). cond u (insertTriangle (take v W) (base + getD is k 0) (base + getD is (k + 1) 0) (base + getD is (k + 2) 0) (take count (drop at W))) (take count (drop at W))) (sym f ∙ e);
+            ∙ ap (λ (u : Bool). cond u (insertTriangle (take v W) (base + getD is k 0) (base + getD is (k + 1) 0) (base + getD is (k + 2) 0) (take count (drop at W))) (take count (drop at W)))
+            (sym f ∙ e);
         listed = i .listed;
         few = i .few;
         front = i .front;
@@ -61,7 +80,8 @@ module _ {is : List ℕ} {v at count base k flags : ℕ} {W : List ℕ} (g : Tri
   pub triangle-skipped : t ≡ false → TriangleGathered is v at count base k flags W W count
   triangle-skipped f =
       record {
-        list = ap (λ (u : Bool). cond u (insertTriangle (take v W) (base + getD is k 0) (base + getD is (k + 1) 0) (base + getD is (k + 2) 0) (take count (drop at W))) (take count (drop at W))) (sym f ∙ e);
+        list = ap (λ (u : Bool). cond u (insertTriangle (take v W) (base + getD is k 0) (base + getD is (k + 1) 0) (base + getD is (k + 2) 0) (take count (drop at W))) (take count (drop at W)))
+            (sym f ∙ e);
         listed = g .listed;
         few = omega arith;
         front = refl;
@@ -103,13 +123,15 @@ module _ {is : List ℕ} {v at count base vertices from to flags : ℕ} {W : Lis
     flags-three = stretch-three-at W flags k to 0 three (omega (arith, g .room))
 
     -- the definition takes the same step
-    step : (R : List ℕ) → rowVertices (take v W) base (take (to - (k + 3)) (drop (flags + (k + 3)) W)) (trianglesOf (take (to - (k + 3)) (drop (k + 3) is))) (withTriangle (take v W) base is W flags k R)
+    step : (R : List ℕ) → rowVertices (take v W) base (take (to - (k + 3)) (drop (flags + (k + 3)) W)) (trianglesOf (take (to - (k + 3)) (drop (k + 3) is)))
+        (withTriangle (take v W) base is W flags k R)
         ≡ rowVertices (take v W) base (take (to - k) (drop (flags + k) W)) (trianglesOf (take (to - k) (drop k is))) R
     unfolding rowVertices trianglesOf
     step R =
         sym
         (ap (λ (fs : List ℕ). rowVertices (take v W) base fs (trianglesOf (take (to - k) (drop k is))) R) flags-three
-        ∙ ap (λ (xs : List ℕ). rowVertices (take v W) base (getD W (flags + k) 0 ∷ getD W (flags + k + 1) 0 ∷ getD W (flags + k + 2) 0 ∷ take (to - (k + 3)) (drop (flags + (k + 3)) W)) (trianglesOf xs) R)
+        ∙ ap (λ (xs : List ℕ). rowVertices (take v W) base (getD W (flags + k) 0 ∷ getD W (flags + k + 1) 0 ∷ getD W (flags + k + 2) 0 ∷ take (to - (k + 3)) (drop (flags + (k + 3)) W))
+        (trianglesOf xs) R)
         (stretch-three is k to 0 three (g .inside)))
 
     -- the triangle can be gathered
@@ -243,8 +265,10 @@ module _ {table is : List ℕ} {v at flags : ℕ} {W : List ℕ} (g : Gatherable
         let ns : take v E ≡ take v W = front-less v at W E (s .front) (g .behind) in
         let size : end - i ≡ r .indices = omega arith in
         let f : suc k ≡ k + 1 = omega arith in
-        (λ j. bodyVertices (take v W) (base + ev j) (drop (ee j) FL) (drop (k + 1) (rowsOf table)) (drop (ee j) is) (rowVertices (ns j) base (flags-there j) (trianglesOf (take (size j) (drop i is))) R))
-        ∙ (λ j. bodyVertices (take v W) (base + r .vertices) (sym (drop-drop (r .indices) i FL) j) (drop (sym f j) (rowsOf table)) (sym (drop-drop (r .indices) i is) j) (rowVertices (take v W) base (take (r .indices) (drop i FL)) (trianglesOf (take (r .indices) (drop i is))) R))
+        (λ j. bodyVertices (take v W) (base + ev j) (drop (ee j) FL) (drop (k + 1) (rowsOf table)) (drop (ee j) is)
+        (rowVertices (ns j) base (flags-there j) (trianglesOf (take (size j) (drop i is))) R))
+        ∙ (λ j. bodyVertices (take v W) (base + r .vertices) (sym (drop-drop (r .indices) i FL) j) (drop (sym f j) (rowsOf table)) (sym (drop-drop (r .indices) i is) j)
+        (rowVertices (take v W) base (take (r .indices) (drop i FL)) (trianglesOf (take (r .indices) (drop i is))) R))
         ∙ ap (λ (rows : List Row). bodyVertices (take v W) base (drop i FL) rows (drop i is) R) (sym (drop-cons (rowsOf table) k noRow more))
 
     -- one row more is done
@@ -271,7 +295,8 @@ module _ {table is : List ℕ} {v at flags : ℕ} {W : List ℕ} (g : Gatherable
   unfolding bodyVertices
   rows-all {found} {base} {i} {k} {m} {E} s em l =
       record {
-        list = ap (λ (rows : List Row). bodyVertices (take v W) base (drop i (take (length is) (drop flags W))) rows (drop i is) (take found (drop at E))) (sym (drop-of-length-le (rowsOf table) {i = k} (omega arith))) ∙ s .goes-on;
+        list = ap (λ (rows : List Row). bodyVertices (take v W) base (drop i (take (length is) (drop flags W))) rows (drop i is) (take found (drop at E)))
+            (sym (drop-of-length-le (rowsOf table) {i = k} (omega arith))) ∙ s .goes-on;
         listed = s .listed;
         few = omega (arith, s .few, s .at-i, g .all, front-of);
         front = s .front;

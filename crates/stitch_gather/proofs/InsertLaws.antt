@@ -195,7 +195,8 @@ module _ {v at count g p : ℕ} {W : List ℕ} (i : Insertable v at count g W) (
     pub inserted-new : Inserted v at count g W New (count + 1)
     inserted-new =
         record {
-          list = put-words g at count p (q .low) (i .room) m long ∙ sym (insert-new (take v W) g p R (omega (arith, r-long, q .low)) lower (λ b. let c : p < count = omega (arith, r-long) in omega (arith, listed-name p c, name-is g (i .vertex), new c)));
+          list = put-words g at count p (q .low) (i .room) m long ∙ sym
+              (insert-new (take v W) g p R (omega (arith, r-long, q .low)) lower (λ b. let c : p < count = omega (arith, r-long) in omega (arith, listed-name p c, name-is g (i .vertex), new c)));
           listed =
               record {
                 behind = i .listed .behind;

@@ -4,7 +4,19 @@ use crate::list::insert_vertex;
 ghost use mathlib.Core.Path.{_≡_};
 ghost use Prim.Native.Nat.{_+_};
 ghost use lib.ListN.{getD};
-ghost use Rattle.stitch_loose_points.specs.Listed.{anySet, FlagsAt, TriangleInsertable, TriangleInserted, CornerAt, TriangleGatherable, TriangleGathered, RowGatherable, RowGathered, Gatherable, Gathered};
+ghost use Rattle.stitch_loose_points.specs.Listed.{
+  anySet,
+  FlagsAt,
+  TriangleInsertable,
+  TriangleInserted,
+  CornerAt,
+  TriangleGatherable,
+  TriangleGathered,
+  RowGatherable,
+  RowGathered,
+  Gatherable,
+  Gathered,
+};
 
 // Whether one of the three flags from place k on is set.
 pub fn any_set(w: &[u64], k: usize) -> bool

@@ -116,7 +116,8 @@ module _ (ps : List Float) (nms : List ℕ) where
       let long : length xs ≡ n = length-take-le n is (omega arith) in
       let three : 3 * base + 3 * v ≡ 3 * (base + v) = omega arith in
       let left = drop-drop (3 * v) (3 * base) ps ∙ ap (λ (k : ℕ). drop k ps) three in
-      let row = row-points (points-from ps base v (drop (3 * base) ps) refl) (names-from nms base (drop base nms) refl) opens xs (inside-first r rs is h) R ∙ ap (λ (k : ℕ). points (rowVertices nms base (take k (map flag opens)) (trianglesOf xs) R)) long in
+      let row = row-points (points-from ps base v (drop (3 * base) ps) refl) (names-from nms base (drop base nms) refl) opens xs (inside-first r rs is h) R
+      ∙ ap (λ (k : ℕ). points (rowVertices nms base (take k (map flag opens)) (trianglesOf xs) R)) long in
       loose-append (facetsOf qs (drop base nms) opens (trianglesOf xs)) (rest (drop v (drop base nms)) (length xs) (drop (3 * v) (drop (3 * base) ps))) (points R)
       ∙ (λ j. looseFrom (rest (drop-drop v base nms j) (long j) (left j)) (row j))
       ∙ body-points rs (base + v) (drop (3 * v) ns) (drop n is) (drop n opens) here (omega (arith, length-drop n is)) (inside-rest r rs is h)

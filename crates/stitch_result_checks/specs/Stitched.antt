@@ -24,7 +24,8 @@ pub record BodyStitched (s : StitchedBody) (R R' : List ℕ) (P P' N N' : List F
 
 -- ---- the checks of the result decide
 
-module _ (s : StitchedBody) {rows : List Row} (er : map (λ p. p .row) (s .patches) ≡ rows) (R : List ℕ) (P N : List Float) (I work : List ℕ) {refusal v i m : ℕ} (ev : v ≡ allVertices rows) (ei : i ≡ allIndices rows) (em : m ≡ length rows)
+module _ (s : StitchedBody) {rows : List Row} (er : map (λ p. p .row) (s .patches) ≡ rows) (R : List ℕ) (P N : List Float) (I work : List ℕ) {refusal v i m : ℕ} (ev : v ≡ allVertices rows)
+    (ei : i ≡ allIndices rows) (em : m ≡ length rows)
     (ef : refusal ≡ firstFailing (resultChecks v i m (length R) (length P) (length N) (length I))) where
   checked : refusal ≡ firstFailing (stitchChecks (map (λ p. p .row) (s .patches)) (slicesOf R P N I work))
   checked =
@@ -34,7 +35,8 @@ module _ (s : StitchedBody) {rows : List Row} (er : map (λ p. p .row) (s .patch
       ∙ ap (λ (rs : List Row). firstFailing (stitchChecks rs (slicesOf R P N I work))) (sym er)
 
   -- the definition refuses, or writes
-  or-refused : (refusal ≡ 0 → ⊥) → stitchOrRefuse s (slicesOf R P N I work) ≡ refuseStitch (firstFailing (stitchChecks (map (λ p. p .row) (s .patches)) (slicesOf R P N I work))) (slicesOf R P N I work)
+  or-refused : (refusal ≡ 0 → ⊥) → stitchOrRefuse s (slicesOf R P N I work)
+      ≡ refuseStitch (firstFailing (stitchChecks (map (λ p. p .row) (s .patches)) (slicesOf R P N I work))) (slicesOf R P N I work)
   unfolding stitchOrRefuse
   or-refused n = rw (ne-eqb (firstFailing (stitchChecks (map (λ p. p .row) (s .patches)) (slicesOf R P N I work))) 0 (λ q. n (checked ∙ q)), stitchOrRefuse)
 
@@ -51,12 +53,14 @@ module _ (s : StitchedBody) {rows : List Row} (er : map (λ p. p .row) (s .patch
       ∙ ap stitchAnswered (sym (or-refused n))
 
   -- or written
-  pub result-written : {R' : List ℕ} {P' N' : List Float} {I' : List ℕ} {splits : ℕ} → refusal ≡ 0 → splits ≡ s .splits → R' ≡ written (tableOf rows) R → P' ≡ written (flatMap (λ p. p .positions) (s .patches)) P
+  pub result-written : {R' : List ℕ} {P' N' : List Float} {I' : List ℕ} {splits : ℕ} → refusal ≡ 0 → splits ≡ s .splits → R' ≡ written (tableOf rows) R
+      → P' ≡ written (flatMap (λ p. p .positions) (s .patches)) P
       → N' ≡ written (flatMap (λ p. p .normals) (s .patches)) N → I' ≡ written (flatMap (λ p. p .indices) (s .patches)) I
       → leftStitch (Done (record { vertices = v; indices = i; splits = splits })) (slicesOf R' P' N' I' work) ≡ stitchAnswered (stitchOrRefuse s (slicesOf R P N I work))
   unfolding writeBody
   result-written {R'} {P'} {N'} {I'} {splits} z es eR eP eN eI =
-      (λ j. leftStitch (Done (record { vertices = (ev ∙ ap allVertices (sym er)) j; indices = (ei ∙ ap allIndices (sym er)) j; splits = es j })) (slicesOf ((eR ∙ ap (λ (rs : List Row). written (tableOf rs) R) (sym er)) j) (eP j) (eN j) (eI j) work))
+      (λ j. leftStitch (Done (record { vertices = (ev ∙ ap allVertices (sym er)) j; indices = (ei ∙ ap allIndices (sym er)) j; splits = es j }))
+      (slicesOf ((eR ∙ ap (λ (rs : List Row). written (tableOf rs) R) (sym er)) j) (eP j) (eN j) (eI j) work))
       ∙ ap stitchAnswered (sym (or-written z))
 
 -- what stitching an accepted body asks: v vertices, m rows and the slices of a body that passed its checks

@@ -21,7 +21,8 @@ fn too_short(
 ) -> bool
     requires { ⌜ SmallResult vertices rows ⌝ }
     ensures { λ r. ⌜ r ≡ tooShort vertices indices rows
-        (length (now («out_rows» .entry))) (length (now («out_positions» .entry))) (length (now («out_normals» .entry))) (length (now («out_indices» .entry))) ⌝ }
+        (length (now («out_rows» .entry))) (length (now («out_positions» .entry))) (length (now («out_normals» .entry)))
+        (length (now («out_indices» .entry))) ⌝ }
 {
     if out_rows.len() < ROW_WIDTH * rows {
         return true;
@@ -47,7 +48,8 @@ pub fn result_failing(
 ) -> u32
     requires { ⌜ rows ≤ 4096 ⌝ }
     ensures { λ r. ⌜ r ≡ firstFailing (resultChecks vertices indices rows
-        (length (now («out_rows» .entry))) (length (now («out_positions» .entry))) (length (now («out_normals» .entry))) (length (now («out_indices» .entry)))) ⌝ }
+        (length (now («out_rows» .entry))) (length (now («out_positions» .entry))) (length (now («out_normals» .entry)))
+        (length (now («out_indices» .entry)))) ⌝ }
 {
     if vertices > MOST_VERTICES {
         return 33;

@@ -147,7 +147,8 @@ normals-none ns a b c W at ts kept o out = record { few = omega arith; count = r
 pub corners-ready : {ns : List Float} {a b c : ℕ} {W : List ℕ} {at ts kept o : ℕ} {out : List Float} → NormalsReady ns a b c W at ts kept o out → Corners ns a b c
 corners-ready r = record { in-a = r .in-a; in-b = r .in-b; in-c = r .in-c }
 
-module _ {ns : List Float} {a b c : ℕ} {W : List ℕ} {at ts kept o j : ℕ} {out new : List Float} (r : NormalsReady ns a b c W at ts kept o out) (s : NormalsAdded ns a b c W at ts kept o j out new) where
+module _ {ns : List Float} {a b c : ℕ} {W : List ℕ} {at ts kept o j : ℕ} {out new : List Float} (r : NormalsReady ns a b c W at ts kept o out)
+    (s : NormalsAdded ns a b c W at ts kept o j out new) where
   -- one more is written
   pub normals-more : {e : ℕ} {t : Float} {n : Normal} {v : List Float} → j < kept → e ≡ getD W (at + j) 0 / 262144 → t ≡ f64 (getD W (ts + j) 0)
       → normalOf n ≡ mixed (pointAt ns (startOf a b c e)) (pointAt ns (endOf a b c e)) t → v ≡ sets new (o + 3 * j) (normalOf n) → NormalsAdded ns a b c W at ts kept o (j + 1) out v

@@ -76,7 +76,12 @@ module _ (s : Edge) (r : Vec3) {w : Vec3} {k : Float} (e : w ≡ subV r (s .star
   -- the sign of the product of both distances
   pub ruled-sign : (b : Float) → lt (mul (sub (div k (s .squared)) near-end) (sub far-end (div k (s .squared)))) zero64 ≡ true → Ruled b s r false
   unfolding Ieee.ofBits
-  ruled-sign b h = record { out = λ sag y z. sym (within-outside sag s r refl (sym there ∙ outside (Footing.Inside (record { t = div k (s .squared); off = subV w (scale (s .along) (div k (s .squared))) })) (not (eq (s .squared) zero64)) (lt near-end (div k (s .squared))) (lt (div k (s .squared)) far-end) both)) }
+  ruled-sign b h = record {
+    out = λ sag y z. sym (within-outside sag s r refl
+        (sym there ∙ outside (Footing.Inside (record { t = div k (s .squared); off = subV w (scale (s .along) (div k (s .squared))) })) (not (eq (s .squared) zero64))
+        (lt near-end (div k (s .squared)))
+        (lt (div k (s .squared)) far-end) both));
+  }
     where
       both : lt near-end (div k (s .squared)) ≡ true → lt (div k (s .squared)) far-end ≡ true → ⊥
       both p q = between-plain binary64 near-end (div k (s .squared)) far-end p q h

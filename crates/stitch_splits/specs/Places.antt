@@ -136,6 +136,7 @@ module _ (f : Facet) (ps : List Float) where
     where
       go : (o : Option Spot) → AllSpotted f (pointAt ps g) o → OnEdges (filterMap (placedEntry (sidesFrom f) ps) gs)
           → OnEdges
-          (elim (mapOption {B = Entry} (λ p. record { e = p .e; t = p .t; vertex = g }) o) [ none ↦ filterMap (placedEntry (sidesFrom f) ps) gs | some y ↦ y ∷ filterMap (placedEntry (sidesFrom f) ps) gs ])
+          (elim (mapOption {B = Entry} (λ p. record { e = p .e; t = p .t; vertex = g }) o)
+          [ none ↦ filterMap (placedEntry (sidesFrom f) ps) gs | some y ↦ y ∷ filterMap (placedEntry (sidesFrom f) ps) gs ])
       go none a r = r
       go (some p) a r = (a .edge, r)

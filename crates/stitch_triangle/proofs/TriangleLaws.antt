@@ -113,7 +113,8 @@ module _ {ps : List Float} {sag beyond : Float} {v list count j e at ts found pl
       tried-not f =
           record {
             entries =
-                ap (λ (x : Bool). elim x [ true ↦ withSpot (getD W (list + j) 0) (spotOf s (pointAt ps (getD W (list + j) 0))) (entriesIn W at ts placed) | false ↦ entriesIn W at ts placed ]) (sym f ∙ test);
+                ap (λ (x : Bool). elim x [ true ↦ withSpot (getD W (list + j) 0) (spotOf s (pointAt ps (getD W (list + j) 0))) (entriesIn W at ts placed) | false ↦ entriesIn W at ts placed ])
+                (sym f ∙ test);
             more = (let z : found ≡ found + 0 = omega arith in z) ∙ ap (λ (x : Bool). found + cond x 1 0) (sym f ∙ test);
             few = omega arith;
             front = refl;
@@ -127,7 +128,8 @@ module _ {ps : List Float} {sag beyond : Float} {v list count j e at ts found pl
           record {
             entries =
                 ap (λ (o : Option Spot). withSpot (getD W (list + j) 0) o (entriesIn W at ts placed)) (sym (no-spot (spotOf s r) (sym n ∙ q)) ∙ spot-there)
-                ∙ ap (λ (x : Bool). elim x [ true ↦ withSpot (getD W (list + j) 0) (spotOf s (pointAt ps (getD W (list + j) 0))) (entriesIn W at ts placed) | false ↦ entriesIn W at ts placed ]) (sym f ∙ test);
+                ∙ ap (λ (x : Bool). elim x [ true ↦ withSpot (getD W (list + j) 0) (spotOf s (pointAt ps (getD W (list + j) 0))) (entriesIn W at ts placed) | false ↦ entriesIn W at ts placed ])
+                (sym f ∙ test);
             more = ap (λ (x : Bool). found + cond x 1 0) (sym f ∙ test);
             few = omega arith;
             front = refl;
@@ -158,7 +160,8 @@ module _ {ps : List Float} {sag beyond : Float} {v list count j e at ts found pl
                   i .entries
                   ∙ ap (λ (x : ℕ). insertEntry (record { e = k .e; t = k .t; vertex = x }) (entriesIn W at ts placed)) eg
                   ∙ ap (λ (o : Option Spot). withSpot (getD W (list + j) 0) o (entriesIn W at ts placed)) (sym spot ∙ spot-there)
-                  ∙ ap (λ (x : Bool). elim x [ true ↦ withSpot (getD W (list + j) 0) (spotOf s (pointAt ps (getD W (list + j) 0))) (entriesIn W at ts placed) | false ↦ entriesIn W at ts placed ]) (sym f ∙ test);
+                  ∙ ap (λ (x : Bool). elim x [ true ↦ withSpot (getD W (list + j) 0) (spotOf s (pointAt ps (getD W (list + j) 0))) (entriesIn W at ts placed) | false ↦ entriesIn W at ts placed ])
+                  (sym f ∙ test);
               more = ap (λ (x : Bool). found + cond x 1 0) (sym f ∙ test);
               few = omega arith;
               front = i .front;
@@ -300,7 +303,8 @@ module _ {ps : List Float} {sag beyond : Float} {v list count e at ts found plac
 
       all : (j : ℕ) → j ≤ count → Finding ps sag s v list count e at ts found placed W found placed j W
       all zero l = finding-none
-      all (suc j) l = let k : j + 1 ≡ suc j = omega arith in subst (λ (n : ℕ). Finding ps sag s v list count e at ts found placed W found placed n W) k (skip-closed (all j (omega arith)) (omega arith) closed)
+      all (suc j) l = let k : j + 1 ≡ suc j = omega arith in subst (λ (n : ℕ). Finding ps sag s v list count e at ts found placed W found placed n W) k
+          (skip-closed (all j (omega arith)) (omega arith) closed)
 
 -- ---- the three edges
 
@@ -367,14 +371,16 @@ module _ {ps : List Float} {sag beyond : Float} {v list count at ts : ℕ} {W : 
               found-is =
                   c .more
                   ∙ (λ i. f₂ + foundCount sag ps (names-y i) s 2 (list-y i))
-                  ∙ ap (λ (n : ℕ). n + foundCount sag ps (take v W) s 2 (take count (drop list W))) (b .more ∙ (λ i. f₁ + foundCount sag ps (names-x i) s 1 (list-x i)) ∙ ap (λ (n : ℕ). n + foundCount sag ps (take v W) s 1 (take count (drop list W))) (a .more ∙ first-sum));
+                  ∙ ap (λ (n : ℕ). n + foundCount sag ps (take v W) s 2 (take count (drop list W)))
+                  (b .more ∙ (λ i. f₁ + foundCount sag ps (names-x i) s 1 (list-x i)) ∙ ap (λ (n : ℕ). n + foundCount sag ps (take v W) s 1 (take count (drop list W))) (a .more ∙ first-sum));
               kept-are =
                   d .entries
                   ∙ ap keptEntries
                   (c .entries
                   ∙ (λ i. entriesOn sag ps (names-y i) s 2 (list-y i) (entriesIn Y at ts p₂))
                   ∙ ap (entriesOn sag ps (take v W) s 2 (take count (drop list W)))
-                  (b .entries ∙ (λ i. entriesOn sag ps (names-x i) s 1 (list-x i) (entriesIn X at ts p₁)) ∙ ap (entriesOn sag ps (take v W) s 1 (take count (drop list W))) (a .entries ∙ ap (entriesOn sag ps (take v W) s 0 (take count (drop list W))) (none-there W at ts))));
+                  (b .entries ∙ (λ i. entriesOn sag ps (names-x i) s 1 (list-x i) (entriesIn X at ts p₁))
+                  ∙ ap (entriesOn sag ps (take v W) s 1 (take count (drop list W))) (a .entries ∙ ap (entriesOn sag ps (take v W) s 0 (take count (drop list W))) (none-there W at ts))));
               few-found = omega (arith, a .bound, b .bound, c .bound);
               few = omega (arith, d .few, a .few, b .few, c .few);
               front = d .front ∙ c .front ∙ b .front ∙ a .front;

@@ -53,7 +53,8 @@ fn try_vertex(
     placed: usize,
 ) -> Tally
     requires { ⌜ TryReady (now positions) (f .sag) (f .beyond) (f .v) (f .list) (f .count) j e (f .at) (f .ts) found placed (now w) ⌝ }
-    ensures { λ r. ⌜ Tried (now (positions .entry)) (f .sag) s (f .v) (f .list) j e (f .at) (f .ts) found placed (now (w .entry)) (now (w .exit)) (r .found) (r .placed) ⌝ }
+    ensures { λ r. ⌜ Tried (now (positions .entry)) (f .sag) s (f .v) (f .list) j e (f .at) (f .ts) found placed (now (w .entry)) (now (w .exit)) (r .found)
+        (r .placed) ⌝ }
 {
     let g = listed(w, f.v, f.list, f.count, j);
     let r = patch_geometry::vertex(positions, 3 * g);
@@ -93,7 +94,8 @@ fn find_all(
     placed: usize,
 ) -> Tally
     requires { ⌜ FindOn (now positions) (f .sag) (f .beyond) (f .v) (f .list) (f .count) e (f .at) (f .ts) found placed (now w) ⌝ }
-    ensures { λ r. ⌜ FoundAll (now (positions .entry)) (f .sag) s (f .v) (f .list) (f .count) e (f .at) (f .ts) found placed (now (w .entry)) (now (w .exit)) (r .found) (r .placed) ⌝ }
+    ensures { λ r. ⌜ FoundAll (now (positions .entry)) (f .sag) s (f .v) (f .list) (f .count) e (f .at) (f .ts) found placed (now (w .entry)) (now (w .exit))
+        (r .found) (r .placed) ⌝ }
 {
     let side = side_of(s, e);
     let mut t = Tally {
@@ -116,10 +118,12 @@ fn find_all(
     t
 }
 
-// The points that split a triangle are found on its edges in turn, and those close to the one before them dropped; the answer is how many were found and are kept.
+// The points that split a triangle are found on its edges in turn, and those close to the one before them dropped; the answer is how many were found and are
+// kept.
 pub fn split_triangle(positions: &[f32], w: &mut [u64], s: Sides, f: Finder) -> Tally
     requires { ⌜ Splittable (now positions) (f .sag) (f .beyond) (f .v) (f .list) (f .count) (f .at) (f .ts) (now w) ⌝ }
-    ensures { λ r. ⌜ Split (now (positions .entry)) (f .sag) s (f .v) (f .list) (f .count) (f .at) (f .ts) (now (w .entry)) (now (w .exit)) (r .found) (r .placed) ⌝ }
+    ensures { λ r. ⌜ Split (now (positions .entry)) (f .sag) s (f .v) (f .list) (f .count) (f .at) (f .ts) (now (w .entry)) (now (w .exit)) (r .found)
+        (r .placed) ⌝ }
 {
     let one = find_all(positions, w, s, f, 0, 0, 0);
     let two = find_all(positions, w, s, f, 1, one.found, one.placed);

@@ -69,7 +69,8 @@ abbrev viewedPatch : List Float → List Float → ℕ → Row → List Float �
 viewedPatch ps ns base r qs ts vs = record { row = viewedRow r vs; positions = qs ++ rowPositions ps vs; normals = ts ++ rowNormals ns base vs; indices = rowIndices (r .vertices) vs }
 
 -- it is the definition's
-patch-is : {ps ns : List Float} {base : ℕ} (r : Row) (qs ts : List Float) (is : List ℕ) → PointsFrom ns base (r .vertices) ts → {ss : List SplitTriangle} {vs : List View} → AllSeen ps (r .vertices) ss vs
+patch-is : {ps ns : List Float} {base : ℕ} (r : Row) (qs ts : List Float) (is : List ℕ) → PointsFrom ns base (r .vertices) ts → {ss : List SplitTriangle} {vs : List View}
+    → AllSeen ps (r .vertices) ss vs
     → stitchedPatch (record { row = r; positions = qs; normals = ts; indices = is }) ss ≡ viewedPatch ps ns base r qs ts vs
 unfolding stitchedPatch
 patch-is r qs ts is from seen =
@@ -81,7 +82,8 @@ patch-is r qs ts is from seen =
       indices = row-indices (r .vertices) seen k;
     }
 
-module _ (sag : Float) {ps : List Float} {nms : List ℕ} {base n : ℕ} {qs : List Float} {ms : List ℕ} (from : PointsFrom ps base n qs) (named : NamesFrom nms base ms) (gs : List ℕ) (d : Distinct ps nms gs) where
+module _ (sag : Float) {ps : List Float} {nms : List ℕ} {base n : ℕ} {qs : List Float} {ms : List ℕ} (from : PointsFrom ps base n qs) (named : NamesFrom nms base ms) (gs : List ℕ)
+    (d : Distinct ps nms gs) where
   -- a row's triangles with their views
   row-seen : (opens : List Bool) (xs : List ℕ) → ((j : ℕ) → j < length xs → getD xs j 0 < n)
       → AllSeen ps n (map (splitTriangle sag (map (looseOf ps nms) gs)) (facetsOf qs ms opens (trianglesOf xs))) (rowViews sag ps nms gs base (take (length xs) (map flag opens)) (trianglesOf xs))
@@ -142,7 +144,8 @@ module _ (ps ns : List Float) where
       ap (λ (l : List Row). viewedRow r vs ∷ l) (patches-rows (base + r .vertices) rs (drop (3 * r .vertices) qs) (drop (3 * r .vertices) ts) vss)
 
   -- their positions
-  patches-positions : (base : ℕ) (rows : List Row) (qs ts : List Float) (vss : List (List View)) → flatMap (λ p. p .positions) (viewedPatches ps ns base rows qs ts vss) ≡ viewedPositions ps rows qs vss
+  patches-positions : (base : ℕ) (rows : List Row) (qs ts : List Float) (vss : List (List View))
+      → flatMap (λ p. p .positions) (viewedPatches ps ns base rows qs ts vss) ≡ viewedPositions ps rows qs vss
   unfolding flatMap viewedPatches viewedPositions
   patches-positions base [] qs ts vss = refl
   patches-positions base (r ∷ rs) qs ts [] = refl
@@ -175,7 +178,8 @@ module _ (sag : Float) (ps ns : List Float) (nms gs : List ℕ) (d : Distinct ps
       let xs = take (r .indices) is in
       let e : take (length xs) (map flag opens) ≡ take (r .indices) fs = λ k. take (long k) (sym (g .flags) k) in
       subst
-      (λ (l : List ℕ). AllSeen ps (r .vertices) (map (splitTriangle sag (map (looseOf ps nms) gs)) (facetsOf (take (3 * r .vertices) qs) ms opens (trianglesOf xs))) (rowViews sag ps nms gs base l (trianglesOf xs)))
+      (λ (l : List ℕ). AllSeen ps (r .vertices) (map (splitTriangle sag (map (looseOf ps nms) gs)) (facetsOf (take (3 * r .vertices) qs) ms opens (trianglesOf xs)))
+      (rowViews sag ps nms gs base l (trianglesOf xs)))
       e
       (row-seen sag (points-from ps base (r .vertices) qs (g .positions)) (names-from nms base ms (g .names)) gs d opens xs (inside-first r rs is h))
 
@@ -239,11 +243,13 @@ module _ (sag : Float) {table : List ℕ} {ps ns : List Float} {is nms gs flags 
   rows-are = ap (map (λ (p : Patch). p .row)) patches-are ∙ patches-rows ps ns 0 (rowsOf table) ps ns (bodyViews sag ps nms gs 0 flags (rowsOf table) is)
 
   -- So are its positions.
-  pub positions-are : flatMap (λ p. p .positions) (stitchedBody sag nms (patchesOf (rowsOf table) ps ns is) .patches) ≡ viewedPositions ps (rowsOf table) ps (bodyViews sag ps nms gs 0 flags (rowsOf table) is)
+  pub positions-are : flatMap (λ p. p .positions) (stitchedBody sag nms (patchesOf (rowsOf table) ps ns is) .patches)
+      ≡ viewedPositions ps (rowsOf table) ps (bodyViews sag ps nms gs 0 flags (rowsOf table) is)
   positions-are = ap (flatMap (λ (p : Patch). p .positions)) patches-are ∙ patches-positions ps ns 0 (rowsOf table) ps ns (bodyViews sag ps nms gs 0 flags (rowsOf table) is)
 
   -- So are its normals.
-  pub normals-are : flatMap (λ p. p .normals) (stitchedBody sag nms (patchesOf (rowsOf table) ps ns is) .patches) ≡ viewedNormals ns 0 (rowsOf table) ns (bodyViews sag ps nms gs 0 flags (rowsOf table) is)
+  pub normals-are : flatMap (λ p. p .normals) (stitchedBody sag nms (patchesOf (rowsOf table) ps ns is) .patches)
+      ≡ viewedNormals ns 0 (rowsOf table) ns (bodyViews sag ps nms gs 0 flags (rowsOf table) is)
   normals-are = ap (flatMap (λ (p : Patch). p .normals)) patches-are ∙ patches-normals ps ns 0 (rowsOf table) ps ns (bodyViews sag ps nms gs 0 flags (rowsOf table) is)
 
   -- So are its indices.

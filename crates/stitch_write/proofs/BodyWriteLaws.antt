@@ -22,7 +22,8 @@ use Rattle.stitch_count.specs.RowByRow.{viewsFrom, vertices-within, indices-wit
 use Rattle.edge_uses.specs.RowUses.{row-inside}
 
 -- the rows before row k are written: W became E, and R, P, N, I became S, Q, M, J, where vo vertices and io indices stand
-pub record WritingRows (table : List ℕ) (ps ns : List Float) (is : List ℕ) (sag : Float) (v list count at ts flags : ℕ) (W R : List ℕ) (P N : List Float) (I : List ℕ) (vo io base i k : ℕ) (E S : List ℕ) (Q M : List Float) (J : List ℕ) : Type 0 where
+pub record WritingRows (table : List ℕ) (ps ns : List Float) (is : List ℕ) (sag : Float) (v list count at ts flags : ℕ) (W R : List ℕ) (P N : List Float) (I : List ℕ) (vo io base i k : ℕ)
+    (E S : List ℕ) (Q M : List Float) (J : List ℕ) : Type 0 where
   pub low : k ≤ length (rowsOf table)
   pub at-v : base ≡ verticesBefore (rowsOf table) k
   pub at-i : i ≡ indicesBefore (rowsOf table) k
@@ -167,7 +168,8 @@ module _ {table : List ℕ} {ps ns : List Float} {is : List ℕ} {sag beyond : F
     unfolding viewedNormals
     normals-here =
         (λ j. viewedNormals ns base (rows-here table k more j) (drop (3 * base) ns) (views-first j))
-        ∙ (λ j. (take (3 * sym ev j) (drop (3 * base) ns) ++ rowNormals ns base vs) ++ viewedNormals ns (base + sym ev j) (drop (k + 1) (rowsOf table)) (drop (3 * sym ev j) (drop (3 * base) ns)) later)
+        ∙ (λ j. (take (3 * sym ev j) (drop (3 * base) ns) ++ rowNormals ns base vs)
+        ++ viewedNormals ns (base + sym ev j) (drop (k + 1) (rowsOf table)) (drop (3 * sym ev j) (drop (3 * base) ns)) later)
         ∙ ap (λ (xs : List Float). own-normals ++ viewedNormals ns (base + vertices) (drop (k + 1) (rowsOf table)) xs later) (rest-here ns)
 
     indices-here : viewedIndices (drop k (rowsOf table)) (viewsFrom ps is sag v list count flags base i (drop k (rowsOf table)) W)
@@ -307,8 +309,10 @@ module _ {table : List ℕ} {ps ns : List Float} {is : List ℕ} {sag beyond : F
   writing-all {vo} {io} {base} {i} {k} {m} {E} {S} {Q} {M} {J} c em l =
       record {
         rows-are = appended-written (c .rows-put) ∙ ap (λ (xs : List Row). written (tableOf xs) R) (whole (c .done-rows) _ (λ rows. viewedRows rows left) refl (c .rows-are));
-        positions-are = appended-written (c .positions-put) ∙ ap (λ (xs : List Float). written xs P) (whole (c .done-positions) _ (λ rows. viewedPositions ps rows (drop (3 * base) ps) left) refl (c .positions-are));
-        normals-are = appended-written (c .normals-put) ∙ ap (λ (xs : List Float). written xs N) (whole (c .done-normals) _ (λ rows. viewedNormals ns base rows (drop (3 * base) ns) left) refl (c .normals-are));
+        positions-are = appended-written (c .positions-put) ∙ ap (λ (xs : List Float). written xs P)
+            (whole (c .done-positions) _ (λ rows. viewedPositions ps rows (drop (3 * base) ps) left) refl (c .positions-are));
+        normals-are = appended-written (c .normals-put) ∙ ap (λ (xs : List Float). written xs N)
+            (whole (c .done-normals) _ (λ rows. viewedNormals ns base rows (drop (3 * base) ns) left) refl (c .normals-are));
         indices-are = appended-written (c .indices-put) ∙ ap (λ (xs : List ℕ). written xs I) (whole (c .done-indices) _ (λ rows. viewedIndices rows left) refl (c .indices-are));
         front = c .front;
         rest = c .rest;

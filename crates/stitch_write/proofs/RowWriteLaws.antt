@@ -82,7 +82,8 @@ indices-front-low next xs ys = omega (arith, ap length (indices-append next xs y
 -- ---- the row
 
 -- the triangles before index k are written behind the row's own vertices: the slices W, P, N, I became E, P', N', I'
-pub record Writing (ps ns : List Float) (is : List ℕ) (sag : Float) (v list count at ts flags base vertices from to vo io : ℕ) (W : List ℕ) (P N : List Float) (I : List ℕ) (E : List ℕ) (P' N' : List Float) (I' : List ℕ)
+pub record Writing (ps ns : List Float) (is : List ℕ) (sag : Float) (v list count at ts flags base vertices from to vo io : ℕ) (W : List ℕ) (P N : List Float) (I : List ℕ) (E : List ℕ)
+    (P' N' : List Float) (I' : List ℕ)
     (vertices' indices' k : ℕ) : Type 0 where
   pub done : List View
   pub whole : done ++ viewsIn ps is sag v list count flags base k to W ≡ viewsIn ps is sag v list count flags base from to W

@@ -121,7 +121,8 @@ module _ (sag : Float) (ps : List Float) (nms gs : List ℕ) where
       let as-long : length fs ≡ n = length-take-le n flags (omega arith) in
       let whole : length xs % 3 ≡ 0 = ap (λ (m : ℕ). m % 3) long ∙ threes 0 (omega arith) in
       let here = row-length sag ps nms gs base (r .vertices) fs xs (omega arith) whole in
-      let rest = viewed-indices-length (base + r .vertices) (drop n flags) rs (drop n is) (omega (arith, length-drop n is)) (omega (arith, length-drop n is, length-drop n flags)) (λ k h. threes (suc k) (omega arith)) in
+      let rest = viewed-indices-length (base + r .vertices) (drop n flags) rs (drop n is) (omega (arith, length-drop n is)) (omega (arith, length-drop n is, length-drop n flags))
+      (λ k h. threes (suc k) (omega arith)) in
       omega (arith, length-append (rowIndices (r .vertices) vs) (viewedIndices rs vss))
 
   -- So its rows say.

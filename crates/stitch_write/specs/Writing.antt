@@ -32,7 +32,8 @@ pub record TriangleWritable (ps ns : List Float) (is : List ℕ) (sag beyond : F
   pub room-indices : io + 3 * length (keptAt ps is sag v list count flags base k W) + 3 ≤ length I
 
 -- what it leaves: the new vertices and the fan behind what was written, where both end now; only entries were written to the work area
-pub record TriangleWritten (ps ns : List Float) (is : List ℕ) (sag : Float) (v list count at ts flags base k next vo io : ℕ) (W E : List ℕ) (P P' N N' : List Float) (I I' : List ℕ) (vertices indices : ℕ) : Type 0 where
+pub record TriangleWritten (ps ns : List Float) (is : List ℕ) (sag : Float) (v list count at ts flags base k next vo io : ℕ) (W E : List ℕ) (P P' N N' : List Float) (I I' : List ℕ)
+    (vertices indices : ℕ) : Type 0 where
   pub positions : Appended (3 * vo) (newPositions ps (keptAt ps is sag v list count flags base k W)) P P'
   pub normals : Appended (3 * vo) (newNormals ns (base + getD is k 0) (base + getD is (k + 1) 0) (base + getD is (k + 2) 0) (keptAt ps is sag v list count flags base k W)) N N'
   pub indices-are : Appended io (fanAt is k next (keptAt ps is sag v list count flags base k W)) I I'
@@ -58,7 +59,8 @@ pub record RowWritable (ps ns : List Float) (is : List ℕ) (sag beyond : Float)
   pub room-indices : io + length (rowIndices vertices (viewsIn ps is sag v list count flags base from to W)) ≤ length I
 
 -- what it leaves: the row's own vertices, its new ones and its indices behind what was written; only entries were written to the work area
-pub record RowWritten (ps ns : List Float) (is : List ℕ) (sag : Float) (v list count at ts flags base vertices from to vo io : ℕ) (W E : List ℕ) (P P' N N' : List Float) (I I' : List ℕ) (vertices' indices' : ℕ) : Type 0 where
+pub record RowWritten (ps ns : List Float) (is : List ℕ) (sag : Float) (v list count at ts flags base vertices from to vo io : ℕ) (W E : List ℕ) (P P' N N' : List Float) (I I' : List ℕ)
+    (vertices' indices' : ℕ) : Type 0 where
   pub positions : Appended (3 * vo) (take (3 * vertices) (drop (3 * base) ps) ++ rowPositions ps (viewsIn ps is sag v list count flags base from to W)) P P'
   pub normals : Appended (3 * vo) (take (3 * vertices) (drop (3 * base) ns) ++ rowNormals ns base (viewsIn ps is sag v list count flags base from to W)) N N'
   pub indices-are : Appended io (rowIndices vertices (viewsIn ps is sag v list count flags base from to W)) I I'

@@ -32,7 +32,8 @@ fn put_row(
 pub fn put_counts(rows: &[u32], k: usize, vertices: u32, indices: u32, out: &mut [u32])
     requires { ⌜ k < length (rowsOf (now rows)) ⌝ }
     requires { ⌜ 5 * k + 5 ≤ length (now out) ⌝ }
-    ensures { λ _. ⌜ Appended (5 * k) (rowAt (now (rows .entry)) k .shell ∷ rowAt (now (rows .entry)) k .face ∷ rowAt (now (rows .entry)) k .outcome ∷ vertices ∷ indices ∷ [])
+    ensures { λ _. ⌜ Appended (5 * k) (rowAt (now (rows .entry)) k .shell ∷ rowAt (now (rows .entry)) k .face ∷ rowAt (now (rows .entry)) k .outcome ∷ vertices
+        ∷ indices ∷ [])
         (now (out .entry)) (now (out .exit)) ⌝ }
 {
     let shell = body_rows::shell(rows, k);

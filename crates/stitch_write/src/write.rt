@@ -13,7 +13,8 @@ pub struct Ends {
     pub indices: usize,
 }
 
-// The new vertices and the fan of the triangle at index k are written: vertices from vo on, the first of which has the number `next` in its patch, indices from io on.
+// The new vertices and the fan of the triangle at index k are written: vertices from vo on, the first of which has the number `next` in its patch, indices from
+// io on.
 fn write_triangle(
     positions: &[f32],
     normals: &[f32],
@@ -30,9 +31,11 @@ fn write_triangle(
     vo: usize,
     io: usize,
 ) -> Ends
-    requires { ⌜ TriangleWritable (now positions) (now normals) (now indices) (f .sag) (f .beyond) n (f .v) (f .list) (f .count) (f .at) (f .ts) (f .flags) base k next vo io
+    requires { ⌜ TriangleWritable (now positions) (now normals) (now indices) (f .sag) (f .beyond) n (f .v) (f .list) (f .count) (f .at) (f .ts)
+        (f .flags) base k next vo io
         (now w) (now «out_positions») (now «out_normals») (now «out_indices») ⌝ }
-    ensures { λ r. ⌜ TriangleWritten (now (positions .entry)) (now (normals .entry)) (now (indices .entry)) (f .sag) (f .v) (f .list) (f .count) (f .at) (f .ts) (f .flags) base k next vo io
+    ensures { λ r. ⌜ TriangleWritten (now (positions .entry)) (now (normals .entry)) (now (indices .entry)) (f .sag) (f .v) (f .list) (f .count) (f .at) (f .ts)
+        (f .flags) base k next vo io
         (now (w .entry)) (now (w .exit)) (now («out_positions» .entry)) (now («out_positions» .exit)) (now («out_normals» .entry)) (now («out_normals» .exit))
         (now («out_indices» .entry)) (now («out_indices» .exit)) (r .vertices) (r .indices) ⌝ }
 {
@@ -90,9 +93,11 @@ fn write_row(
     vo: usize,
     io: usize,
 ) -> Ends
-    requires { ⌜ RowWritable (now positions) (now normals) (now indices) (f .sag) (f .beyond) n (f .v) (f .list) (f .count) (f .at) (f .ts) (f .flags) base vertices from to vo io
+    requires { ⌜ RowWritable (now positions) (now normals) (now indices) (f .sag) (f .beyond) n (f .v) (f .list) (f .count) (f .at) (f .ts)
+        (f .flags) base vertices from to vo io
         (now w) (now «out_positions») (now «out_normals») (now «out_indices») ⌝ }
-    ensures { λ r. ⌜ RowWritten (now (positions .entry)) (now (normals .entry)) (now (indices .entry)) (f .sag) (f .v) (f .list) (f .count) (f .at) (f .ts) (f .flags) base vertices from to vo io
+    ensures { λ r. ⌜ RowWritten (now (positions .entry)) (now (normals .entry)) (now (indices .entry)) (f .sag) (f .v) (f .list) (f .count) (f .at) (f .ts)
+        (f .flags) base vertices from to vo io
         (now (w .entry)) (now (w .exit)) (now («out_positions» .entry)) (now («out_positions» .exit)) (now («out_normals» .entry)) (now («out_normals» .exit))
         (now («out_indices» .entry)) (now («out_indices» .exit)) (r .vertices) (r .indices) ⌝ }
 {
@@ -143,7 +148,8 @@ pub fn write_body(
 )
     requires { ⌜ BodyWritable (now rows) (now positions) (now normals) (now indices) (f .sag) (f .beyond) (f .v) (f .list) (f .count) (f .at) (f .ts) (f .flags)
         (now w) (now «out_rows») (now «out_positions») (now «out_normals») (now «out_indices») ⌝ }
-    ensures { λ _. ⌜ BodyWritten (now (rows .entry)) (now (positions .entry)) (now (normals .entry)) (now (indices .entry)) (f .sag) (f .v) (f .list) (f .count) (f .at) (f .ts) (f .flags)
+    ensures { λ _. ⌜ BodyWritten (now (rows .entry)) (now (positions .entry)) (now (normals .entry)) (now (indices .entry)) (f .sag) (f .v) (f .list) (f .count)
+        (f .at) (f .ts) (f .flags)
         (now (w .entry)) (now (w .exit)) (now («out_rows» .entry)) (now («out_rows» .exit)) (now («out_positions» .entry)) (now («out_positions» .exit))
         (now («out_normals» .entry)) (now («out_normals» .exit)) (now («out_indices» .entry)) (now («out_indices» .exit)) ⌝ }
 {

@@ -26,7 +26,8 @@ use Rattle.turn_accepted.proofs.Normals.{walks-any-normals}
 use Rattle.turn_colouring.specs.Coloured.{Coloured}
 use Rattle.turn_definition.specs.Answers.{leftDone, turnDone}
 
-module _ {table : List ℕ} {ps ns : List Float} {is : List ℕ} (W : List ℕ) {v m n : ℕ} (p : Passed table ps ns is (length W)) (ev : Total (allVertices (rowsOf table)) v) (em : m ≡ length (rowsOf table)) (en : n ≡ length is) where
+module _ {table : List ℕ} {ps ns : List Float} {is : List ℕ} (W : List ℕ) {v m n : ℕ} (p : Passed table ps ns is (length W)) (ev : Total (allVertices (rowsOf table)) v)
+    (em : m ≡ length (rowsOf table)) (en : n ≡ length is) where
   needed : workNeeded (rowsOf table) ≡ 16 * length is + 16 * m + 4 * v
   needed = omega (arith, words-are W p ev em en)
 

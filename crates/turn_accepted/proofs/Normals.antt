@@ -24,6 +24,8 @@ unfolding walksOf
 walks-any-normals rows ps ns is points =
     let body = patchesOf rows ps ns is in
     ap (λ (b : List Patch). walksOf b points) (sym (bodies-bare rows ps ns is))
-    ∙ ap (λ (us : List Use). walksFrom (map bare body) (pairsOf us) 0 (map bare body) (record { groups = []; colours = replicate (length (map bare body)) unvisited; against = 0 })) (uses-bare (λ r. r .shell) 0 points body)
-    ∙ ap (λ (m : ℕ). walksFrom (map bare body) (pairsOf (usesFrom (λ r. r .shell) 0 points body)) 0 (map bare body) (record { groups = []; colours = replicate m unvisited; against = 0 })) (length-map body bare)
+    ∙ ap (λ (us : List Use). walksFrom (map bare body) (pairsOf us) 0 (map bare body) (record { groups = []; colours = replicate (length (map bare body)) unvisited; against = 0 }))
+    (uses-bare (λ r. r .shell) 0 points body)
+    ∙ ap (λ (m : ℕ). walksFrom (map bare body) (pairsOf (usesFrom (λ r. r .shell) 0 points body)) 0 (map bare body) (record { groups = []; colours = replicate m unvisited; against = 0 }))
+    (length-map body bare)
     ∙ walks-bare body (pairsOf (usesFrom (λ r. r .shell) 0 points body)) 0 body (record { groups = []; colours = replicate (length body) unvisited; against = 0 })

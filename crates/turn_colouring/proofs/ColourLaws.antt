@@ -21,7 +21,8 @@ use Rattle.turn_definition.specs.Orient.{walksOf}
 use Rattle.turn_groups.specs.Walked.{walksOver, Walkable, GroupsWalked}
 use Rattle.turn_colouring.specs.Coloured.{Coloured}
 
-module _ {table : List ℕ} {ps : List Float} {is W : List ℕ} {v m n at end : ℕ} (g : AreaReady table ps is W v m) (en : n ≡ length is) (ea : at ≡ 4 * v + 4 * m + n) (ee : end ≡ at + 5 * n + 5 * m) {X : List ℕ} (d : Laid table ps is v m W X) (long : length X ≡ length W) where
+module _ {table : List ℕ} {ps : List Float} {is W : List ℕ} {v m n at end : ℕ} (g : AreaReady table ps is W v m) (en : n ≡ length is) (ea : at ≡ 4 * v + 4 * m + n)
+    (ee : end ≡ at + 5 * n + 5 * m) {X : List ℕ} (d : Laid table ps is v m W X) (long : length X ≡ length W) where
   -- the part that is lent holds the uses
   abbrev Part : List ℕ
   Part = midOf at (end - at) X

@@ -13,5 +13,6 @@ use Rattle.turn_definition.specs.Orient.{walksOf, turnBody, refuseTurn, 
 
 -- every definition that computes
 unfoldable pub evaluation : ℕ
-unfolding Points.evaluation Refusals.evaluation Measures.evaluation Edges.evaluation Walk.evaluation pairOf pairsOf patchAt volumeFrom indicesOn inverts addGroup walksFrom swapped turnedPatch turnedBody walksOf turnBody refuseTurn turnOf
+unfolding Points.evaluation Refusals.evaluation Measures.evaluation Edges.evaluation Walk.evaluation pairOf pairsOf patchAt volumeFrom indicesOn inverts addGroup walksFrom swapped turnedPatch
+    turnedBody walksOf turnBody refuseTurn turnOf
 evaluation = 0

@@ -19,7 +19,8 @@ use Rattle.turn_inversion.specs.Measured.{vertexBasesAt, indexBasesAt, Measurab
 use Rattle.turn_groups.specs.Settled.{Judgeable, Judged, Settleable, Settled}
 
 -- what measuring asks is kept
-pub measurable-kept : {table : List ℕ} {ps : List Float} {is W E : List ℕ} {n m : ℕ} → Measurable table ps is W n m → drop (5 * n + 3 * m) E ≡ drop (5 * n + 3 * m) W → length E ≡ length W → Measurable table ps is E n m
+pub measurable-kept : {table : List ℕ} {ps : List Float} {is W E : List ℕ} {n m : ℕ} → Measurable table ps is W n m → drop (5 * n + 3 * m) E ≡ drop (5 * n + 3 * m) W → length E ≡ length W
+    → Measurable table ps is E n m
 measurable-kept {table} {ps} {is} {W} {E} {n} {m} g e l =
     record {
       rows = g .rows;
@@ -62,7 +63,8 @@ module _ {table : List ℕ} {ps : List Float} {is W X : List ℕ} {n m root a fo
         colours =
             j .colours
             ∙ ap (λ q. cond (inverts (shapes table ps is) (coloursOf n m X) q (volumeFrom (shapes table ps is) (coloursOf n m X) zero64 q)) (inverted q (coloursOf n m X)) (coloursOf n m X)) (g .rows)
-            ∙ ap (λ c. cond (inverts (shapes table ps is) c (walkFrom n m root a W .rows) (volumeFrom (shapes table ps is) c zero64 (walkFrom n m root a W .rows))) (inverted (walkFrom n m root a W .rows) c) c) (g .colours);
+            ∙ ap (λ c. cond (inverts (shapes table ps is) c (walkFrom n m root a W .rows) (volumeFrom (shapes table ps is) c zero64 (walkFrom n m root a W .rows)))
+            (inverted (walkFrom n m root a W .rows) c) c) (g .colours);
         total = g .total;
         known = j .known;
         few = g .few;

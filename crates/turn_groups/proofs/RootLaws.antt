@@ -124,8 +124,10 @@ module _ {table : List ℕ} {ps : List Float} {is W : List ℕ} {n m k a : ℕ} 
       record {
         after = λ g. addGroup (shapes table ps is) g (walkFrom n m k a W) .groups;
         goes-on = λ g.
-            (λ i. walksFrom (shapes table ps is) (pairsBy (usesOf n W)) (k + 1) (drop (k + 1) (shapes table ps is)) (record { groups = addGroup (shapes table ps is) g (walkFrom n m k a W) .groups; colours = s .colours i; against = s .total i }))
-            ∙ ap (λ j. walksFrom (shapes table ps is) (pairsBy (usesOf n W)) (k + 1) (drop (k + 1) (shapes table ps is)) (addGroup (shapes table ps is) g (walk (pairsBy (usesOf n W)) j 0 (begun n m k a W)))) (sym (patches-many (r .given)))
+            (λ i. walksFrom (shapes table ps is) (pairsBy (usesOf n W)) (k + 1) (drop (k + 1) (shapes table ps is))
+            (record { groups = addGroup (shapes table ps is) g (walkFrom n m k a W) .groups; colours = s .colours i; against = s .total i }))
+            ∙ ap (λ j. walksFrom (shapes table ps is) (pairsBy (usesOf n W)) (k + 1) (drop (k + 1) (shapes table ps is))
+            (addGroup (shapes table ps is) g (walk (pairsBy (usesOf n W)) j 0 (begun n m k a W)))) (sym (patches-many (r .given)))
             ∙ take-root (shapes table ps is) (pairsBy (usesOf n W)) k (record { groups = g; colours = coloursOf n m W; against = a }) low (λ q. y (e ∙ sym held ∙ q)) (sym f ∙ z);
         known = s .known;
         few = s .few;
@@ -137,7 +139,8 @@ module _ {table : List ℕ} {ps : List Float} {is W : List ℕ} {n m k a : ℕ} 
 -- the rows before k are done: the definition's walks go on at row k with what stands in E
 pub record Walking (table : List ℕ) (ps : List Float) (is : List ℕ) (n m k : ℕ) (W E : List ℕ) (against : ℕ) : Type 0 where
   pub groups : List Group
-  pub goes-on : walksFrom (shapes table ps is) (pairsBy (usesOf n W)) k (drop k (shapes table ps is)) (record { groups = groups; colours = coloursOf n m E; against = against }) ≡ walksOver (shapes table ps is) (pairsBy (usesOf n W))
+  pub goes-on : walksFrom (shapes table ps is) (pairsBy (usesOf n W)) k (drop k (shapes table ps is)) (record { groups = groups; colours = coloursOf n m E; against = against })
+      ≡ walksOver (shapes table ps is) (pairsBy (usesOf n W))
   pub given : Measurable table ps is E n m
   pub paired : Paired n m E
   pub known : Colours n m E
@@ -158,7 +161,8 @@ module _ {table : List ℕ} {ps : List Float} {is W : List ℕ} {n m : ℕ} (r :
   walking-none =
       record {
         groups = [];
-        goes-on = ap (λ c. walksFrom (shapes table ps is) (pairsBy (usesOf n W)) 0 (shapes table ps is) (record { groups = []; colours = c; against = 0 })) (r .colours ∙ ap (λ j. replicate j unvisited) (sym (patches-many (r .given))));
+        goes-on = ap (λ c. walksFrom (shapes table ps is) (pairsBy (usesOf n W)) 0 (shapes table ps is) (record { groups = []; colours = c; against = 0 }))
+            (r .colours ∙ ap (λ j. replicate j unvisited) (sym (patches-many (r .given))));
         given = r .given;
         paired = r .paired;
         known = r .known;
@@ -186,7 +190,8 @@ module _ {table : List ℕ} {ps : List Float} {is W : List ℕ} {n m : ℕ} (r :
         record {
           groups = s .after (w .groups);
           goes-on =
-              ap (λ (u : Uses). walksFrom (shapes table ps is) (pairsBy u) (k + 1) (drop (k + 1) (shapes table ps is)) (record { groups = s .after (w .groups); colours = coloursOf n m F; against = more })) (sym (w .uses))
+              ap (λ (u : Uses). walksFrom (shapes table ps is) (pairsBy u) (k + 1) (drop (k + 1) (shapes table ps is))
+              (record { groups = s .after (w .groups); colours = coloursOf n m F; against = more })) (sym (w .uses))
               ∙ s .goes-on (w .groups)
               ∙ ap (λ (u : Uses). walksFrom (shapes table ps is) (pairsBy u) k (drop k (shapes table ps is)) (record { groups = w .groups; colours = coloursOf n m E; against = against })) (w .uses)
               ∙ w .goes-on;
@@ -204,7 +209,8 @@ module _ {table : List ℕ} {ps : List Float} {is W : List ℕ} {n m : ℕ} (r :
     unfolding walksFrom
     walking-all l =
         let q : record { groups = w .groups; colours = coloursOf n m E; against = against } ≡ walksOver (shapes table ps is) (pairsBy (usesOf n W)) =
-        ap (λ p. walksFrom (shapes table ps is) (pairsBy (usesOf n W)) k p (record { groups = w .groups; colours = coloursOf n m E; against = against })) (sym (drop-of-length-le (shapes table ps is) {i = k} (omega (arith, patches-many (r .given))))) ∙ w .goes-on in
+        ap (λ p. walksFrom (shapes table ps is) (pairsBy (usesOf n W)) k p (record { groups = w .groups; colours = coloursOf n m E; against = against }))
+        (sym (drop-of-length-le (shapes table ps is) {i = k} (omega (arith, patches-many (r .given))))) ∙ w .goes-on in
         record { colours = ap (λ (s : Walks). s .colours) q; total = ap (λ (s : Walks). s .against) q }
 
 -- ---- where rows start
@@ -243,7 +249,8 @@ module _ {table W ys : List ℕ} {n m : ℕ} (r : BasesReady table W n m) (v : S
 
 -- ---- the stages
 
-module _ {table : List ℕ} {ps : List Float} {is W X Y Z : List ℕ} {n m : ℕ} (g : Walkable table ps is W n m) (c : Chained n m 0 W X) (ex : length X ≡ length W) (u : Uncoloured n m X Y) (ey : length Y ≡ length X) (b : BasesLaid table n m Y Z) where
+module _ {table : List ℕ} {ps : List Float} {is W X Y Z : List ℕ} {n m : ℕ} (g : Walkable table ps is W n m) (c : Chained n m 0 W X) (ex : length X ≡ length W) (u : Uncoloured n m X Y)
+    (ey : length Y ≡ length X) (b : BasesLaid table n m Y Z) where
   -- the words of the pairs are as they were
   laid-front : take (queueAt n m) Z ≡ take (queueAt n m) Y
   laid-front = front-less (queueAt n m) (areaEnd n m) Y Z (b .front) (omega arith)

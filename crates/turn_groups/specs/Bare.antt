@@ -26,7 +26,8 @@ bodies-bare [] ps ns is = refl
 bodies-bare (r ∷ rs) ps ns is =
     (λ i. record { row = r; positions = take (3 * r .vertices) ps; normals = sym (take-nil {A = Float} (3 * r .vertices)) i; indices = take (r .indices) is }
     ∷ bodies-bare rs (drop (3 * r .vertices) ps) (drop (3 * r .vertices) ns) (drop (r .indices) is) i)
-    ∙ ap (λ (l : List Float). record { row = r; positions = take (3 * r .vertices) ps; normals = take (3 * r .vertices) []; indices = take (r .indices) is } ∷ patchesOf rs (drop (3 * r .vertices) ps) l (drop (r .indices) is)) (sym (drop-nil {A = Float} (3 * r .vertices)))
+    ∙ ap (λ (l : List Float). record { row = r; positions = take (3 * r .vertices) ps; normals = take (3 * r .vertices) []; indices = take (r .indices) is }
+    ∷ patchesOf rs (drop (3 * r .vertices) ps) l (drop (r .indices) is)) (sym (drop-nil {A = Float} (3 * r .vertices)))
 
 -- the patch of a row
 patch-bare : (patches : List Patch) (n : ℕ) → patchAt (map bare patches) n ≡ bare (patchAt patches n)
@@ -61,7 +62,8 @@ group-bare : (patches : List Patch) (groups : List Group) (w : Walk) → addGrou
 unfolding addGroup
 group-bare patches groups w =
     let v = volume-bare patches (w .colours) zero64 (w .rows) in
-    let b : inverts (map bare patches) (w .colours) (w .rows) (volumeFrom (map bare patches) (w .colours) zero64 (w .rows)) ≡ inverts patches (w .colours) (w .rows) (volumeFrom patches (w .colours) zero64 (w .rows)) =
+    let b : inverts (map bare patches) (w .colours) (w .rows) (volumeFrom (map bare patches) (w .colours) zero64 (w .rows))
+    ≡ inverts patches (w .colours) (w .rows) (volumeFrom patches (w .colours) zero64 (w .rows)) =
     inverts-bare patches (w .colours) (w .rows) (volumeFrom (map bare patches) (w .colours) zero64 (w .rows)) ∙ ap (inverts patches (w .colours) (w .rows)) v in
     λ i. record {
       groups = groups ++ record { rows = w .rows; colours = map (λ n. getD (w .colours) n unvisited) (w .rows); volume = v i } ∷ [];
@@ -80,7 +82,11 @@ walks-bare patches pairs n (p ∷ rest) s = go (eqb (length (p .indices)) 0 || n
 
     go : (b : Bool) → ((t : Walks) → walksFrom (map bare patches) pairs (suc n) (map bare rest) t ≡ walksFrom patches pairs (suc n) rest t)
         → _≡_ {A = Walks}
-        (elim b [ true ↦ walksFrom (map bare patches) pairs (suc n) (map bare rest) s | false ↦ walksFrom (map bare patches) pairs (suc n) (map bare rest) (addGroup (map bare patches) (s .groups) (from (length (map bare patches)))) ])
+        (elim b [
+          | true ↦ walksFrom (map bare patches) pairs (suc n) (map bare rest) s
+          | false ↦ walksFrom (map bare patches) pairs (suc n) (map bare rest)
+              (addGroup (map bare patches) (s .groups) (from (length (map bare patches))))
+        ])
         (elim b [ true ↦ walksFrom patches pairs (suc n) rest s | false ↦ walksFrom patches pairs (suc n) rest (addGroup patches (s .groups) (from (length patches))) ])
     go true ih = ih s
     go false ih =

@@ -44,7 +44,8 @@ fn settle_group(
     r.against
 }
 
-// Row `k`, if it takes part and no walk has met it, is the root of a group, which is settled after `against` contradictions; the answer is the contradictions then.
+// Row `k`, if it takes part and no walk has met it, is the root of a group, which is settled after `against` contradictions; the answer is the contradictions
+// then.
 fn settle_root(
     rows: &[u32],
     positions: &[f32],
@@ -102,7 +103,8 @@ fn lay_bases(rows: &[u32], w: &mut [u64], n: usize, m: usize)
     body_rows::index_bases(rows, &mut w[indices..end]);
 }
 
-// The uses that stand in the work area are paired and the groups of all rows walked and settled; the answer is how often a pair that contradicts colours was met.
+// The uses that stand in the work area are paired and the groups of all rows walked and settled; the answer is how often a pair that contradicts colours was
+// met.
 pub fn walk_groups(
     rows: &[u32],
     positions: &[f32],

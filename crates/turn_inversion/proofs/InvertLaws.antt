@@ -47,6 +47,7 @@ module _ (patches : List Patch) (colours queue : List ℕ) {v u : Float} (e : v 
   unfolding inverts
   inverts-above h k = rw (sym e, h, k)
 
-  pub inverts-zero : {a b : ℕ} → lt v zero64 ≡ false → lt zero64 v ≡ false → a ≡ indicesOn patches colours plain queue → b ≡ indicesOn patches colours coloured queue → ltb a b ≡ inverts patches colours queue u
+  pub inverts-zero : {a b : ℕ} → lt v zero64 ≡ false → lt zero64 v ≡ false → a ≡ indicesOn patches colours plain queue → b ≡ indicesOn patches colours coloured queue
+      → ltb a b ≡ inverts patches colours queue u
   unfolding inverts
   inverts-zero {a} {b} h k ea eb = rw (sym e, h, k, ea, eb)

@@ -23,7 +23,8 @@ use Rattle.turn_inversion.specs.RowPatch.{row-in, v-is, i-is, v-room, pa
 
 -- ---- one row
 
-module _ {table : List ℕ} {ps : List Float} {is W : List ℕ} {n m x : ℕ} (r : RowMeasurable table ps is W n m x) {vs count : ℕ} (evs : vs ≡ rowAt table x .vertices) (ecount : count ≡ rowAt table x .indices) where
+module _ {table : List ℕ} {ps : List Float} {is W : List ℕ} {n m x : ℕ} (r : RowMeasurable table ps is W n m x) {vs count : ℕ} (evs : vs ≡ rowAt table x .vertices)
+    (ecount : count ≡ rowAt table x .indices) where
   abbrev v : ℕ
   v = 3 * getD W (vertexBasesAt n m + x) 0
 
@@ -48,7 +49,8 @@ module _ {table : List ℕ} {ps : List Float} {is W : List ℕ} {n m x : ℕ} (r
       let b : i ≡ indicesBefore (rowsOf table) x = omega (arith, i-is r) in
       ap (λ k. take k (drop i is)) a ∙ ap (λ k. take (rowAt table x .indices) (drop k is)) b ∙ sym (ap (λ (p : Patch). p .indices) (patch-is r))
 
-  pub row-within : Within (take (3 * getD W (vertexBasesAt n m + x) 0 + 3 * vs - 3 * getD W (vertexBasesAt n m + x) 0) (drop (3 * getD W (vertexBasesAt n m + x) 0) ps)) (take (getD W (indexBasesAt n m + x) 0 + count - getD W (indexBasesAt n m + x) 0) (drop (getD W (indexBasesAt n m + x) 0) is))
+  pub row-within : Within (take (3 * getD W (vertexBasesAt n m + x) 0 + 3 * vs - 3 * getD W (vertexBasesAt n m + x) 0) (drop (3 * getD W (vertexBasesAt n m + x) 0) ps))
+      (take (getD W (indexBasesAt n m + x) 0 + count - getD W (indexBasesAt n m + x) 0) (drop (getD W (indexBasesAt n m + x) 0) is))
   row-within k h =
       let a : vend - v ≡ 3 * rowAt table x .vertices = omega arith in
       let b : iend - i ≡ rowAt table x .indices = omega arith in
@@ -59,7 +61,8 @@ module _ {table : List ℕ} {ps : List Float} {is W : List ℕ} {n m x : ℕ} (r
       let e : getD (take (iend - i) (drop i is)) k 0 ≡ getD is (i + k) 0 = getD-take (iend - i) (drop i is) k 0 (omega arith) ∙ getD-drop i is k 0 in
       omega (arith, l, a, low, e)
 
-  pub row-volume-is : (flip : Bool) {z : Float} → z ≡ patchVolume (take (3 * getD W (vertexBasesAt n m + x) 0 + 3 * vs - 3 * getD W (vertexBasesAt n m + x) 0) (drop (3 * getD W (vertexBasesAt n m + x) 0) ps)) (take (getD W (indexBasesAt n m + x) 0 + count - getD W (indexBasesAt n m + x) 0) (drop (getD W (indexBasesAt n m + x) 0) is)) flip
+  pub row-volume-is : (flip : Bool) {z : Float} → z ≡ patchVolume (take (3 * getD W (vertexBasesAt n m + x) 0 + 3 * vs - 3 * getD W (vertexBasesAt n m + x) 0)
+      (drop (3 * getD W (vertexBasesAt n m + x) 0) ps)) (take (getD W (indexBasesAt n m + x) 0 + count - getD W (indexBasesAt n m + x) 0) (drop (getD W (indexBasesAt n m + x) 0) is)) flip
       → z ≡ patchVolume (patchAt (shapes table ps is) x .positions) (patchAt (shapes table ps is) x .indices) flip
   row-volume-is flip {z} e = e ∙ ap (λ q. patchVolume q (take (iend - i) (drop i is)) flip) positions-are ∙ ap (λ q. patchVolume (patchAt (shapes table ps is) x .positions) q flip) indices-are
 
@@ -121,7 +124,8 @@ pub record Weighing (table colours queue : List ℕ) (c k sum : ℕ) : Type 0 wh
 pub weighing-none : (table colours queue : List ℕ) (c : ℕ) → Weighing table colours queue c 0 0
 weighing-none table colours queue c = record { rest = omega arith; low = omega arith }
 
-pub weighing-more : {table colours queue : List ℕ} {c k x y r sum : ℕ} → Weighing table colours queue c k sum → drop k queue ≡ y ∷ drop (k + 1) queue → x ≡ y → r ≡ weightOf table colours c x → r < 4294967296
+pub weighing-more : {table colours queue : List ℕ} {c k x y r sum : ℕ} → Weighing table colours queue c k sum → drop k queue ≡ y ∷ drop (k + 1) queue → x ≡ y → r ≡ weightOf table colours c x
+    → r < 4294967296
     → Weighing table colours queue c (k + 1) (sum + r)
 unfolding sumOf
 weighing-more {table} {colours} {queue} {c} {k} {x} {y} {r} {sum} w e ex er l =

@@ -42,7 +42,8 @@ pub fn group_volume(
     t: usize,
 ) -> f64
     requires { ⌜ GroupMeasurable (now rows) (now positions) (now indices) (now w) n m t ⌝ }
-    ensures { λ r. ⌜ r ≡ volumeFrom (shapes (now (rows .entry)) (now (positions .entry)) (now (indices .entry))) (coloursOf n m (now (w .entry))) zero64 (queueOf n m t (now (w .entry))) ⌝ }
+    ensures { λ r. ⌜ r ≡ volumeFrom (shapes (now (rows .entry)) (now (positions .entry)) (now (indices .entry))) (coloursOf n m (now (w .entry))) zero64
+        (queueOf n m t (now (w .entry))) ⌝ }
 {
     let mut v = 0.0f64;
     let mut k = 0usize;
@@ -92,8 +93,10 @@ pub fn inverts_group(
     t: usize,
 ) -> bool
     requires { ⌜ GroupMeasurable (now rows) (now positions) (now indices) (now w) n m t ⌝ }
-    ensures { λ r. ⌜ r ≡ inverts (shapes (now (rows .entry)) (now (positions .entry)) (now (indices .entry))) (coloursOf n m (now (w .entry))) (queueOf n m t (now (w .entry)))
-        (volumeFrom (shapes (now (rows .entry)) (now (positions .entry)) (now (indices .entry))) (coloursOf n m (now (w .entry))) zero64 (queueOf n m t (now (w .entry)))) ⌝ }
+    ensures { λ r. ⌜ r ≡ inverts (shapes (now (rows .entry)) (now (positions .entry)) (now (indices .entry))) (coloursOf n m (now (w .entry)))
+        (queueOf n m t (now (w .entry)))
+        (volumeFrom (shapes (now (rows .entry)) (now (positions .entry)) (now (indices .entry))) (coloursOf n m (now (w .entry))) zero64
+        (queueOf n m t (now (w .entry)))) ⌝ }
 {
     let v = group_volume(rows, positions, indices, w, n, m, t);
     if v < 0.0 {

@@ -1,4 +1,5 @@
-// What the pair of a use leads to on the walk of a group: the row across it, the colour wanted there, and the next pair of a row (walk/specs/Area.antt names where each part of the work area stands).
+// What the pair of a use leads to on the walk of a group: the row across it, the colour wanted there, and the next pair of a row (walk/specs/Area.antt names
+// where each part of the work area stands).
 
 use turn_chains::far_row;
 use turn_colours::opposite_colour;

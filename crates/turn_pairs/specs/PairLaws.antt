@@ -122,7 +122,12 @@ module _ (g : ℕ → ℕ) (us : List Use) (a : Apart g us) (k : ℕ) (l : k < l
       go (no e) (yes q) =
           rw (records-same (listed g us) k (own-is ∙ sym q ∙ sym far-is), ne-eqb (here .start) (here .end) e, eq-eqb (found .row) (here .row) q)
       go (no e) (no q) =
-          rw (records-yes (listed g us) k (λ z. run-apart (here .start) (here .end) e (sym run-is ∙ z)) (λ z. q (sym far-is ∙ sym z ∙ own-is)), ne-eqb (here .start) (here .end) e, ne-eqb (found .row) (here .row) q)
+          rw (
+            records-yes (listed g us) k (λ z. run-apart (here .start) (here .end) e (sym run-is ∙ z)) (λ z. q (sym far-is ∙ sym z ∙ own-is)),
+            ne-eqb (here .start) (here .end) e,
+            ne-eqb (found .row)
+                (here .row) q,
+          )
           (λ i. some (record { first = far-is i; later = own-is i; agreeing = agrees-is e i }))
 
 -- ---- all uses

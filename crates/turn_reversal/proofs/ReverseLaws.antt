@@ -92,7 +92,8 @@ module _ {N w : List ℕ} {from to k : ℕ} (t : Triangles N from to) (s : Swapp
         high = omega (arith, s .after);
         before = omega (arith, s .before, s .low);
         after = omega (arith, s .after);
-        list = stored ∙ ap (λ v. sets v k (a ∷ c ∷ b ∷ [])) (s .list) ∙ ap (λ m. sets (sets N from (swapped xs)) m (a ∷ c ∷ b ∷ [])) (sym at) ∙ sym (sets-append N from (swapped xs) (a ∷ c ∷ b ∷ [])) ∙ ap (sets N from) (sym (swapped-more xs a b c whole) ∙ ap swapped (sym next));
+        list = stored ∙ ap (λ v. sets v k (a ∷ c ∷ b ∷ [])) (s .list) ∙ ap (λ m. sets (sets N from (swapped xs)) m (a ∷ c ∷ b ∷ [])) (sym at) ∙ sym (sets-append N from (swapped xs) (a ∷ c ∷ b ∷ []))
+            ∙ ap (sets N from) (sym (swapped-more xs a b c whole) ∙ ap swapped (sym next));
         long = simp length-set (s .long);
       }
     where

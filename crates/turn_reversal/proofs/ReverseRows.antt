@@ -37,7 +37,8 @@ changed-long f l c ys = go (eqb c coloured)
     go true = l ys
     go false = refl
 
-module _ {A : Type 0} {f : List A → List A} {size : Row → ℕ} {cs : List ℕ} {rows : List Row} {X xs : List A} {k from : ℕ} (keeps : (ys : List A) → length (f ys) ≡ length ys) (h : Changing f size cs rows X k from xs) where
+module _ {A : Type 0} {f : List A → List A} {size : Row → ℕ} {cs : List ℕ} {rows : List Row} {X xs : List A} {k from : ℕ} (keeps : (ys : List A) → length (f ys) ≡ length ys)
+    (h : Changing f size cs rows X k from xs) where
   -- what is not yet changed is as it was
   drop-same : drop from xs ≡ drop from X
   drop-same = ap (drop from) (h .list) ∙ drop-at (h .done) (drop from X) from (h .count)
@@ -120,7 +121,8 @@ reversing-none table W colours N I =
       long-indices = refl;
     }
 
-module _ {table W : List ℕ} {colours : ℕ} {N : List Float} {I : List ℕ} {k v i turned : ℕ} {ns : List Float} {is : List ℕ} (r : Reversible table N I W colours) (h : Reversing table W colours N I k v i turned ns is) (more : k < length (rowsOf table)) where
+module _ {table W : List ℕ} {colours : ℕ} {N : List Float} {I : List ℕ} {k v i turned : ℕ} {ns : List Float} {is : List ℕ} (r : Reversible table N I W colours)
+    (h : Reversing table W colours N I k v i turned ns is) (more : k < length (rowsOf table)) where
   vertices-front : verticesBefore (rowsOf table) (k + 1) ≤ allVertices (rowsOf table)
   unfolding verticesBefore allVertices
   vertices-front = sum-front (λ r. r .vertices) (rowsOf table) (k + 1)
@@ -190,7 +192,8 @@ module _ {table W : List ℕ} {colours : ℕ} {N : List Float} {I : List ℕ} {k
       small true = omega arith
       small false = omega arith
 
-pub reversing-all : {table W : List ℕ} {colours : ℕ} {N : List Float} {I : List ℕ} {k v i turned : ℕ} {ns : List Float} {is : List ℕ} → Reversible table N I W colours → Reversing table W colours N I k v i turned ns is → length (rowsOf table) ≤ k
+pub reversing-all : {table W : List ℕ} {colours : ℕ} {N : List Float} {I : List ℕ} {k v i turned : ℕ} {ns : List Float} {is : List ℕ} → Reversible table N I W colours
+    → Reversing table W colours N I k v i turned ns is → length (rowsOf table) ≤ k
     → Reversed (coloursIn table W colours) table N I ns is turned
 unfolding countIf
 reversing-all {table} {W} {colours} {N} {I} {k} {v} {i} {turned} {ns} {is} r h l =

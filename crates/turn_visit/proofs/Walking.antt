@@ -85,7 +85,8 @@ module _ {n m a found against k : ℕ} {W E : List ℕ} {s : Walk} (g : Walking 
       fuel = omega (arith, g .under .queue .low)
 
 -- all rows found are visited
-module _ {n m root a found against k : ℕ} {W₀ W E : List ℕ} (b : Started n m root W₀ W) (g : Walking n m a W (walk (pairsBy (usesOf n W)) m 0 (walkOf n m 1 a W)) found against k E) (l : found ≤ k) where
+module _ {n m root a found against k : ℕ} {W₀ W E : List ℕ} (b : Started n m root W₀ W) (g : Walking n m a W (walk (pairsBy (usesOf n W)) m 0 (walkOf n m 1 a W)) found against k E)
+    (l : found ≤ k) where
   result : walkOf n m found against E ≡ walkFrom n m root a W₀
   result =
       sym

@@ -64,7 +64,8 @@ drop-fits : (n : ℕ) (ps : List Float) → ((k : ℕ) → k < length ps → T (
     → (k : ℕ) → k < length (drop n ps) → T (fits binary32 (getD (drop n ps) k nan))
 drop-fits n ps f k h = subst (λ (x : Float). T (fits binary32 x)) (sym (getD-drop n ps k nan)) (f (n + k) (omega (arith, length-drop n ps)))
 
-pub patch-of : (rows : List Row) (ps ns : List Float) (is : List ℕ) (most : ℕ) → ((k : ℕ) → k < length ps → T (fits binary32 (getD ps k nan))) → 3 * allVertices rows ≤ length ps → allIndices rows ≤ length is → allIndices rows ≤ most
+pub patch-of : (rows : List Row) (ps ns : List Float) (is : List ℕ) (most : ℕ) → ((k : ℕ) → k < length ps → T (fits binary32 (getD ps k nan))) → 3 * allVertices rows ≤ length ps
+    → allIndices rows ≤ length is → allIndices rows ≤ most
     → (n : ℕ) → n < length (patchesOf rows ps ns is) → PatchOf most (patchAt (patchesOf rows ps ns is) n)
 unfolding patchesOf patchAt allVertices allIndices sumOf
 patch-of [] ps ns is most f v i m n h = absurd (not-suc-le-zero h)

@@ -75,7 +75,8 @@ meet-grown before root m c w g = go (eqb (getD (w .colours) m unvisited) unvisit
         more (inl b) = inl b
         more (inr i) = inr (in-append (m ∷ []) i)
 
-    go : (a b : Bool) → Grown before root (cond a (record { rows = w .rows ++ m ∷ []; colours = set (w .colours) m c; against = w .against }) (cond b w (record { rows = w .rows; colours = w .colours; against = w .against + 1 })))
+    go : (a b : Bool) → Grown before root (cond a (record { rows = w .rows ++ m ∷ []; colours = set (w .colours) m c; against = w .against })
+        (cond b w (record { rows = w .rows; colours = w .colours; against = w .against + 1 })))
     go true b = record { begins = in-append (m ∷ []) (g .begins); known = λ k h. rows k (set-known (w .colours) m c k h) }
     go false true = g
     go false false = record { begins = g .begins; known = g .known }
@@ -90,7 +91,8 @@ unfolding walk
 walk-grown before root pairs zero done w g = g
 walk-grown before root pairs (suc fuel) done w g =
     go (ltb done (length (w .rows)))
-    (walk-grown before root pairs fuel (done + 1) (visit (getD (w .colours) (getD (w .rows) done 0) unvisited) (neighbours (getD (w .rows) done 0) pairs) w) (visit-grown before root (getD (w .colours) (getD (w .rows) done 0) unvisited) (neighbours (getD (w .rows) done 0) pairs) w g))
+    (walk-grown before root pairs fuel (done + 1) (visit (getD (w .colours) (getD (w .rows) done 0) unvisited) (neighbours (getD (w .rows) done 0) pairs) w)
+    (visit-grown before root (getD (w .colours) (getD (w .rows) done 0) unvisited) (neighbours (getD (w .rows) done 0) pairs) w g))
   where
     more : Walk
     more = let n = getD (w .rows) done 0 in walk pairs fuel (done + 1) (visit (getD (w .colours) n unvisited) (neighbours n pairs) w)
@@ -138,7 +140,8 @@ module _ (patches : List Patch) (pairs : List Pair) where
   begun-grown n s = walk-grown (s .colours) n pairs (length patches) 0 (record { rows = n ∷ []; colours = set (s .colours) n plain; against = s .against }) (start-grown (s .colours) n (s .against))
 
   -- what holds whether or not row n begins a walk holds of the walks from row n on
-  either-way : (Q : Walks → Type 0) (n : ℕ) (p : Patch) (rest : List Patch) (s : Walks) → Q (walksFrom patches pairs (suc n) rest s) → Q (walksFrom patches pairs (suc n) rest (addGroup patches (s .groups) (begun n s)))
+  either-way : (Q : Walks → Type 0) (n : ℕ) (p : Patch) (rest : List Patch) (s : Walks) → Q (walksFrom patches pairs (suc n) rest s)
+      → Q (walksFrom patches pairs (suc n) rest (addGroup patches (s .groups) (begun n s)))
       → Q (walksFrom patches pairs n (p ∷ rest) s)
   unfolding walksFrom begun
   either-way Q n p rest s x y = go (eqb (length (p .indices)) 0 || not (eqb (getD (s .colours) n unvisited) unvisited))
@@ -154,13 +157,15 @@ module _ (patches : List Patch) (pairs : List Pair) where
   groups-stay : (n : ℕ) (rest : List Patch) (s : Walks) (k : ℕ) → InSome k (s .groups) → InSome k (walksFrom patches pairs n rest s .groups)
   unfolding walksFrom addGroup
   groups-stay n [] s k h = h
-  groups-stay n (p ∷ rest) s k h = either-way (λ w. InSome k (w .groups)) n p rest s (groups-stay (suc n) rest s k h) (groups-stay (suc n) rest (addGroup patches (s .groups) (begun n s)) k (some-append _ h))
+  groups-stay n (p ∷ rest) s k h = either-way (λ w. InSome k (w .groups)) n p rest s (groups-stay (suc n) rest s k h)
+      (groups-stay (suc n) rest (addGroup patches (s .groups) (begun n s)) k (some-append _ h))
 
   all-rows : (n : ℕ) (rest : List Patch) (s : Walks) → Coloured s → (j : ℕ) → j < length rest → 0 < length (patchAt rest j .indices) → InSome (n + j) (walksFrom patches pairs n rest s .groups)
   unfolding walksFrom begun patchAt addGroup
   all-rows n [] s c j l t = absurd (not-suc-le-zero l)
   all-rows n (p ∷ rest) s c zero l t =
-      subst (λ (k : ℕ). InSome k (pick (eqb (length (p .indices)) 0 || not (eqb (getD (s .colours) n unvisited) unvisited)) .groups)) (omega arith) (go (eqb (length (p .indices)) 0) refl (eqb (getD (s .colours) n unvisited) unvisited) refl)
+      subst (λ (k : ℕ). InSome k (pick (eqb (length (p .indices)) 0 || not (eqb (getD (s .colours) n unvisited) unvisited)) .groups)) (omega arith)
+      (go (eqb (length (p .indices)) 0) refl (eqb (getD (s .colours) n unvisited) unvisited) refl)
     where
       pick : Bool → Walks
       pick b = elim b [ true ↦ walksFrom patches pairs (suc n) rest s | false ↦ walksFrom patches pairs (suc n) rest (addGroup patches (s .groups) (begun n s)) ]

@@ -57,7 +57,8 @@ signed-of : (x : Float) (s : Bool) (a : ℕ) → HasValue x s a (2 ^ 149) → si
 unfolding signed
 signed-of nan s a h = absurd h
 signed-of (inf t) s a h = absurd h
-signed-of (fin t m e) s a h = ap (λ (z : Bool). record { p = plus z (size (fin t m e)); m = less z (size (fin t m e)) }) (h .0) ∙ ap (λ (z : ℕ). record { p = plus s z; m = less s z }) (size-of (fin t m e) s a h)
+signed-of (fin t m e) s a h = ap (λ (z : Bool). record { p = plus z (size (fin t m e)); m = less z (size (fin t m e)) }) (h .0)
+    ∙ ap (λ (z : ℕ). record { p = plus s z; m = less s z }) (size-of (fin t m e) s a h)
 
 pub coord : (M : ℕ) (x : Float) → T (fits binary32 x) → T (finite x) → size x ≤ M → Coord M x
 coord M x f n l = let h = held binary32 x f n in record { held = h; most = subst (λ (z : ℕ). z ≤ M) (size-of x (h .sign) (h .digits * 2 ^ h .shift) (h .is)) l }
@@ -76,7 +77,8 @@ times-is {M} {x} a y z e = ap (λ (w : Diff). times a w) e ∙ turn (sg a) (sz a
     turn false A = pair (A * z .p) (A * z .p + 0 * z .m) (A * z .m) (A * z .m + 0 * z .p) (omega arith) (omega arith)
 
 -- ---- the determinant of nine coordinates
-module _ (M : ℕ) (fine : Fine M) {a0 a1 a2 b0 b1 b2 c0 c1 c2 : Float} (A0 : Coord M a0) (A1 : Coord M a1) (A2 : Coord M a2) (B0 : Coord M b0) (B1 : Coord M b1) (B2 : Coord M b2) (C0 : Coord M c0) (C1 : Coord M c1) (C2 : Coord M c2) where
+module _ (M : ℕ) (fine : Fine M) {a0 a1 a2 b0 b1 b2 c0 c1 c2 : Float} (A0 : Coord M a0) (A1 : Coord M a1) (A2 : Coord M a2) (B0 : Coord M b0) (B1 : Coord M b1) (B2 : Coord M b2) (C0 : Coord M c0)
+    (C1 : Coord M c1) (C2 : Coord M c2) where
   term-is : {xa xb xc xd xe : Float} (a : Coord M xa) (b : Coord M xb) (c : Coord M xc) (d : Coord M xd) (e : Coord M xe) → triple M fine a b c d e ≡ mulD (signed xa) (crossD xb xc xd xe)
   term-is a b c d e = times-is a _ _ (λ i. minusD (times-is b _ _ (point-is c) i) (times-is d _ _ (point-is e) i))
 

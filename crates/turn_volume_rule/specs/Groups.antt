@@ -61,7 +61,8 @@ settled-pos patches cols final flip n s = subst (λ (k : ℕ). 0 < k) (sym (s .l
     go true = two-pos _ (two-opposite (getD cols n unvisited) (s .two))
     go false = two-pos _ (s .two)
 
-keep : (patches : List Patch) (final final' : List ℕ) → ((n : ℕ) → 0 < getD final n unvisited → getD final' n unvisited ≡ getD final n unvisited) → (g : Group) → GroupOk patches final g → GroupOk patches final' g
+keep : (patches : List Patch) (final final' : List ℕ) → ((n : ℕ) → 0 < getD final n unvisited → getD final' n unvisited ≡ getD final n unvisited) → (g : Group) → GroupOk patches final g
+    → GroupOk patches final' g
 keep patches final final' k g o = record {
   rows = o .rows;
   cols = o .cols;
@@ -96,14 +97,16 @@ module _ (patches : List Patch) where
         no : (k : ℕ) → getD before k unvisited ≡ 0 → getD before k unvisited ≡ getD before n unvisited → ⊥
         no k a b = omega arith
 
-    zip : (rows : List ℕ) (cols final : List ℕ) → All (Found (Taking patches) (length patches) inRange before cols) rows → All (λ n. getD final n unvisited ≡ opposite (getD cols n unvisited)) rows → All (Settled patches cols final true) rows
+    zip : (rows : List ℕ) (cols final : List ℕ) → All (Found (Taking patches) (length patches) inRange before cols) rows → All (λ n. getD final n unvisited ≡ opposite (getD cols n unvisited)) rows
+        → All (Settled patches cols final true) rows
     zip [] cols final a b = All.none
     zip (n ∷ ns) cols final (All.more f a) (All.more e b) = All.more (record { row = f .is .row; two = f .two; left = e }) (zip ns cols final a b)
 
     end-settled : (b : Bool) → All (Settled patches (w .colours) (end b) b) (w .rows)
     unfolding end
     end-settled false = all-map (λ n f. record { row = f .is .row; two = f .two; left = refl }) (g .rows)
-    end-settled true = zip (w .rows) (w .colours) (inverted (w .rows) (w .colours)) (g .rows) (inverted-rows (w .rows) (w .colours) (g .distinct) (all-map (λ n f. subst (λ (k : ℕ). n < k) (sym (g .size)) (f .is .row)) (g .rows)))
+    end-settled true = zip (w .rows) (w .colours) (inverted (w .rows) (w .colours)) (g .rows)
+        (inverted-rows (w .rows) (w .colours) (g .distinct) (all-map (λ n f. subst (λ (k : ℕ). n < k) (sym (g .size)) (f .is .row)) (g .rows)))
 
     add-state : (groups : List Group) → All (GroupOk patches before) groups → State patches (addGroup patches groups w)
     unfolding end addGroup
@@ -116,7 +119,8 @@ module _ (patches : List Patch) where
               (All.more (record { rows = w .rows; cols = w .colours; is = refl; settled = end-settled b; taking = all-map (λ n f. f .is) (g .rows); few = omega (arith, g .count) }) All.none);
         }
 
-  from-state : (pairs : List Pair) → All (Ends (Taking patches)) pairs → (n : ℕ) (rest : List Patch) (s : Walks) → Each (Taking patches) n rest → State patches s → State patches (walksFrom patches pairs n rest s)
+  from-state : (pairs : List Pair) → All (Ends (Taking patches)) pairs → (n : ℕ) (rest : List Patch) (s : Walks) → Each (Taking patches) n rest → State patches s
+      → State patches (walksFrom patches pairs n rest s)
   unfolding walksFrom
   from-state pairs e n [] s c g = g
   from-state pairs e n (p ∷ rest) s (then h c) g =
@@ -142,7 +146,8 @@ module _ (patches : List Patch) where
       eqb-refl' (suc k) l = omega arith
 
       go : (a b : Bool) → (T (not a) → 0 < length (p .indices)) → (T b → getD (s .colours) n unvisited ≡ 0)
-          → State patches (walksFrom patches pairs (suc n) rest s) → (Taking patches n → getD (s .colours) n unvisited ≡ 0 → State patches (walksFrom patches pairs (suc n) rest next)) → State patches (pick (a || not b))
+          → State patches (walksFrom patches pairs (suc n) rest s) → (Taking patches n → getD (s .colours) n unvisited ≡ 0 → State patches (walksFrom patches pairs (suc n) rest next))
+          → State patches (pick (a || not b))
       go true b x y k l = k
       go false false x y k l = k
       go false true x y k l = l (h (x tt)) (y tt)

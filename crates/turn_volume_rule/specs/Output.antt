@@ -86,4 +86,5 @@ pub output-is : (rule : Rule) (table : List ℕ) (ps ns : List Float) (is work :
 unfolding turnBody
 output-is rule table ps ns is work c h =
     ap (λ (t : AfterTurn). patchesOf (rowsOf table) ps (t .normals) (t .indices)) (turn-is rule table ps ns is work h)
-    ∙ turned-patches (walksOf (patchesOf (rowsOf table) ps ns is) (joined (names rule ps)) .colours) (rowsOf table) ps ns is (omega (arith, c .tabled .all-normals)) (omega (arith, c .tabled .all-indices))
+    ∙ turned-patches (walksOf (patchesOf (rowsOf table) ps ns is) (joined (names rule ps)) .colours) (rowsOf table) ps ns is (omega (arith, c .tabled .all-normals))
+    (omega (arith, c .tabled .all-indices))

@@ -113,6 +113,7 @@ left-outward patches cols final rows x h s =
     let g : Group = record { rows = rows; colours = map (λ n. getD cols n unvisited) rows; volume = x } in
     let rest = ltb (indicesOn patches cols plain rows) (indicesOn patches cols coloured rows) in
     let flip = lt x zero64 || (not (lt zero64 x) && rest) in
-    let e : exactLeft (turnedBody final patches) rows *ℤ pos (2 ^ 627) ≡ opposed flip (E *ℤ pos (2 ^ 627)) = ap (λ (z : ℤ). z *ℤ pos (2 ^ 627)) (rows-left patches cols final flip rows s) ∙ opposed-times flip E (2 ^ 627) in
+    let e : exactLeft (turnedBody final patches) rows *ℤ pos (2 ^ 627) ≡ opposed flip (E *ℤ pos (2 ^ 627)) = ap (λ (z : ℤ). z *ℤ pos (2 ^ 627)) (rows-left patches cols final flip rows s)
+    ∙ opposed-times flip E (2 ^ 627) in
     subst (λ (z : ℤ). T (leb (natAbs (E *ℤ pos (2 ^ 627))) (bound patches g) || sameℤ z (pos (natAbs (E *ℤ pos (2 ^ 627)))))) (sym e)
     (outward x (E *ℤ pos (2 ^ 627)) (bound patches g) rest (leb→le _ _ (and-r (isWhole 1074 x) _ h)))

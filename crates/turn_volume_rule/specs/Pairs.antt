@@ -106,7 +106,8 @@ module _ (P : ℕ → Type 0) where
   neighbours-rows n (p ∷ ps) (All.more e g) = go (neighbours-rows n ps g) (eqb (p .first) n) (eqb (p .later) n)
     where
       go : All (λ (m : Neighbour). P (m .row)) (neighbours n ps) → (a b : Bool)
-          → All (λ (m : Neighbour). P (m .row)) (cond a (record { row = p .later; agreeing = p .agreeing } ∷ neighbours n ps) (cond b (record { row = p .first; agreeing = p .agreeing } ∷ neighbours n ps) (neighbours n ps)))
+          → All (λ (m : Neighbour). P (m .row)) (cond a (record { row = p .later; agreeing = p .agreeing } ∷ neighbours n ps)
+          (cond b (record { row = p .first; agreeing = p .agreeing } ∷ neighbours n ps) (neighbours n ps)))
       go r true b = All.more (e .later) r
       go r false true = All.more (e .first) r
       go r false false = r

@@ -78,7 +78,8 @@ module _ (patches : List Patch) (good : (n : ℕ) → n < length patches → Pat
   rows-good M [] a l = All.none
   rows-good M (n ∷ ns) (All.more t a) l =
       let p = good n (t .row) in
-      All.more (record { corners = corners M (patchAt patches n .positions) (patchAt patches n .indices) (p .vertices) (le-trans (le-max-left _ _) l); some = p .whole (t .some) }) (rows-good M ns a (le-trans (le-max-right _ _) l))
+      All.more (record { corners = corners M (patchAt patches n .positions) (patchAt patches n .indices) (p .vertices) (le-trans (le-max-left _ _) l); some = p .whole (t .some) })
+      (rows-good M ns a (le-trans (le-max-right _ _) l))
 
   rows-under : (rows : List ℕ) → All (Taking patches) rows → largestIn patches rows ≤ 2 ^ 277
   unfolding largestIn

@@ -106,14 +106,16 @@ abbrev pub opposed : Bool → ℤ → ℤ
 opposed flip z = cond flip (negℤ z) z
 
 module _ (patches : List Patch) (cols final : List ℕ) (flip : Bool) where
-  row-left : (n : ℕ) → Settled patches cols final flip n → exactPatch (patchAt (turnedBody final patches) n) false ≡ opposed flip (exactPatch (patchAt patches n) (eqb (getD cols n unvisited) coloured))
+  row-left : (n : ℕ) → Settled patches cols final flip n → exactPatch (patchAt (turnedBody final patches) n) false
+      ≡ opposed flip (exactPatch (patchAt patches n) (eqb (getD cols n unvisited) coloured))
   row-left n s =
       ap (λ (p : Patch). exactPatch p false) (turned-at final patches n (s .row))
       ∙ turned-exact (getD final n unvisited) (patchAt patches n)
       ∙ ap (λ (b : Bool). exactPatch (patchAt patches n) b) (flag (getD cols n unvisited) (getD final n unvisited) flip (s .two) (s .left))
       ∙ go flip
     where
-      go : (f : Bool) → exactPatch (patchAt patches n) (cond f (not (eqb (getD cols n unvisited) coloured)) (eqb (getD cols n unvisited) coloured)) ≡ opposed f (exactPatch (patchAt patches n) (eqb (getD cols n unvisited) coloured))
+      go : (f : Bool) → exactPatch (patchAt patches n) (cond f (not (eqb (getD cols n unvisited) coloured)) (eqb (getD cols n unvisited) coloured))
+          ≡ opposed f (exactPatch (patchAt patches n) (eqb (getD cols n unvisited) coloured))
       go true = triangles-flip (patchAt patches n .positions) (eqb (getD cols n unvisited) coloured) (trianglesOf (patchAt patches n .indices))
       go false = refl
 
@@ -125,7 +127,8 @@ module _ (patches : List Patch) (cols final : List ℕ) (flip : Bool) where
   opposed-zero true = refl
   opposed-zero false = refl
 
-  pub rows-left : (rows : List ℕ) → All (Settled patches cols final flip) rows → exactLeft (turnedBody final patches) rows ≡ opposed flip (exactRows patches rows (map (λ n. getD cols n unvisited) rows))
+  pub rows-left : (rows : List ℕ) → All (Settled patches cols final flip) rows
+      → exactLeft (turnedBody final patches) rows ≡ opposed flip (exactRows patches rows (map (λ n. getD cols n unvisited) rows))
   unfolding exactLeft exactRows
   rows-left [] g = opposed-zero flip
   rows-left (n ∷ ns) (more s g) =

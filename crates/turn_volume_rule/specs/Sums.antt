@@ -94,7 +94,8 @@ module _ (M : ℕ) (fine : Fine M) where
       let e : n + suc (length (trianglesOf is)) ≡ n + 1 + length (trianglesOf is) = omega arith in
       let o = sum-near ps flip is g (at-sum (λ c d c' d' p q. patch-more v n p q (omega arith) (fine .three)) r (triangle ps flip A B C)) (omega arith) in
       subst (λ (k : ℕ). PatchAt v k (sumVolumes ps flip (G.add x (triangleVolume ps flip t)) (trianglesOf is)) (z +ℤ (exactTriangle ps flip t +ℤ exactTriangles ps flip (trianglesOf is)))) (sym e)
-      (subst (λ (w : ℤ). PatchAt v (n + 1 + length (trianglesOf is)) (sumVolumes ps flip (G.add x (triangleVolume ps flip t)) (trianglesOf is)) w) (+ℤ-assoc z (exactTriangle ps flip t) (exactTriangles ps flip (trianglesOf is))) o)
+      (subst (λ (w : ℤ). PatchAt v (n + 1 + length (trianglesOf is)) (sumVolumes ps flip (G.add x (triangleVolume ps flip t)) (trianglesOf is)) w)
+      (+ℤ-assoc z (exactTriangle ps flip t) (exactTriangles ps flip (trianglesOf is))) o)
 
   pub total-none : TotalAt v 0 zero64 (pos 0)
   total-none = at-none sum-zero

@@ -83,14 +83,16 @@ module _ (P : ℕ → Type 0) (N : ℕ) (bounded : (n : ℕ) → P n → n < N) 
   still : (before now : List ℕ) (m c : ℕ) → getD now m unvisited ≡ 0 → (n : ℕ) → Found before now n → Found before (set now m c) n
   still before now m c e n f = record { is = f .is; new = f .new; two = subst (λ (k : ℕ). Two k) (sym (getD-set-other now m n c unvisited (apart before now m e n f))) (f .two) }
 
-  meet-new : (before : List ℕ) (rows colours : List ℕ) (against against' m c : ℕ) → P m → Two c → Walking before (record { rows = rows; colours = colours; against = against }) → getD colours m unvisited ≡ 0
+  meet-new : (before : List ℕ) (rows colours : List ℕ) (against against' m c : ℕ) → P m → Two c → Walking before (record { rows = rows; colours = colours; against = against })
+      → getD colours m unvisited ≡ 0
       → Walking before (record { rows = rows ++ m ∷ []; colours = set colours m c; against = against' })
   meet-new before rows colours against against' m c p t w e =
       let l : m < length colours = subst (λ (k : ℕ). m < k) (sym (w .size)) (bounded m p) in
       let b : getD before m unvisited ≡ 0 = old (eq-zero-or-pos (getD before m unvisited)) in
       record {
         size = length-set colours m c ∙ w .size;
-        rows = all-append (all-map (still before colours m c e) (w .rows)) (All.more (record { is = p; new = b; two = subst (λ (k : ℕ). Two k) (sym (getD-set-same colours m c unvisited l)) t }) All.none);
+        rows = all-append (all-map (still before colours m c e) (w .rows))
+            (All.more (record { is = p; new = b; two = subst (λ (k : ℕ). Two k) (sym (getD-set-same colours m c unvisited l)) t }) All.none);
         distinct = append-fresh rows m (all-map (apart before colours m e) (w .rows)) (w .distinct);
         others = λ n h. getD-set-other colours m n c unvisited (λ q. differ n h b q) ∙ w .others n h;
         count = omega (arith, w .count, length-append rows (m ∷ []), zeros-set colours m c l e (two-pos c t));
@@ -108,7 +110,8 @@ module _ (P : ℕ → Type 0) (N : ℕ) (bounded : (n : ℕ) → P n → n < N) 
   meet-walking before m c w p t g = go (eqb (getD (w .colours) m unvisited) unvisited) (eqb→eq (getD (w .colours) m unvisited) unvisited) (eqb (getD (w .colours) m unvisited) c)
     where
       go : (a : Bool) → (T a → getD (w .colours) m unvisited ≡ 0) → (b : Bool)
-          → Walking before (cond a (record { rows = w .rows ++ m ∷ []; colours = set (w .colours) m c; against = w .against }) (cond b w (record { rows = w .rows; colours = w .colours; against = w .against + 1 })))
+          → Walking before (cond a (record { rows = w .rows ++ m ∷ []; colours = set (w .colours) m c; against = w .against })
+          (cond b w (record { rows = w .rows; colours = w .colours; against = w .against + 1 })))
       go true h b = meet-new before (w .rows) (w .colours) (w .against) (w .against) m c p t g (h tt)
       go false h true = g
       go false h false = record { size = g .size; rows = g .rows; distinct = g .distinct; others = g .others; count = g .count }
@@ -129,7 +132,8 @@ module _ (P : ℕ → Type 0) (N : ℕ) (bounded : (n : ℕ) → P n → n < N) 
   walk-walking before pairs (suc fuel) done w e g =
       go (ltb done (length (w .rows))) (ltb→lt done (length (w .rows)))
       (λ l. walk-walking before pairs fuel (done + 1) (visit (getD (w .colours) (getD (w .rows) done 0) unvisited) (neighbours (getD (w .rows) done 0) pairs) w) e
-      (visit-walking before (getD (w .colours) (getD (w .rows) done 0) unvisited) (neighbours (getD (w .rows) done 0) pairs) w (neighbours-rows P (getD (w .rows) done 0) pairs e) (all-at (w .rows) 0 (g .rows) done l .two) g))
+      (visit-walking before (getD (w .colours) (getD (w .rows) done 0) unvisited) (neighbours (getD (w .rows) done 0) pairs) w (neighbours-rows P (getD (w .rows) done 0) pairs e)
+      (all-at (w .rows) 0 (g .rows) done l .two) g))
     where
       more : Walk
       more = let n = getD (w .rows) done 0 in walk pairs fuel (done + 1) (visit (getD (w .colours) n unvisited) (neighbours n pairs) w)
@@ -150,7 +154,8 @@ module _ (P : ℕ → Type 0) (N : ℕ) (bounded : (n : ℕ) → P n → n < N) 
   fuel-enough before pairs (suc fuel) (suc more) done w e g l h =
       go (ltb done (length (w .rows))) (ltb→lt done (length (w .rows)))
       (λ k. fuel-enough before pairs fuel more (done + 1) next e
-      (visit-walking before (getD (w .colours) (getD (w .rows) done 0) unvisited) (neighbours (getD (w .rows) done 0) pairs) w (neighbours-rows P (getD (w .rows) done 0) pairs e) (all-at (w .rows) 0 (g .rows) done k .two) g)
+      (visit-walking before (getD (w .colours) (getD (w .rows) done 0) unvisited) (neighbours (getD (w .rows) done 0) pairs) w (neighbours-rows P (getD (w .rows) done 0) pairs e)
+      (all-at (w .rows) 0 (g .rows) done k .two) g)
       (le-of-suc-le-suc l) (omega arith))
     where
       next : Walk
@@ -164,7 +169,8 @@ module _ (P : ℕ → Type 0) (N : ℕ) (bounded : (n : ℕ) → P n → n < N) 
       go false t k = refl
 
   -- a walk begins at a row with no colour
-  pub start-walking : (colours : List ℕ) (n against : ℕ) → length colours ≡ N → P n → getD colours n unvisited ≡ 0 → Walking colours (record { rows = n ∷ []; colours = set colours n plain; against = against })
+  pub start-walking : (colours : List ℕ) (n against : ℕ) → length colours ≡ N → P n → getD colours n unvisited ≡ 0
+      → Walking colours (record { rows = n ∷ []; colours = set colours n plain; against = against })
   start-walking colours n against s p e =
       meet-new colours [] colours against against n plain p (inl refl) (record { size = s; rows = All.none; distinct = none; others = λ k h. refl; count = omega (arith, zeros-le colours, s) }) e
 
