@@ -1,4 +1,4 @@
-// Pairs of rows chained by row in the work area (walk/specs/Area.antt names where each part of it stands).
+// Pairs of rows chained by row in the work area (turn_walk/specs/Area.antt names where each part of it stands).
 
 ghost use mathlib.Core.Path.{_≡_};
 ghost use Prim.Native.Nat.{_+_, _*_};

@@ -1,4 +1,4 @@
-// The colours of rows in the work area, and a group's colours inverted (walk/specs/Area.antt names where each part of it stands).
+// The colours of rows in the work area, and a group's colours inverted (turn_walk/specs/Area.antt names where each part of it stands).
 
 ghost use mathlib.Core.Path.{_≡_};
 ghost use Prim.Native.Nat.{_+_, _-_, _*_, _<_, _≤_};

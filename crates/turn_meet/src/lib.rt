@@ -1,4 +1,4 @@
-// A row met on the walk of a group, and the row that it starts from: queued and coloured if it has no colour yet (walk/specs/Area.antt names where each part of
+// A row met on the walk of a group, and the row that it starts from: queued and coloured if it has no colour yet (turn_walk/specs/Area.antt names where each part of
 // the work area stands).
 
 ghost use Prim.Native.Nat.{_+_};

@@ -1,4 +1,4 @@
-// What the pair of a use leads to on the walk of a group: the row across it, the colour wanted there, and the next pair of a row (walk/specs/Area.antt names
+// What the pair of a use leads to on the walk of a group: the row across it, the colour wanted there, and the next pair of a row (turn_walk/specs/Area.antt names
 // where each part of the work area stands).
 
 use turn_chains::far_row;

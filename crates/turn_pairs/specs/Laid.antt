@@ -1,6 +1,6 @@
 -- The uses of a body laid out in the work area as the walk wants them. Assumes nothing.
 --
--- Where edges/specs/Area.antt leaves the words open: the table that joins the rows by shell stands behind the vertices', and the uses' rows and runs
+-- Where edge_uses/specs/Area.antt leaves the words open: the table that joins the rows by shell stands behind the vertices', and the uses' rows and runs
 -- behind their first uses.
 use mathlib.Core.Path.{_≡_}
 use mathlib.Core.List.{List, [], map}

@@ -1,4 +1,4 @@
-// The walk of one group over the chained pairs, in the work area (walk/specs/Area.antt names where each part of it stands).
+// The walk of one group over the chained pairs, in the work area (turn_walk/specs/Area.antt names where each part of it stands).
 
 use turn_meet::Tally;
 use turn_meet::meet_row;
