@@ -44,9 +44,9 @@ use Rattle.body_row_structs.proofs.Row as T
 use Rattle.body_row_structs.proofs.Row.Laws as T′
 use Rattle.body_row_structs.proofs.row_at as rowat
 use Rattle.body_row_structs.proofs.row_at.Symbol as rowat-def
-use Rattle.body_row_structs.proofs.row_at.Symbol.{name as #face-rows·row-at}
+use Rattle.body_row_structs.proofs.row_at.Symbol.{name as #body-row-structs·row-at}
 use Rattle.body_row_structs.proofs.row_at.Met as rowat-thm
-use Rattle.body_row_structs.proofs.face_at.Key.{name as #face-rows·face-at}
+use Rattle.body_row_structs.proofs.face_at.Key.{name as #body-row-structs·face-at}
 use Rattle.body_row_structs.proofs.face_at as faceat
 use Rattle.body_row_structs.proofs.face_at.Statement as stated
 use Rattle.body_row_structs.proofs.face_at.Code as code
@@ -113,7 +113,7 @@ module _ {M : Type 1} (𝓤 : URA M) (H : Heap 𝓤) (A : Atoms 𝓤) (W : Given
       frame ! $ nothing ! $ owned ! usize (Is usize) (uint-makes 𝓤 H A W w64) k _ (refl, k-fits) $ fjoin ! $ move ! (1 ∷ 0 ∷ []) $ fjoin ! $ frame ! $
       owned ! u32 (Is u32) (uint-makes 𝓤 H A W w32) (r .face) _ (refl, f) $ done !
 
-  module _ (C : Calls 𝓤 H) (Λ : Loops 𝓤 H) (fm : FmC 𝓤 H (W .laws) C) (known : Triple 𝓤 (C #face-rows·row-at) (RowAt 𝓤 H A mem run)) where
+  module _ (C : Calls 𝓤 H) (Λ : Loops 𝓤 H) (fm : FmC 𝓤 H (W .laws) C) (known : Triple 𝓤 (C #body-row-structs·row-at) (RowAt 𝓤 H A mem run)) where
     walk : Is (S κ) x (v ∷ []) → ent 𝓤 (onEntry 𝓤 H A faceat.signature (κ, tt) (q, tt) (x, (k, tt)) at) (WpFn 𝓤 H C Λ code.function (v ∷ vint w64 k ∷ []) Post)
     walk p =
         qed W (raw (onEntry 𝓤 H A faceat.signature (κ, tt) (q, tt) (x, (k, tt)) at) ∷ []) ∵ enter ! C Λ code.function (v ∷ vint w64 k ∷ []) _ $
@@ -131,13 +131,13 @@ module _ {M : Type 1} (𝓤 : URA M) (H : Heap 𝓤) (A : Atoms 𝓤) (W : Given
         move ! (9 ∷ 10 ∷ []) $ free1 ! $ move ! (7 ∷ 8 ∷ []) $ free1 ! $ move ! (5 ∷ 6 ∷ []) $ free1 ! $ move ! (3 ∷ 4 ∷ []) $ free1 ! $ free0 ! $ drop ! $ by ! (exits r e (face-fits r u is))))))))))
 
 module _ {M : Type 1} (𝓤 : URA M) (H : Heap 𝓤) (A : Atoms 𝓤) (W : Given 𝓤 H A) (mem : Memory → SProp 𝓤) (run : Routine → Fun 𝓤) where
-  face-at-walks : (C : Calls 𝓤 H) (Λ : Loops 𝓤 H) → FmC 𝓤 H (W .laws) C → Triple 𝓤 (C #face-rows·row-at) (RowAt 𝓤 H A mem run)
+  face-at-walks : (C : Calls 𝓤 H) (Λ : Loops 𝓤 H) → FmC 𝓤 H (W .laws) C → Triple 𝓤 (C #body-row-structs·row-at) (RowAt 𝓤 H A mem run)
       → Walks 𝓤 H A faceat.ended stayed (WpFn 𝓤 H C Λ code.function) (faceat.clauses 𝓤 H A mem run)
   face-at-walks C Λ fm known = walked 𝓤 H A faceat.ended stayed (faceat.clauses 𝓤 H A mem run) (WpFn 𝓤 H C Λ code.function) (λ κs. (slice-vals, (uint-vals w64, tt))) (λ κs. (shr-slice-tells (named 0) (κs .0) R, (uint-tells w64, tt)))
       (λ κs qs bounds a g are. via 𝓤 _ (fst∗ 𝓤 _ (emp 𝓤)) (walk 𝓤 H A W mem run (κs .0) (qs .0) (a .0) (a .1 .0) (are .1 .0 .1) C Λ fm known (are .0)))
 
 face-at-meets : {M : Type 1} (𝓤 : URA M) (H : Heap 𝓤) (A : Atoms 𝓤) (W : Given 𝓤 H A) (mem : Memory → SProp 𝓤) (run : Routine → Fun 𝓤) (𝓣 : Tables 𝓤 H)
-    → Triple 𝓤 (𝓣 .C #face-rows·row-at) (RowAt 𝓤 H A mem run)
+    → Triple 𝓤 (𝓣 .C #body-row-structs·row-at) (RowAt 𝓤 H A mem run)
     → Meets 𝓤 H A faceat.signature (WpFn 𝓤 H (𝓣 .C) (𝓣 .Λ) code.function) (faceat.spec 𝓤 H A mem run)
 face-at-meets 𝓤 H A W mem run 𝓣 known = walk-meets 𝓤 H A faceat.ended stayed W (goes-none-slice 𝓤 H A W 1 (0 ∷ []) tt (plain (λ _. R)) yes, (goes-none 𝓤 H A W 1 (λ _. usize) yes (λ κs x f. refl), tt)) (faceat.clauses 𝓤 H A mem run) (WpFn 𝓤 H (𝓣 .C) (𝓣 .Λ) code.function) (WpFn-mono 𝓤 H (W .laws) 𝓣 code.function)
     (face-at-walks 𝓤 H A W mem run (𝓣 .C) (𝓣 .Λ) (fmOf 𝓤 H (W .laws) 𝓣) known)
@@ -146,6 +146,6 @@ pub face-at-spec : {M : Type 1} → stated.statement M
 unfolding code.routine tablesOf
 face-at-spec 𝓤 H 𝓜 𝓖 𝓡 =
     entered 𝓤 H (tripleOf 𝓤 H (𝓖 .A) faceat.signature (faceat.spec 𝓤 H (𝓖 .A) (𝓜 .mem) (𝓡 .run)))
-    (tables 𝓤 H 𝓜 𝓡 code.env .C) (tables 𝓤 H 𝓜 𝓡 code.env .Λ) #face-rows·face-at code.function (code.unfolded 𝓤 H 𝓜 𝓡)
+    (tables 𝓤 H 𝓜 𝓡 code.env .C) (tables 𝓤 H 𝓜 𝓡 code.env .Λ) #body-row-structs·face-at code.function (code.unfolded 𝓤 H 𝓜 𝓡)
     (face-at-meets 𝓤 H (𝓖 .A) (givenOf 𝓤 H 𝓜 𝓖) (𝓜 .mem) (𝓡 .run) (tablesOf 𝓤 H 𝓜 (tables 𝓤 H 𝓜 𝓡 code.env))
-    (cited 𝓤 H (RowAt 𝓤 H (𝓖 .A) (𝓜 .mem) (𝓡 .run)) 𝓜 𝓡 code.env #face-rows·row-at rowat-def.routine code.calls-face-rows·row-at (rowat-thm.met 𝓤 H 𝓜 𝓖 𝓡)))
+    (cited 𝓤 H (RowAt 𝓤 H (𝓖 .A) (𝓜 .mem) (𝓡 .run)) 𝓜 𝓡 code.env #body-row-structs·row-at rowat-def.routine code.calls-body-row-structs·row-at (rowat-thm.met 𝓤 H 𝓜 𝓖 𝓡)))

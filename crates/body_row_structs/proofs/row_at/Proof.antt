@@ -43,7 +43,7 @@ use denote.Exit.{yes}
 use Rattle.body_row_structs.specs.declared.Row.{Row}
 use Rattle.body_row_structs.proofs.Row as T
 use Rattle.body_row_structs.proofs.Row.Laws as T′
-use Rattle.body_row_structs.proofs.row_at.Key.{name as #face-rows·row-at}
+use Rattle.body_row_structs.proofs.row_at.Key.{name as #body-row-structs·row-at}
 use Rattle.body_row_structs.proofs.row_at as rowat
 use Rattle.body_row_structs.proofs.row_at.Statement as stated
 use Rattle.body_row_structs.proofs.row_at.Code as code
@@ -149,5 +149,5 @@ pub row-at-spec : {M : Type 1} → stated.statement M
 unfolding code.routine tablesOf
 row-at-spec 𝓤 H 𝓜 𝓖 𝓡 =
     entered 𝓤 H (tripleOf 𝓤 H (𝓖 .A) rowat.signature (rowat.spec 𝓤 H (𝓖 .A) (𝓜 .mem) (𝓡 .run)))
-    (tables 𝓤 H 𝓜 𝓡 code.env .C) (tables 𝓤 H 𝓜 𝓡 code.env .Λ) #face-rows·row-at code.function (code.unfolded 𝓤 H 𝓜 𝓡)
+    (tables 𝓤 H 𝓜 𝓡 code.env .C) (tables 𝓤 H 𝓜 𝓡 code.env .Λ) #body-row-structs·row-at code.function (code.unfolded 𝓤 H 𝓜 𝓡)
     (row-at-meets 𝓤 H (𝓖 .A) (givenOf 𝓤 H 𝓜 𝓖) (𝓜 .mem) (𝓡 .run) (tablesOf 𝓤 H 𝓜 (tables 𝓤 H 𝓜 𝓡 code.env)))

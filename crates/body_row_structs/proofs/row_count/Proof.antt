@@ -33,7 +33,7 @@ use denote.Triple.Walked.{says, Stays, stay-none-slice, walkOf, goes-none-slice,
 use denote.Exit.{yes}
 use Rattle.body_row_structs.specs.declared.Row.{Row}
 use Rattle.body_row_structs.proofs.Row as T
-use Rattle.body_row_structs.proofs.row_count.Key.{name as #face-rows·row-count}
+use Rattle.body_row_structs.proofs.row_count.Key.{name as #body-row-structs·row-count}
 use Rattle.body_row_structs.proofs.row_count as rowcount
 use Rattle.body_row_structs.proofs.row_count.Statement as stated
 use Rattle.body_row_structs.proofs.row_count.Code as code
@@ -86,5 +86,5 @@ pub row-count-spec : {M : Type 1} → stated.statement M
 unfolding code.routine tablesOf
 row-count-spec 𝓤 H 𝓜 𝓖 𝓡 =
     entered 𝓤 H (tripleOf 𝓤 H (𝓖 .A) rowcount.signature (rowcount.spec 𝓤 H (𝓖 .A) (𝓜 .mem) (𝓡 .run)))
-    (tables 𝓤 H 𝓜 𝓡 code.env .C) (tables 𝓤 H 𝓜 𝓡 code.env .Λ) #face-rows·row-count code.function (code.unfolded 𝓤 H 𝓜 𝓡)
+    (tables 𝓤 H 𝓜 𝓡 code.env .C) (tables 𝓤 H 𝓜 𝓡 code.env .Λ) #body-row-structs·row-count code.function (code.unfolded 𝓤 H 𝓜 𝓡)
     (row-count-meets 𝓤 H (𝓖 .A) (givenOf 𝓤 H 𝓜 𝓖) (𝓜 .mem) (𝓡 .run) (tablesOf 𝓤 H 𝓜 (tables 𝓤 H 𝓜 𝓡 code.env)))
