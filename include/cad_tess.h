@@ -60,6 +60,10 @@
 #ifndef CAD_TESS_H
 #define CAD_TESS_H
 
+#if !defined(__x86_64__) || defined(__ILP32__) || defined(_WIN32) || defined(__CYGWIN__) || defined(__APPLE__)
+#error "cad_tess.h: libcad_tess.a is for x86-64 with the System V calling convention (ELF), and this compiler isn't"
+#endif
+
 #include <stdbool.h>
 #include <stddef.h>
 #include <stdint.h>
@@ -156,7 +160,7 @@ typedef struct CadJudged {
     uint32_t verdict; /* 1 for yes, 0 for no */
 } CadJudged;
 
-/* The library's layout of all these; a compiler that was told to pack structures, or isn't one for x86-64, stops here. */
+/* The library's layout of all these; a compiler that was told to pack structures stops here. */
 typedef char cad_layout_is_the_library_s[sizeof(float) == 4 && sizeof(double) == 8 && sizeof(size_t) == 8 && sizeof(bool) == 1 &&
                                          sizeof(CadTurned) == 16 && sizeof(CadStitched) == 24 && sizeof(CadAssembled) == 56 &&
                                          sizeof(CadMeasured) == 16 && sizeof(CadJudged) == 8 ? 1 : -1];
