@@ -1,5 +1,8 @@
 //! A body: its row table and its patches, owned or borrowed.
 
+use std::error::Error;
+use std::fmt;
+
 /// The number of a face.
 #[derive(Debug, Clone, Copy, PartialEq, Eq, PartialOrd, Ord, Hash, Default)]
 #[repr(transparent)]
@@ -99,18 +102,55 @@ pub struct Body {
 }
 
 impl Body {
-    /// A row more, with its patch. The counts are those of the slices; whether they fit is for the calls to say.
-    pub fn push_patch(&mut self, shell: u32, face: FaceId, positions: &[Point], normals: &[Point], indices: &[u32]) {
+    /// A row more, with its patch, which has one normal a vertex. Whether its indices and its size fit is for the calls to say.
+    ///
+    /// Other normals are an error, and the body stays as it is: they would be taken for those of the next row's vertices.
+    ///
+    /// ```
+    /// use body_finisher::{Body, FaceId, RowError};
+    ///
+    /// let mut body = Body::default();
+    /// let short = body.push_patch(0, FaceId(7), &[[0.0; 3]; 3], &[[0.0, 0.0, 1.0]; 2], &[0, 1, 2]);
+    /// assert_eq!(short, Err(RowError::Normals { face: FaceId(7), vertices: 3, normals: 2 }));
+    /// assert_eq!(body, Body::default());
+    /// ```
+    pub fn push_patch(
+        &mut self,
+        shell: u32,
+        face: FaceId,
+        positions: &[Point],
+        normals: &[Point],
+        indices: &[u32],
+    ) -> Result<(), RowError> {
+        if normals.len() != positions.len() {
+            return Err(RowError::Normals { face, vertices: positions.len(), normals: normals.len() });
+        }
+        // A count that no row can hold is past every limit, and so is the largest that one can.
         let count = |length: usize| u32::try_from(length).unwrap_or(u32::MAX);
         self.rows.push(Row { shell, face, outcome: 0, vertices: count(positions.len()), indices: count(indices.len()) });
         self.positions.extend_from_slice(positions);
         self.normals.extend_from_slice(normals);
         self.indices.extend_from_slice(indices);
+        Ok(())
     }
 
-    /// A row more, which failed upstream with a number from 1 to 255.
-    pub fn push_failure(&mut self, shell: u32, face: FaceId, number: u8) {
+    /// A row more, which failed upstream with a number from 1 to 255; its type keeps larger ones out.
+    ///
+    /// The number 0 is an error, and the body stays as it is: a row with that outcome is a patch, here an empty one.
+    ///
+    /// ```
+    /// use body_finisher::{Body, FaceId, RowError};
+    ///
+    /// let mut body = Body::default();
+    /// assert_eq!(body.push_failure(0, FaceId(8), 0), Err(RowError::NoFailure { face: FaceId(8) }));
+    /// assert_eq!(body, Body::default());
+    /// ```
+    pub fn push_failure(&mut self, shell: u32, face: FaceId, number: u8) -> Result<(), RowError> {
+        if number == 0 {
+            return Err(RowError::NoFailure { face });
+        }
         self.rows.push(Row { shell, face, outcome: u32::from(number), ..Row::default() });
+        Ok(())
     }
 
     /// This body, only read.
@@ -163,6 +203,28 @@ impl Body {
         BodyOut { rows: &mut self.rows, positions: &mut self.positions, normals: &mut self.normals, indices: &mut self.indices }
     }
 }
+
+/// Why a row can't be added to a body.
+#[derive(Debug, Clone, Copy, PartialEq, Eq, Hash)]
+pub enum RowError {
+    /// A patch hasn't one normal a vertex.
+    Normals { face: FaceId, vertices: usize, normals: usize },
+    /// A failure has the number 0, which is that of a patch.
+    NoFailure { face: FaceId },
+}
+
+impl fmt::Display for RowError {
+    fn fmt(&self, f: &mut fmt::Formatter<'_>) -> fmt::Result {
+        match self {
+            RowError::Normals { face, vertices, normals } => {
+                write!(f, "face {}: a patch of {vertices} vertices can't have {normals} normals", face.0)
+            }
+            RowError::NoFailure { face } => write!(f, "face {}: a failure's number is 1 to 255, not 0", face.0),
+        }
+    }
+}
+
+impl Error for RowError {}
 
 /// A list longer, if it is shorter than this.
 pub(crate) fn grow<T: Clone + Default>(list: &mut Vec<T>, length: usize) {

@@ -40,15 +40,15 @@ pub struct Finished {
 /// // Two triangles that disagree on which side is up.
 /// let up = [[0.0, 0.0, 1.0]; 3];
 /// let mut body = Body::default();
-/// body.push_patch(0, FaceId(7), &[[0.0, 0.0, 0.0], [10.0, 0.0, 0.0], [0.0, 10.0, 0.0]], &up, &[0, 1, 2]);
-/// body.push_patch(0, FaceId(8), &[[10.0, 0.0, 0.0], [0.0, 10.0, 0.0], [10.0, 10.0, 0.0]], &up, &[0, 1, 2]);
+/// body.push_patch(0, FaceId(7), &[[0.0, 0.0, 0.0], [10.0, 0.0, 0.0], [0.0, 10.0, 0.0]], &up, &[0, 1, 2])?;
+/// body.push_patch(0, FaceId(8), &[[10.0, 0.0, 0.0], [0.0, 10.0, 0.0], [10.0, 10.0, 0.0]], &up, &[0, 1, 2])?;
 ///
 /// let mut finisher = Finisher::new();
 /// let done = finisher.finish(body.view(), 0.25, &Setting::default())?;
 /// assert_eq!(done.counts.turned.turned, 1);
 /// assert_eq!((done.counts.assembled.edges, done.counts.assembled.opens), (5, 4));
 /// assert_eq!(done.mesh.indices, [0, 1, 2, 3, 5, 4]);
-/// # Ok::<(), body_finisher::Refusal>(())
+/// # Ok::<(), Box<dyn std::error::Error>>(())
 /// ```
 #[derive(Debug, Default)]
 pub struct Finisher {
@@ -85,8 +85,9 @@ impl Finisher {
     /// use body_finisher::{Body, FaceId, Finisher, Refusal};
     ///
     /// let mut body = Body::default();
-    /// body.push_patch(0, FaceId(0), &[[0.0; 3]; 3], &[[0.0; 3]; 3], &[0, 1, 3]);
+    /// body.push_patch(0, FaceId(0), &[[0.0; 3]; 3], &[[0.0; 3]; 3], &[0, 1, 3])?;
     /// assert_eq!(Finisher::new().turn(body.view_mut()), Err(Refusal::Index));
+    /// # Ok::<(), body_finisher::RowError>(())
     /// ```
     pub fn turn(&mut self, body: BodyMut<'_>) -> Result<Turned, Refusal> {
         self.make_room(body.view());
@@ -102,14 +103,14 @@ impl Finisher {
     /// let up = [[0.0, 0.0, 1.0]; 6];
     /// let (o, x, y, m, d) = ([0.0; 3], [10.0, 0.0, 0.0], [0.0, 10.0, 0.0], [5.0, 0.0, 0.0], [0.0, -10.0, 0.0]);
     /// let mut body = Body::default();
-    /// body.push_patch(0, FaceId(0), &[o, x, y], &up[..3], &[0, 1, 2]);
-    /// body.push_patch(0, FaceId(1), &[o, d, m, m, d, x], &up, &[0, 1, 2, 3, 4, 5]);
+    /// body.push_patch(0, FaceId(0), &[o, x, y], &up[..3], &[0, 1, 2])?;
+    /// body.push_patch(0, FaceId(1), &[o, d, m, m, d, x], &up, &[0, 1, 2, 3, 4, 5])?;
     ///
     /// let mut stitched = Body::default();
     /// let done = Finisher::new().stitch(body.view(), 0.25, &mut stitched)?;
     /// assert_eq!(done.splits, 1);
     /// assert_eq!(stitched.indices[..6], [0, 3, 1, 0, 1, 2]);
-    /// # Ok::<(), body_finisher::Refusal>(())
+    /// # Ok::<(), Box<dyn std::error::Error>>(())
     /// ```
     pub fn stitch(&mut self, body: BodyRef<'_>, sag: f64, out: &mut Body) -> Result<Stitched, Refusal> {
         self.make_room(body);

@@ -12,8 +12,8 @@
 //! let corners = [[0.0; 3], [1.0, 0.0, 0.0], [0.0, 1.0, 0.0], [0.0, 0.0, 1.0]];
 //! let mut body = Body::default();
 //! // A tetrahedron whose one row is wound inward.
-//! body.push_patch(0, FaceId(1), &corners, &[[0.0, 0.0, 1.0]; 4], &[0, 1, 2, 0, 3, 1, 0, 2, 3, 1, 3, 2]);
-//! body.push_failure(0, FaceId(2), 40);
+//! body.push_patch(0, FaceId(1), &corners, &[[0.0, 0.0, 1.0]; 4], &[0, 1, 2, 0, 3, 1, 0, 2, 3, 1, 3, 2])?;
+//! body.push_failure(0, FaceId(2), 40)?;
 //!
 //! let setting = Setting { default: Entry::from(MaterialId(5)), ..Setting::default() };
 //! let done = Finisher::new().finish(body.view(), 0.001, &setting)?;
@@ -21,7 +21,7 @@
 //! assert!(done.counts.assembled.closed);
 //! assert_eq!(done.mesh.parts[0].material, MaterialId(5));
 //! assert_eq!(done.mesh.failures[0].0, FaceId(2));
-//! # Ok::<(), body_finisher::Refusal>(())
+//! # Ok::<(), Box<dyn std::error::Error>>(())
 //! ```
 
 #![deny(unsafe_code)]
@@ -38,7 +38,7 @@ mod refusal;
 pub mod steps;
 
 pub use answers::{Assembled, Stitched, Turned};
-pub use body::{work_words, Body, BodyMut, BodyOut, BodyRef, FaceId, Point, Row};
+pub use body::{work_words, Body, BodyMut, BodyOut, BodyRef, FaceId, Point, Row, RowError};
 pub use finisher::{Counts, Finished, Finisher, MOST_INDICES, MOST_ROWS, MOST_VERTICES};
 pub use lent::{escapes_body, farthest, patch_volume};
 pub use mesh::{Aabb, Entry, FaceRange, Failure, MaterialId, Mesh, MeshOut, Part, RawFailure, Setting};

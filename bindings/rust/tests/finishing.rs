@@ -9,7 +9,7 @@ fn add_bin(body: &mut Body, shell: u32, at: [f32; 3], size: [f32; 3], inward: u3
     for (face, corners) in WALLS.iter().enumerate() {
         let corner = |k: usize| std::array::from_fn(|axis| at[axis] + if k >> axis & 1 == 1 { size[axis] } else { 0.0 });
         let indices = if inward >> face & 1 == 1 { [0, 2, 1, 0, 3, 2] } else { [0, 1, 2, 0, 2, 3] };
-        body.push_patch(shell, FaceId(face as u32), &corners.map(corner), &[[0.0, 0.0, 1.0]; 4], &indices);
+        body.push_patch(shell, FaceId(face as u32), &corners.map(corner), &[[0.0, 0.0, 1.0]; 4], &indices).expect("one normal a vertex");
     }
 }
 
@@ -51,10 +51,10 @@ fn materials_make_parts_and_rows_ranges() {
 #[test]
 fn failures_say_why() {
     let mut body = bin(0);
-    body.push_failure(0, FaceId(70), 255);
-    body.push_patch(0, FaceId(71), &[], &[], &[]);
+    body.push_failure(0, FaceId(70), 255).expect("a failure");
+    body.push_patch(0, FaceId(71), &[], &[], &[]).expect("one normal a vertex");
     let far = [[1e6, 0.0, 0.0], [1e6, 1.0, 0.0], [1e6, 0.0, 1.0]];
-    body.push_patch(0, FaceId(72), &far, &[[1.0, 0.0, 0.0]; 3], &[0, 1, 2]);
+    body.push_patch(0, FaceId(72), &far, &[[1.0, 0.0, 0.0]; 3], &[0, 1, 2]).expect("one normal a vertex");
     let bounds = Aabb { min: [0.0; 3], max: [3000.0, 2500.0, 6000.0] };
     let mesh = Finisher::new().finish(body.view(), 0.05, &Setting { bounds, ..Setting::default() }).expect("a bin").mesh;
     assert_eq!(mesh.failures[..2], [(FaceId(70), Failure::Upstream(255)), (FaceId(71), Failure::Empty)]);
@@ -68,10 +68,12 @@ fn failures_say_why() {
 fn split_by(points: usize) -> Body {
     let long = (points + 1) as f32;
     let mut body = Body::default();
-    body.push_patch(0, FaceId(0), &[[0.0; 3], [long, 0.0, 0.0], [0.0, long, 0.0]], &[[0.0, 0.0, 1.0]; 3], &[0, 1, 2]);
+    body.push_patch(0, FaceId(0), &[[0.0; 3], [long, 0.0, 0.0], [0.0, long, 0.0]], &[[0.0, 0.0, 1.0]; 3], &[0, 1, 2])
+        .expect("one normal a vertex");
     for k in 0..points {
         let x = k as f32 + 0.5;
-        body.push_patch(0, FaceId(1), &[[x, 0.0, 0.0], [x, -5.0, 1.0], [x, -5.0, -1.0]], &[[0.0, 0.0, 1.0]; 3], &[0, 1, 2]);
+        body.push_patch(0, FaceId(1), &[[x, 0.0, 0.0], [x, -5.0, 1.0], [x, -5.0, -1.0]], &[[0.0, 0.0, 1.0]; 3], &[0, 1, 2])
+            .expect("one normal a vertex");
     }
     body
 }

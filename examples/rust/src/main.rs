@@ -1,7 +1,9 @@
 //! Two grain bins side by side, 0.1 mm apart, finished by the library: three walls are wound inward, and the first bin's lid has a
 //! vertex in the middle of its front edge, where the front wall has none. Millimetres.
 
-use body_finisher::{Aabb, Body, Entry, FaceId, Finisher, MaterialId, Point, Refusal, Setting};
+use std::error::Error;
+
+use body_finisher::{Aabb, Body, Entry, FaceId, Finisher, MaterialId, Point, RowError, Setting};
 
 /// A box's walls by their corners, seen from outside; bit 0 of a corner is x, bit 1 is y, bit 2 is z.
 const WALLS: [([u32; 4], Point); 6] = [
@@ -15,7 +17,7 @@ const WALLS: [([u32; 4], Point); 6] = [
 const LID: usize = 1;
 
 /// A bin from y = front to y = back, with some walls wound inward and their normals inside.
-fn add_bin(body: &mut Body, shell: u32, [front, back]: [f32; 2], inward: &[usize], cracked_lid: bool) {
+fn add_bin(body: &mut Body, shell: u32, [front, back]: [f32; 2], inward: &[usize], cracked_lid: bool) -> Result<(), RowError> {
     let corner =
         |k: u32| [if k & 1 != 0 { 3000.0 } else { 0.0 }, if k & 2 != 0 { back } else { front }, if k & 4 != 0 { 6000.0 } else { 0.0 }];
     for (wall, (corners, normal)) in WALLS.iter().enumerate() {
@@ -23,19 +25,20 @@ fn add_bin(body: &mut Body, shell: u32, [front, back]: [f32; 2], inward: &[usize
         let mut positions = corners.map(corner).to_vec();
         if wall == LID && cracked_lid {
             positions.insert(1, [1500.0, front, 6000.0]);
-            body.push_patch(shell, face, &positions, &[*normal; 5], &[0, 1, 4, 1, 2, 3, 1, 3, 4]);
+            body.push_patch(shell, face, &positions, &[*normal; 5], &[0, 1, 4, 1, 2, 3, 1, 3, 4])?;
         } else if inward.contains(&wall) {
-            body.push_patch(shell, face, &positions, &[normal.map(|x| -x); 4], &[0, 2, 1, 0, 3, 2]);
+            body.push_patch(shell, face, &positions, &[normal.map(|x| -x); 4], &[0, 2, 1, 0, 3, 2])?;
         } else {
-            body.push_patch(shell, face, &positions, &[*normal; 4], &[0, 1, 2, 0, 2, 3]);
+            body.push_patch(shell, face, &positions, &[*normal; 4], &[0, 1, 2, 0, 2, 3])?;
         }
     }
+    Ok(())
 }
 
-fn main() -> Result<(), Refusal> {
+fn main() -> Result<(), Box<dyn Error>> {
     let mut body = Body::default();
-    add_bin(&mut body, 0, [0.0, 2500.0], &[2], true);
-    add_bin(&mut body, 1, [2500.1, 5000.1], &[3, 5], false);
+    add_bin(&mut body, 0, [0.0, 2500.0], &[2], true)?;
+    add_bin(&mut body, 1, [2500.1, 5000.1], &[3, 5], false)?;
 
     // The floor and lid of both bins are of material 2; all else has the default, material 0.
     let (steel, none) = (Entry::from(MaterialId(2)), Entry::NONE);
