@@ -145,7 +145,7 @@ typedef struct CadAssembled {
     uint64_t edges;    /* edges of the mesh; its points are the same if their bits agree, and an edge with equal ends doesn't count */
     uint64_t opens;    /* those used by one triangle */
     uint64_t overs;    /* those used by more than two */
-    uint32_t closed;   /* 1 if opens and overs are both 0, else 0 */
+    uint32_t closed;   /* 1 if opens and overs are both 0, so of a mesh without triangles too (indices is 0), else 0 */
 } CadAssembled;
 
 /* The answer of a call that measures one patch. */

@@ -32,6 +32,7 @@ pub struct Assembled {
     pub opens: u64,
     /// Edges used by more than two.
     pub overs: u64,
-    /// Whether no edge is open and none is over.
+    /// Whether no edge is open and none is over. It is true of a mesh without triangles too, as of a body whose rows all failed: ask
+    /// `indices` whether there is anything that is closed.
     pub closed: bool,
 }

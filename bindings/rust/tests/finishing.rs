@@ -127,6 +127,15 @@ fn no_rows_are_a_closed_body() {
 }
 
 #[test]
+fn rows_that_all_failed_are_a_closed_body_without_triangles() {
+    let mut body = Body::default();
+    body.push_failure(0, FaceId(3), 9).expect("a failure");
+    let done = Finisher::new().finish(body.view(), 1.0, &Setting::default()).expect("a failed row");
+    assert!(done.counts.assembled.closed);
+    assert_eq!((done.counts.assembled.indices, done.counts.assembled.failures), (0, 1));
+}
+
+#[test]
 fn threads_finish_bodies_at_once_on_small_stacks() {
     let wanted = Finisher::new().finish(split_by(40).view(), 0.25, &Setting::default()).expect("a body");
     std::thread::scope(|scope| {
