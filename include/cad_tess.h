@@ -44,8 +44,15 @@
  * THE WORK AREA
  *
  * The three calls want CAD_WORK_WORDS(V, I, F) 64-bit words of work area, counted for the body handed to that call. It may hold
- * anything. Keep one for all bodies, of CAD_MOST_WORK_WORDS or as large as the largest of them needs: to make it anew for a large body
- * costs about as much time as turning it.
+ * anything. Keep one for all bodies: to make it anew for a large body costs about as much time as turning it.
+ *
+ * cad_assemble is handed the STITCHED body, which has a vertex and three indices more for each vertex that cad_stitch adds: an area
+ * sized for the body before is refused with 31 after one split. Two ways to have one that is always enough:
+ *
+ *   - CAD_MOST_WORK_WORDS, 110 MB, for any body.
+ *   - Where the largest body is known, CAD_WORK_WORDS(V2, I2, F2) for the output slices lent to cad_stitch, with room for V2 vertices,
+ *     I2 indices and F2 rows: a stitched body that doesn't fit them is refused by cad_stitch with 32, so none comes to cad_assemble
+ *     that needs more. With V2 = 10,000, I2 = 30,000 and F2 = 100 that is 521,600 words, 4.2 MB.
  *
  * REFUSALS
  *
@@ -84,7 +91,8 @@ extern "C" {
 #define CAD_MOST_INDICES 786432
 #define CAD_MOST_OUTCOME 255
 
-/* The work area that a body needs, in 64-bit words (check 31); its arguments are evaluated once. */
+/* The work area that a call needs for the body handed to it, in 64-bit words (check 31): for cad_assemble the stitched one. Its
+   arguments are evaluated once. */
 #define CAD_WORK_WORDS(vertices, indices, rows) \
     ((size_t)16 * (size_t)(indices) + (size_t)16 * (size_t)(rows) + (size_t)4 * (size_t)(vertices))
 
@@ -112,7 +120,7 @@ enum CadRefusal {
     CAD_REFUSED_TRIANGLES = 21,      /* a row's index count is no multiple of 3 */
     CAD_REFUSED_INDEX = 22,          /* an index isn't below its row's vertex count */
     CAD_REFUSED_NOT_FINITE = 23,     /* a position or normal is infinite or a NaN */
-    CAD_REFUSED_WORK_AREA = 31,      /* the work area has fewer than CAD_WORK_WORDS(V, I, F) words */
+    CAD_REFUSED_WORK_AREA = 31,      /* the work area has fewer than CAD_WORK_WORDS(V, I, F) words, of the body handed to the call */
     CAD_REFUSED_STITCHED_LIMIT = 33, /* cad_stitch: the stitched body passes the limits of 13 */
     CAD_REFUSED_OUTPUT = 32,         /* cad_stitch: an output slice is shorter than the stitched body needs */
     CAD_REFUSED_MATERIAL = 42,       /* cad_assemble: an entry, used or not, or the default is above 2^32 */
@@ -209,7 +217,8 @@ CadStitched cad_stitch(const uint32_t *rows, size_t rows_len,
  * Assembles a body, which should be a stitched one, into one mesh. A row is accepted if it has a patch with triangles that doesn't
  * escape the box. Accepted vertices are laid in row order, indices in one run a material, materials rising.
  *
- *     rows_len 5 * F, positions_len 3 * V, normals_len 3 * V, indices_len I, work_len at least CAD_WORK_WORDS(V, I, F)
+ *     rows_len 5 * F, positions_len 3 * V, normals_len 3 * V, indices_len I, work_len at least CAD_WORK_WORDS(V, I, F), where V and I
+ *         are those of the body handed over: the answer's vertices and indices of cad_stitch
  *     the box: its lowest and its highest corner; any doubles. If it is empty (a minimum above its maximum) nothing escapes
  *     materials: entry k is that of face number k, CAD_NO_MATERIAL or CAD_MATERIAL(n); of any length. A face whose entry is none or
  *         missing has the default, and material 0 if that is CAD_NO_MATERIAL too

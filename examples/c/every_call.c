@@ -56,6 +56,16 @@ static CadAssembled assemble(uint64_t default_material)
                         lent.failures, 2 * CAD_FAILURE_NUMBERS, lent.work, lent.work_len);
 }
 
+/* The stitched body, which stands in the output slices, assembled into those of the body before, with a work area of so many words. */
+static CadAssembled assemble_stitched(const CadStitched *sewn, size_t words)
+{
+    return cad_assemble(lent.out_rows, lent.rows_len, lent.out_positions, (size_t)3 * sewn->vertices, lent.out_normals, (size_t)3 * sewn->vertices,
+                        lent.out_indices, sewn->indices, 0, 0, 0, 0, 0, 0, NULL, 0, CAD_NO_MATERIAL,
+                        lent.positions, 3 * ROOM, lent.normals, 3 * ROOM, lent.indices, 3 * ROOM,
+                        lent.parts, 2 * CAD_PART_NUMBERS, lent.ranges, 2 * CAD_RANGE_NUMBERS,
+                        lent.failures, 2 * CAD_FAILURE_NUMBERS, lent.work, words);
+}
+
 /* A float's and a double's bits. */
 static uint32_t bits32(float v)
 {
@@ -110,6 +120,9 @@ static void done(void)
     const CadAssembled none = cad_assemble(NULL, 0, NULL, 0, NULL, 0, NULL, 0, 0, 0, 0, 0, 0, 0, NULL, 0, CAD_NO_MATERIAL, NULL, 0, NULL, 0,
                                            NULL, 0, NULL, 0, NULL, 0, NULL, 0, NULL, 0);
     printf("no rows, all pointers null: %" PRIu32 ", closed %" PRIu32 "\n", none.refusal, none.closed);
+    const CadStitched again = stitch(0.25);
+    printf("the stitched body with a work area for the body before: refused with %" PRIu32 "\n", assemble_stitched(&again, lent.work_len).refusal);
+    printf("with one for itself: %" PRIu32 "\n", assemble_stitched(&again, CAD_WORK_WORDS(again.vertices, again.indices, 2)).refusal);
 }
 
 /* The same body with as many unused vertices as there may be, so that the new one is too many. */

@@ -99,6 +99,7 @@ static struct body body, stitched;
 static float mesh_positions[3 * VERTICES], mesh_normals[3 * VERTICES];
 static uint32_t mesh_indices[INDICES], parts[ROWS * CAD_PART_NUMBERS], ranges[ROWS * CAD_RANGE_NUMBERS];
 static uint64_t failures[ROWS * CAD_FAILURE_NUMBERS];
+/* For the largest body that the stitched slices hold: cad_assemble is handed that one. */
 static uint64_t work[CAD_WORK_WORDS(VERTICES, INDICES, ROWS)];
 
 int main(void)

@@ -34,7 +34,8 @@ pub struct BodyRef<'a> {
 }
 
 impl BodyRef<'_> {
-    /// The 64-bit words of work area that this body needs, its slices being as long as its rows say.
+    /// The 64-bit words of work area that this body needs, its slices being as long as its rows say. Once stitched it may need more:
+    /// see [`work_words`].
     pub fn work_words(&self) -> usize {
         work_words(self.positions.len(), self.indices.len(), self.rows.len())
     }
@@ -72,7 +73,10 @@ pub struct BodyOut<'a> {
     pub indices: &'a mut [u32],
 }
 
-/// The 64-bit words of work area that a body of so many vertices, indices and rows needs.
+/// The 64-bit words of work area that a call needs for a body of so many vertices, indices and rows: the body that is handed to that
+/// call. Assembling is handed the stitched body, which has a vertex and three indices more for each vertex that stitching adds; an area
+/// sized for the body before is refused with [`Refusal::WorkArea`](crate::Refusal::WorkArea) after one split. So count the slices that
+/// stitching writes to: no stitched body is larger than they are.
 ///
 /// ```
 /// assert_eq!(body_finisher::work_words(8, 36, 6), 16 * 36 + 16 * 6 + 4 * 8);
@@ -88,10 +92,11 @@ pub const fn work_words(vertices: usize, indices: usize, rows: usize) -> usize {
 ///
 /// let up = [[0.0, 0.0, 1.0]; 3];
 /// let mut body = Body::default();
-/// body.push_patch(0, FaceId(7), &[[0.0, 0.0, 0.0], [10.0, 0.0, 0.0], [0.0, 10.0, 0.0]], &up, &[0, 1, 2]);
-/// body.push_failure(0, FaceId(8), 3);
+/// body.push_patch(0, FaceId(7), &[[0.0, 0.0, 0.0], [10.0, 0.0, 0.0], [0.0, 10.0, 0.0]], &up, &[0, 1, 2])?;
+/// body.push_failure(0, FaceId(8), 3)?;
 /// assert_eq!(body.rows.len(), 2);
 /// assert_eq!(body.rows[0].vertices, 3);
+/// # Ok::<(), body_finisher::RowError>(())
 /// ```
 #[derive(Debug, Clone, PartialEq, Default)]
 pub struct Body {

@@ -64,7 +64,8 @@ impl Finisher {
         Finisher::default()
     }
 
-    /// One with a work area for bodies of so many vertices, indices and rows, so that none is made while they are finished.
+    /// One with a work area for bodies of so many vertices, indices and rows, so that none is made while they are finished. Count them as
+    /// they are once stitched, when they may have more vertices, and three indices for each of these: [`work_words`] says why.
     pub fn with_room(vertices: usize, indices: usize, rows: usize) -> Finisher {
         Finisher { work: vec![0; work_words(vertices, indices, rows)], ..Finisher::default() }
     }

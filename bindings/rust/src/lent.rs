@@ -1,13 +1,22 @@
 //! The calls with every slice lent, as C has them: nothing is allocated.
 //!
+//! One work area serves all three calls if it is sized for the slices that [`stitch`] writes to: [`assemble`] is handed the stitched
+//! body, which may be larger than the one before and is never larger than they are.
+//!
 //! ```
-//! use body_finisher::{lent, Body, FaceId};
+//! use body_finisher::{lent, work_words, Body, BodyOut, FaceId, Row};
 //!
 //! let mut body = Body::default();
-//! body.push_patch(0, FaceId(0), &[[0.0; 3], [1.0, 0.0, 0.0], [0.0, 1.0, 0.0]], &[[0.0, 0.0, 1.0]; 3], &[0, 1, 2]);
-//! let mut work = vec![0; body.view().work_words()];
+//! body.push_patch(0, FaceId(0), &[[0.0; 3], [1.0, 0.0, 0.0], [0.0, 1.0, 0.0]], &[[0.0, 0.0, 1.0]; 3], &[0, 1, 2])?;
+//!
+//! // Room for a stitched body of 100 rows, 1,000 vertices and 3,000 indices, and the work area for it.
+//! let (mut rows, mut indices) = (vec![Row::default(); 100], vec![0; 3_000]);
+//! let (mut positions, mut normals) = (vec![[0.0; 3]; 1_000], vec![[0.0; 3]; 1_000]);
+//! let mut work = vec![0; work_words(1_000, 3_000, 100)];
 //! assert_eq!(lent::turn(body.view_mut(), &mut work)?.turned, 0);
-//! # Ok::<(), body_finisher::Refusal>(())
+//! let out = BodyOut { rows: &mut rows, positions: &mut positions, normals: &mut normals, indices: &mut indices };
+//! assert_eq!(lent::stitch(body.view(), 0.05, out, &mut work)?.vertices, 3);
+//! # Ok::<(), Box<dyn std::error::Error>>(())
 //! ```
 
 use crate::answers::{Assembled, Stitched, Turned};
@@ -30,6 +39,7 @@ pub fn stitch(body: BodyRef<'_>, sag: f64, out: BodyOut<'_>, work: &mut [u64]) -
 }
 
 /// Assembles a body, which should be a stitched one, into one mesh with its tables. What stands behind the written part stays as it was.
+/// The work area must be enough for the body handed over: see [`work_words`](crate::work_words).
 pub fn assemble(body: BodyRef<'_>, setting: &Setting<'_>, out: MeshOut<'_>, work: &mut [u64]) -> Result<Assembled, Refusal> {
     ffi::assemble(body, setting, out, work)
 }

@@ -29,7 +29,7 @@ pub enum Refusal {
     Index,
     /// 23: a position or normal isn't finite.
     NotFinite,
-    /// 31: the work area is too short.
+    /// 31: the work area is too short for the body handed to that call; assembling is handed the stitched one.
     WorkArea,
     /// 33: the stitched body passes the limits of 13.
     StitchedLimit,
@@ -91,7 +91,9 @@ impl Refusal {
             Refusal::Triangles => "an index count isn't a multiple of 3",
             Refusal::Index => "an index isn't below its row's vertex count",
             Refusal::NotFinite => "a position or normal isn't finite",
-            Refusal::WorkArea => "the work area has fewer than 16 × indices + 16 × rows + 4 × vertices 64-bit words",
+            Refusal::WorkArea => {
+                "the work area has fewer than 16 × indices + 16 × rows + 4 × vertices 64-bit words, of the body handed to that call"
+            }
             Refusal::StitchedLimit => "the stitched body has more than 262,144 vertices or 786,432 indices",
             Refusal::Output => "an output slice is shorter than the stitched body needs",
             Refusal::Material => "a material entry or the default is above 2^32",

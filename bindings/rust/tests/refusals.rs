@@ -1,8 +1,8 @@
 //! Every refusal, reached through the calls, and what it leaves unchanged.
 
 use body_finisher::{
-    lent, Aabb, Body, BodyOut, Entry, FaceId, FaceRange, Finisher, Mesh, MeshOut, Part, RawFailure, Refusal, Row, RowError, Setting,
-    MOST_INDICES, MOST_ROWS, MOST_VERTICES,
+    lent, work_words, Aabb, Body, BodyOut, Entry, FaceId, FaceRange, Finisher, Mesh, MeshOut, Part, RawFailure, Refusal, Row, RowError,
+    Setting, MOST_INDICES, MOST_ROWS, MOST_VERTICES,
 };
 
 const UP: [[f32; 3]; 6] = [[0.0, 0.0, 1.0]; 6];
@@ -85,6 +85,37 @@ fn a_work_area_one_word_short_is_refused_and_unchanged() {
     work.resize(words + 1, 7);
     assert!(lent::turn(body.view_mut(), &mut work).is_ok());
     assert!(work[..words].iter().all(|word| *word == 0) && work[words] == 7, "its words come back zero, the next is unchanged");
+}
+
+#[test]
+fn assembling_needs_a_work_area_for_the_stitched_body() {
+    let mut body = split_body();
+    let (mut rows, mut indices) = (vec![Row::default(); 2], vec![0; 12]);
+    let (mut positions, mut normals) = (vec![[0.0; 3]; 10], vec![[0.0; 3]; 10]);
+    // Sized for the slices that stitching writes to, it is enough for all three calls.
+    let mut work = vec![0; work_words(10, 12, 2)];
+    let before = body.view().work_words();
+    lent::turn(body.view_mut(), &mut work[..before]).expect("enough for the body as it is");
+    let out = BodyOut { rows: &mut rows, positions: &mut positions, normals: &mut normals, indices: &mut indices };
+    let done = lent::stitch(body.view(), 0.25, out, &mut work[..before]).expect("enough for the body as it is");
+    assert_eq!((done.splits, done.vertices, done.indices), (1, 10, 12));
+    let stitched = Body { rows, positions, normals, indices };
+    let mut mesh = (vec![[0.0; 3]; 10], vec![[0.0; 3]; 10], vec![0; 12]);
+    let (mut parts, mut ranges, mut failures) = ([Part::default(); 2], [FaceRange::default(); 2], [RawFailure::default(); 2]);
+    let mut assemble = |work: &mut [u64]| {
+        let out = MeshOut {
+            positions: &mut mesh.0,
+            normals: &mut mesh.1,
+            indices: &mut mesh.2,
+            parts: &mut parts,
+            ranges: &mut ranges,
+            failures: &mut failures,
+        };
+        lent::assemble(stitched.view(), &NOTHING, out, work).map(|done| done.vertices)
+    };
+    assert_eq!(assemble(&mut work[..before]), Err(Refusal::WorkArea));
+    assert_eq!(assemble(&mut work[1..]), Err(Refusal::WorkArea));
+    assert_eq!(assemble(&mut work), Ok(10));
 }
 
 #[test]
