@@ -19,7 +19,7 @@ use Rattle.patch_geometry.specs.declared.Aabb.{Aabb}
 use Rattle.patch_geometry.specs.Geometry.{zero64}
 use Rattle.bench_definition.specs.Finish.{benchRoom, area, meshSlices}
 use Rattle.mesh_definition.specs.Assembled.{LeftMesh, leftMesh, slicesOf, assembleAnswered, countsAnswered}
-use Rattle.turn_definition.specs.declared.Counts.{Counts}
+use Rattle.turn_definition.specs.declared.TurnCounts.{TurnCounts}
 use Rattle.bench_call_texts.specs.Cases.{Cases, told-done, told-refused}
 use Rattle.bench_call_texts.specs.Told.{Told}
 use Rattle.bench_call_texts.specs.Zeros.{zero-same}
@@ -29,7 +29,7 @@ mesh-cases : Cases A.Done A.Refused
 mesh-cases = record { apart = λ c n e. let z : _≡_ {A = ℕ} 0 1 = cc in omega arith; result = λ c d e. cc; number = λ m n e. cc }
 
 -- ---- assemble's answer printed
-module _ (t : Counts) (splits : ℕ) (g : Assembled) (P N : List Float) (I parts ranges failures E W : List ℕ) (r : ℕ) where
+module _ (t : TurnCounts) (splits : ℕ) (g : Assembled) (P N : List Float) (I parts ranges failures E W : List ℕ) (r : ℕ) where
   pub mesh-said : (c : MeshCounts) (z : Sizes) (y : Tallies) → g ≡ A.Done c → z ≡ sizedFrom c → y ≡ talliedFrom t splits c → MeshInLimits P I parts ranges failures
       → Written E (meshText z P N I parts ranges failures ++ countText y) W r
       → MeshSaid t splits g P N I parts ranges failures E W r
@@ -63,7 +63,7 @@ room-zeros = refl
 mesh-zeros : meshZeros (f32 0) ≡ meshSlices benchRoom
 mesh-zeros = ap meshZeros zero-same ∙ room-zeros
 
-pub assembled-text : (T : List ℕ) (Q R : List Float) (J : List ℕ) (box : Aabb) (M : List ℕ) (d : ℕ) (t : Counts) (splits : ℕ) (g : Assembled) (P N : List Float)
+pub assembled-text : (T : List ℕ) (Q R : List Float) (J : List ℕ) (box : Aabb) (M : List ℕ) (d : ℕ) (t : TurnCounts) (splits : ℕ) (g : Assembled) (P N : List Float)
     (I parts ranges failures w E W : List ℕ) (r : ℕ)
     → MeshSaid t splits g P N I parts ranges failures E W r → leftMesh g (slicesOf P N I parts ranges failures w) ≡ assembleAnswered (assembleOf T Q R J box M d (meshZeros (f32 0)))
     → Told E (assembledText T Q R J box M d t splits) W r

@@ -8,7 +8,7 @@ use sheet_answer::write_answer;
 use sheet_answer::write_refusal;
 use sheet_answer_text::Sizes;
 use sheet_answer_text::Tallies;
-use turn_definition::Counts;
+use turn_definition::TurnCounts;
 ghost use mathlib.Core.Path.{_≡_};
 ghost use Rattle.sheet_answer_text.specs.Longest.{MeshInLimits};
 ghost use Rattle.bench_call_texts.specs.Told.{Told};
@@ -28,7 +28,7 @@ fn sizes_of(c: MeshCounts) -> Sizes
 }
 
 // What was counted; each accepted row has a range.
-fn tallies_of(t: Counts, splits: u64, c: MeshCounts) -> Tallies
+fn tallies_of(t: TurnCounts, splits: u64, c: MeshCounts) -> Tallies
     ensures { λ r. ⌜ r ≡ talliedFrom t splits c ⌝ }
 {
     Tallies {
@@ -37,8 +37,8 @@ fn tallies_of(t: Counts, splits: u64, c: MeshCounts) -> Tallies
         split: splits,
         ok: c.ranges as u64,
         edges: c.edges,
-        single: c.opens,
-        over: c.overs,
+        opens: c.opens,
+        overs: c.overs,
         closed: c.closed,
     }
 }
@@ -46,7 +46,7 @@ fn tallies_of(t: Counts, splits: u64, c: MeshCounts) -> Tallies
 // What is printed of assemble's answer.
 fn print_mesh(
     given: Assembled,
-    t: Counts,
+    t: TurnCounts,
     splits: u64,
     positions: &[f32],
     normals: &[f32],
@@ -85,7 +85,7 @@ pub fn assemble_next(
     reference: Aabb,
     materials: &[u64],
     default: u64,
-    t: Counts,
+    t: TurnCounts,
     splits: u64,
     out: &mut [u8],
 ) -> usize

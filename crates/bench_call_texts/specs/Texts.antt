@@ -11,7 +11,7 @@ use Rattle.sheet_answer_text.specs.declared.Tallies.{Tallies}
 use Rattle.sheet_answer_text.specs.Answer.{meshText, countText, refusalLine}
 use Rattle.point_rules.specs.Points.{key}
 use Rattle.patch_geometry.specs.declared.Aabb.{Aabb}
-use Rattle.turn_definition.specs.declared.Counts.{Counts}
+use Rattle.turn_definition.specs.declared.TurnCounts.{TurnCounts}
 use Rattle.turn_definition.specs.declared.Turned.{Turned}
 use Rattle.turn_definition.specs.Orient.{AfterTurn, turnOf}
 use Rattle.turn_definition.specs.Answers.{left, answered}
@@ -31,12 +31,12 @@ abbrev pub sizedFrom : MeshCounts → Sizes
 sizedFrom c = record { vertices = c .vertices; indices = c .indices; parts = c .parts; ranges = c .ranges; failures = c .failures }
 
 -- what was counted
-abbrev pub talliedFrom : Counts → ℕ → MeshCounts → Tallies
+abbrev pub talliedFrom : TurnCounts → ℕ → MeshCounts → Tallies
 talliedFrom t splits c =
-    record { turned = t .turned; against = t .against; split = splits; ok = c .ranges; edges = c .edges; single = c .opens; over = c .overs; closed = c .closed }
+    record { turned = t .turned; against = t .against; split = splits; ok = c .ranges; edges = c .edges; opens = c .opens; overs = c .overs; closed = c .closed }
 
 -- what is printed of assemble's answer
-unfoldable pub meshPrinted : Counts → ℕ → AfterAssemble → List ℕ
+unfoldable pub meshPrinted : TurnCounts → ℕ → AfterAssemble → List ℕ
 meshPrinted t splits a =
     let out = a .slices in
     elim (eqb (a .refusal) 0) [
@@ -46,15 +46,15 @@ meshPrinted t splits a =
     ]
 
 -- an answer of assemble and what it left are printed
-pub record MeshSaid (t : Counts) (splits : ℕ) (g : Assembled) (P N : List Float) (I parts ranges failures E W : List ℕ) (r : ℕ) : Type 0 where
+pub record MeshSaid (t : TurnCounts) (splits : ℕ) (g : Assembled) (P N : List Float) (I parts ranges failures E W : List ℕ) (r : ℕ) : Type 0 where
   pub says : (a : AfterAssemble) (w : List ℕ) → leftMesh g (slicesOf P N I parts ranges failures w) ≡ assembleAnswered a → Told E (meshPrinted t splits a) W r
 
 -- what is printed of a stitched body, assembled in the program's room
-unfoldable pub assembledText : List ℕ → List Float → List Float → List ℕ → Aabb → List ℕ → ℕ → Counts → ℕ → List ℕ
+unfoldable pub assembledText : List ℕ → List Float → List Float → List ℕ → Aabb → List ℕ → ℕ → TurnCounts → ℕ → List ℕ
 assembledText T P N I box M d t splits = meshPrinted t splits (assembleOf T P N I box M d (meshSlices benchRoom))
 
 -- what is printed of stitch's answer on a body of table T, once assembled
-unfoldable pub stitchPrinted : List ℕ → Aabb → List ℕ → ℕ → Counts → AfterStitch → List ℕ
+unfoldable pub stitchPrinted : List ℕ → Aabb → List ℕ → ℕ → TurnCounts → AfterStitch → List ℕ
 stitchPrinted T box M d t s =
     let out = s .slices in
     elim (eqb (s .refusal) 0) [
@@ -63,11 +63,11 @@ stitchPrinted T box M d t s =
     ]
 
 -- an answer of stitch and what it left are assembled and printed
-pub record StitchSaid (T : List ℕ) (box : Aabb) (M : List ℕ) (d : ℕ) (t : Counts) (g : Stitched) (R : List ℕ) (P N : List Float) (I E W : List ℕ) (r : ℕ) : Type 0 where
+pub record StitchSaid (T : List ℕ) (box : Aabb) (M : List ℕ) (d : ℕ) (t : TurnCounts) (g : Stitched) (R : List ℕ) (P N : List Float) (I E W : List ℕ) (r : ℕ) : Type 0 where
   pub says : (s : AfterStitch) (w : List ℕ) → S.leftStitch g (S.slicesOf R P N I w) ≡ S.stitchAnswered s → Told E (stitchPrinted T box M d t s) W r
 
 -- what is printed of a turned body, stitched and assembled
-unfoldable pub stitchedText : List ℕ → List Float → List Float → List ℕ → Float → Aabb → List ℕ → ℕ → Counts → List ℕ
+unfoldable pub stitchedText : List ℕ → List Float → List Float → List ℕ → Float → Aabb → List ℕ → ℕ → TurnCounts → List ℕ
 stitchedText T P N I sag box M d t = stitchPrinted T box M d t (stitchOf key T P N I sag (stitchSlices benchRoom))
 
 -- what is printed of turn's answer, once stitched and assembled

@@ -8,7 +8,7 @@ use lib.ListN.{replicate}
 use Rattle.sheet_answer_text.specs.Answer.{Written, refusalLine}
 use Rattle.point_rules.specs.Points.{key}
 use Rattle.patch_geometry.specs.declared.Aabb.{Aabb}
-use Rattle.turn_definition.specs.declared.Counts.{Counts}
+use Rattle.turn_definition.specs.declared.TurnCounts.{TurnCounts}
 use Rattle.turn_definition.specs.declared.Turned.{Turned}
 use Rattle.turn_definition.specs.declared.Turned.the-variants as TurnCase
 use Rattle.turn_definition.specs.Orient.{AfterTurn, turnOf}
@@ -22,11 +22,11 @@ turn-cases : Cases TurnCase.Done TurnCase.Refused
 turn-cases = record { apart = λ c n e. let z : _≡_ {A = ℕ} 0 1 = cc in omega arith; result = λ c d e. cc; number = λ m n e. cc }
 
 -- ---- turn's answer printed
-abbrev countsIn : AfterTurn → Counts
+abbrev countsIn : AfterTurn → TurnCounts
 countsIn t = record { turned = t .turned; against = t .against }
 
 module _ (T : List ℕ) (P : List Float) (sag : Float) (box : Aabb) (M : List ℕ) (d : ℕ) (g : Turned) (N : List Float) (I E W : List ℕ) (r : ℕ) where
-  pub turn-said : (c : Counts) → g ≡ TurnCase.Done c → Told E (stitchedText T P N I sag box M d c) W r → TurnSaid T P sag box M d g N I E W r
+  pub turn-said : (c : TurnCounts) → g ≡ TurnCase.Done c → Told E (stitchedText T P N I sag box M d c) W r → TurnSaid T P sag box M d g N I E W r
   unfolding turnPrinted
   turn-said c q v = record { says = go }
     where

@@ -39,7 +39,7 @@ counts : Outcome → List ℕ
 counts (Refused n) = n ∷ []
 counts (Finished t s a) =
     t .turned ∷ t .against ∷ s .vertices ∷ s .indices ∷ s .splits ∷ a .vertices ∷ a .indices ∷ a .parts ∷ a .ranges ∷ a .failures
-    ∷ a .counts .edges ∷ a .counts .openEdges ∷ a .counts .overEdges ∷ number (a .closed) ∷ []
+    ∷ a .counts .edges ∷ a .counts .opens ∷ a .counts .overs ∷ number (a .closed) ∷ []
 
 -- ---- the inputs that are no body
 

@@ -30,21 +30,21 @@ pub record Sheet : Type 0 where
   pub indices : List ℕ
 
 -- what the program has room for: results to so many rows, vertices and indices
-pub record Room : Type 0 where
+pub record ProgramRoom : Type 0 where
   pub rows : ℕ
   pub vertices : ℕ
   pub indices : ℕ
 
 -- The bench program takes 16 rows, and results to 192 vertices and 192 indices.
-unfoldable pub benchRoom : Room
+unfoldable pub benchRoom : ProgramRoom
 benchRoom = record { rows = 16; vertices = 192; indices = 192 }
 
 -- a work area for every body that there is room for
-unfoldable pub area : Room → List ℕ
+unfoldable pub area : ProgramRoom → List ℕ
 area r = replicate (16 * r .indices + 16 * r .rows + 4 * r .vertices) 0
 
 -- the slices that stitch is lent
-unfoldable pub stitchSlices : Room → StitchSlices
+unfoldable pub stitchSlices : ProgramRoom → StitchSlices
 stitchSlices r =
     record {
       table = replicate (rowWidth * r .rows) 0;
@@ -55,7 +55,7 @@ stitchSlices r =
     }
 
 -- the slices that assemble is lent
-unfoldable pub meshSlices : Room → MeshSlices
+unfoldable pub meshSlices : ProgramRoom → MeshSlices
 meshSlices r =
     record {
       vertices = record { positions = replicate (3 * r .vertices) zero64; normals = replicate (3 * r .vertices) zero64 };
@@ -72,7 +72,7 @@ pub data Outcome : Type 0 where
   Finished : AfterTurn → AfterStitch → AfterAssemble → Outcome
 
 -- the last call, on the stitched body
-unfoldable pub assembleNext : Room → Sheet → AfterTurn → AfterStitch → Outcome
+unfoldable pub assembleNext : ProgramRoom → Sheet → AfterTurn → AfterStitch → Outcome
 assembleNext room x t s =
     let out = s .slices in
     let a =
@@ -88,13 +88,13 @@ assembleNext room x t s =
     elim (eqb (a .refusal) 0) [ true ↦ Finished t s a | false ↦ Refused (a .refusal) ]
 
 -- the second call, on the turned body, and then the last
-unfoldable pub stitchNext : Room → Sheet → AfterTurn → Outcome
+unfoldable pub stitchNext : ProgramRoom → Sheet → AfterTurn → Outcome
 stitchNext room x t =
     let s = stitchOf key (x .table) (map f32 (x .positions)) (t .normals) (t .indices) (x .sag) (stitchSlices room) in
     elim (eqb (s .refusal) 0) [ true ↦ assembleNext room x t s | false ↦ Refused (s .refusal) ]
 
 -- The program turns, stitches and assembles.
-unfoldable pub finishIn : Room → Sheet → Outcome
+unfoldable pub finishIn : ProgramRoom → Sheet → Outcome
 finishIn room x =
     let t = turnOf key (x .table) (map f32 (x .positions)) (map f32 (x .normals)) (x .indices) (area room) in
     elim (eqb (t .refusal) 0) [ true ↦ stitchNext room x t | false ↦ Refused (t .refusal) ]

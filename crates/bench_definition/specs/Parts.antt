@@ -15,10 +15,10 @@ use Rattle.stitch_loose_points.specs.Loose.{Facet, facetsIn, looseIn}
 use Rattle.stitch_splits.specs.Splits.{Side, Placed, SplitTriangle, sidesOf, splitTriangle}
 use Rattle.stitch_definition.specs.Slices.{stitchOrRefuse, clearedSlices}
 use Rattle.stitch_definition.specs.StitchedBody.{stitchedBodyOf}
-use Rattle.bench_definition.specs.Finish.{Sheet, Room, Outcome, Refused, area, stitchSlices, assembleNext}
+use Rattle.bench_definition.specs.Finish.{Sheet, ProgramRoom, Outcome, Refused, area, stitchSlices, assembleNext}
 
 -- turn's answer, normals and indices as numbers
-unfoldable pub turnNumbers : Room → Sheet → List ℕ
+unfoldable pub turnNumbers : ProgramRoom → Sheet → List ℕ
 turnNumbers room x =
     let t = turnOf key (x .table) (map f32 (x .positions)) (map f32 (x .normals)) (x .indices) (area room) in
     t .refusal ∷ t .turned ∷ t .against ∷ (map bits32 (t .normals) ++ t .indices)
@@ -76,7 +76,7 @@ allWithSplits (fs ∷ fss) [] = []
 allWithSplits (fs ∷ fss) (ns ∷ nss) = withSplits fs ns ∷ allWithSplits fss nss
 
 -- the rest of the program, given the turned body as a sheet, its counts and its splits
-unfoldable pub finishFrom : Room → Sheet → ℕ → ℕ → List (List (List ℕ)) → Outcome
+unfoldable pub finishFrom : ProgramRoom → Sheet → ℕ → ℕ → List (List (List ℕ)) → Outcome
 finishFrom room x turned against nss =
     let s = stitchOrRefuse (stitchedBodyOf (sheetPatches x) (allWithSplits (sheetFacets x) nss)) (clearedSlices (rowsOf (x .table)) (stitchSlices room)) in
     elim (eqb (s .refusal) 0) [

@@ -10,7 +10,7 @@ use Rattle.point_rules.specs.Points.{key}
 use Rattle.float_steps.specs.Floats.{f32}
 use Rattle.patch_geometry.specs.declared.Aabb.{Aabb}
 use Rattle.patch_geometry.specs.Geometry.{zero64}
-use Rattle.turn_definition.specs.declared.Counts.{Counts}
+use Rattle.turn_definition.specs.declared.TurnCounts.{TurnCounts}
 use Rattle.stitch_definition.specs.declared.Sizes.{Sizes}
 use Rattle.stitch_definition.specs.declared.Stitched.{Stitched}
 use Rattle.stitch_definition.specs.declared.Stitched.the-variants as StitchCase
@@ -30,7 +30,7 @@ stitch-cases = record { apart = λ c n e. let z : _≡_ {A = ℕ} 0 1 = cc in om
 abbrev sizesIn : AfterStitch → Sizes
 sizesIn s = record { vertices = s .vertices; indices = s .indices; splits = s .splits }
 
-module _ (T : List ℕ) (box : Aabb) (M : List ℕ) (d : ℕ) (t : Counts) (g : Stitched) (R : List ℕ) (P N : List Float) (I E W : List ℕ) (r : ℕ) where
+module _ (T : List ℕ) (box : Aabb) (M : List ℕ) (d : ℕ) (t : TurnCounts) (g : Stitched) (R : List ℕ) (P N : List Float) (I E W : List ℕ) (r : ℕ) where
   pub stitch-said : (z : Sizes) (A : List ℕ) (B C : List Float) (D : List ℕ) → g ≡ StitchCase.Done z → A ≡ take (length T) R → B ≡ take (3 * z .vertices) P → C ≡ take (3 * z .vertices) N
       → D ≡ take (z .indices) I
       → Told E (assembledText A B C D box M d t (z .splits)) W r → StitchSaid T box M d t g R P N I E W r
@@ -63,7 +63,7 @@ room-zeros = refl
 stitch-zeros : stitchZeros (f32 0) ≡ stitchSlices benchRoom
 stitch-zeros = ap stitchZeros zero-same ∙ room-zeros
 
-pub stitched-text : (T : List ℕ) (Q U : List Float) (J : List ℕ) (sag : Float) (box : Aabb) (M : List ℕ) (d : ℕ) (t : Counts) (g : Stitched) (R : List ℕ) (P N : List Float) (I w E W : List ℕ) (r : ℕ)
+pub stitched-text : (T : List ℕ) (Q U : List Float) (J : List ℕ) (sag : Float) (box : Aabb) (M : List ℕ) (d : ℕ) (t : TurnCounts) (g : Stitched) (R : List ℕ) (P N : List Float) (I w E W : List ℕ) (r : ℕ)
     → StitchSaid T box M d t g R P N I E W r → leftStitch g (slicesOf R P N I w) ≡ stitchAnswered (stitchOf key T Q U J sag (stitchZeros (f32 0)))
     → Told E (stitchedText T Q U J sag box M d t) W r
 unfolding stitchedText

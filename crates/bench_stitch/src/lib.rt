@@ -7,7 +7,7 @@ use slice_front::front;
 use slice_front::front_floats;
 use stitch::stitch;
 use stitch_definition::Stitched;
-use turn_definition::Counts;
+use turn_definition::TurnCounts;
 ghost use Rattle.bench_call_texts.specs.Told.{Told};
 ghost use Rattle.bench_call_texts.specs.Texts.{StitchSaid, stitchedText};
 
@@ -22,7 +22,7 @@ fn print_stitched(
     reference: Aabb,
     materials: &[u64],
     default: u64,
-    t: Counts,
+    t: TurnCounts,
     out: &mut [u8],
 ) -> usize
     ensures { λ r. ⌜ StitchSaid (now (rows .entry)) reference (now (materials .entry)) default t given (now («out_rows» .entry)) (now («out_positions» .entry))
@@ -55,7 +55,7 @@ pub fn stitch_next(
     reference: Aabb,
     materials: &[u64],
     default: u64,
-    t: Counts,
+    t: TurnCounts,
     out: &mut [u8],
 ) -> usize
     ensures { λ r. ⌜ Told (now (out .entry)) (stitchedText (now (rows .entry)) (now (positions .entry)) (now (normals .entry))

@@ -34,7 +34,7 @@ leftAfterAssemble r s =
       parts = r .parts;
       ranges = r .ranges;
       failures = r .failures;
-      counts = record { edges = r .edges; openEdges = r .opens; overEdges = r .overs };
+      counts = record { edges = r .edges; opens = r .opens; overs = r .overs };
       closed = not (eqb (r .closed) 0);
       slices = s;
     }

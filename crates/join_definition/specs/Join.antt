@@ -30,7 +30,7 @@ pub record IsFirst (ns : List ℕ) (k j : ℕ) : Type 0 where
   pub first : First ns j
 
 -- what joining n items requires of the words W: room for the table, and few enough items
-pub record Room (n : ℕ) (W : List ℕ) : Type 0 where
+pub record JoinRoom (n : ℕ) (W : List ℕ) : Type 0 where
   pub room : 4 * n ≤ length W
   pub few : n < 2 ^ 32
 

@@ -7,21 +7,21 @@ use native.Mathlib.Nat.{not-suc-le-zero, le-of-suc-le-suc}
 use lib.ListN.{length, getD, take, drop, set, length-map}
 use lib.Seq.{take-at, drop-at, drop-drop, length-take-le}
 use lib.Ieee.{Float}
-use Rattle.point_rules.specs.Rule.{names, Within}
+use Rattle.point_rules.specs.Rule.{names, VertexInside}
 use Rattle.point_rules.specs.Names.{names-length, names-below}
 use Rattle.point_rules.specs.Points.{key, bits}
 use Rattle.point_rules.specs.Bits.{digest}
 use Rattle.join_table.specs.declared.Source.{Source}
 use Rattle.join_points.specs.declared.vertices.Rule.{Rule}
 use Rattle.join_points.specs.declared.vertices.Rule.the-variants.{Key, Bits}
-use Rattle.join_definition.specs.Join.{joined, firstIndex, Joined, Room}
+use Rattle.join_definition.specs.Join.{joined, firstIndex, Joined, JoinRoom}
 use Rattle.join_table.specs.Naming.{namesOf}
 use Rattle.join_points.specs.Rules.{ruleOf, wordsOf, sourceOf, Fit, JoinedPoints}
 use Rattle.join_table.specs.Table.{Named, Ready}
 use Rattle.join_points.proofs.Loops.{Written, written-more, written-all}
 
 -- ---- words that are the names
-pub words-ready : {n : ℕ} {W : List ℕ} → Room n W → Ready (take n W) n W
+pub words-ready : {n : ℕ} {W : List ℕ} → JoinRoom n W → Ready (take n W) n W
 words-ready {n} {W} r =
     record {
       room = r .room;
@@ -69,12 +69,12 @@ module _ (rule : Rule) (ps : List Float) (i : ℕ) {r : ℕ} where
   key-word q e = e ∙ ap (λ (t : Rule). getD (wordsOf t ps) i 0) (sym q)
 
   -- the word by bits
-  pub bits-word : rule ≡ Bits → Within i ps → r ≡ digest (getD (names bits ps) i 0) → r ≡ getD (wordsOf rule ps) i 0
+  pub bits-word : rule ≡ Bits → VertexInside i ps → r ≡ digest (getD (names bits ps) i 0) → r ≡ getD (wordsOf rule ps) i 0
   unfolding wordsOf
   bits-word q w e = e ∙ sym (map-at digest (names bits ps) i (names-below bits ps i (w .low))) ∙ ap (λ (t : Rule). getD (wordsOf t ps) i 0) (sym q)
 
 -- ---- `write_words`
-pub fit-within : {ps : List Float} {n i : ℕ} {v : List ℕ} → Fit n ps v → i < n → Within i ps
+pub fit-within : {ps : List Float} {n i : ℕ} {v : List ℕ} → Fit n ps v → i < n → VertexInside i ps
 fit-within f l = record { low = omega (arith, f .whole) }
 
 module _ (rule : Rule) {ps : List Float} {n : ℕ} {v : List ℕ} (f : Fit n ps v) where

@@ -2,7 +2,7 @@
 ghost use mathlib.Core.Path.{_≡_};
 ghost use mathlib.Core.List.{_++_};
 ghost use lib.ListN.{getD, drop};
-ghost use Rattle.point_rules.specs.Rule.{Within};
+ghost use Rattle.point_rules.specs.Rule.{VertexInside};
 ghost use Rattle.join_points.specs.Rules.{sourceOf, wordsOf, Fit, JoinedPoints};
 use join_table::Source;
 use join_table::join_table;
@@ -29,7 +29,7 @@ fn source_of(rule: Rule) -> Source
 
 // The word of vertex i: its name, or a digest of it.
 fn word_at(rule: Rule, positions: &[f32], i: usize) -> u64
-    requires { ⌜ Within i (now positions) ⌝ }
+    requires { ⌜ VertexInside i (now positions) ⌝ }
     ensures { λ r. ⌜ r ≡ getD (wordsOf rule (now (positions .entry))) i 0 ⌝ }
 {
     match rule {

@@ -1,12 +1,12 @@
 // Joining by names of 64 bits.
 ghost use lib.ListN.{take};
-ghost use Rattle.join_definition.specs.Join.{Joined, JoinedAt, Room, RoomAt};
+ghost use Rattle.join_definition.specs.Join.{Joined, JoinedAt, JoinRoom, RoomAt};
 use join_table::Source;
 use join_table::join_table;
 
 // For each of the n items whose names are the first words of w, the first item of the same name, in the next n words.
 pub fn join_words(w: &mut [u64], n: usize)
-    requires { ⌜ Room n (now w) ⌝ }
+    requires { ⌜ JoinRoom n (now w) ⌝ }
     ensures { λ _. ⌜ Joined (take n (now (w .entry))) n (now (w .entry)) (now (w .exit)) ⌝ }
 {
     let unasked = [0.0f32; 1];

@@ -250,8 +250,8 @@ module _ {table : List ℕ} {ps ns : List Float} {is W : List ℕ} {m : ℕ} (g 
                       ranges = er j;
                       failures = ef j;
                       edges = ce j .edges;
-                      opens = ce j .openEdges;
-                      overs = ce j .overEdges;
+                      opens = ce j .opens;
+                      overs = ce j .overs;
                       closed = ek j;
                     }))
                     (slicesOf (eP j) (eN j) (eI j) (eT j) (eR j) (eF j) work))

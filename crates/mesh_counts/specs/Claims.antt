@@ -14,7 +14,7 @@ use Rattle.mesh_counts.specs.Evaluation.{evaluation}
 counts : List Given → List ℕ
 counts gs =
     let c = countsOf bits (givenPositions gs) (givenIndices gs) in
-    c .edges ∷ c .openEdges ∷ c .overEdges ∷ cond (closedBy c) 1 0 ∷ []
+    c .edges ∷ c .opens ∷ c .overs ∷ cond (closedBy c) 1 0 ∷ []
 
 -- two tetrahedra that share an edge: its points stand twice
 neighbours : List Given

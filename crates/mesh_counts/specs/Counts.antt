@@ -14,8 +14,8 @@ use Rattle.edge_uses.specs.Edges.{triangleUses, usesOf, firstUses}
 -- edges, open (one use), over (more than two)
 pub record Counts : Type 0 where
   pub edges : ℕ
-  pub openEdges : ℕ
-  pub overEdges : ℕ
+  pub opens : ℕ
+  pub overs : ℕ
 
 -- the counts over a mesh's positions and indices, points joined by a rule; edges with equal ends are skipped
 unfoldable pub countsOf : Rule → List Float → List ℕ → Counts
@@ -24,10 +24,10 @@ countsOf rule ps is =
     let firsts = firstUses [] uses in
     record {
       edges = length firsts;
-      openEdges = countIf (λ u. eqb (usesOf uses u) 1) firsts;
-      overEdges = countIf (λ u. ltb 2 (usesOf uses u)) firsts;
+      opens = countIf (λ u. eqb (usesOf uses u) 1) firsts;
+      overs = countIf (λ u. ltb 2 (usesOf uses u)) firsts;
     }
 
 -- Closed, if open and over are both 0.
 unfoldable pub closedBy : Counts → Bool
-closedBy c = eqb (c .openEdges) 0 && eqb (c .overEdges) 0
+closedBy c = eqb (c .opens) 0 && eqb (c .overs) 0

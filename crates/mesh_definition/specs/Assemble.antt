@@ -64,7 +64,7 @@ refuseMesh n out =
       parts = 0;
       ranges = 0;
       failures = 0;
-      counts = record { edges = 0; openEdges = 0; overEdges = 0 };
+      counts = record { edges = 0; opens = 0; overs = 0 };
       closed = false;
       slices = out;
     }

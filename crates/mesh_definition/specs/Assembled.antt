@@ -36,8 +36,8 @@ countsAnswered t =
       ranges = t .ranges;
       failures = t .failures;
       edges = t .counts .edges;
-      opens = t .counts .openEdges;
-      overs = t .counts .overEdges;
+      opens = t .counts .opens;
+      overs = t .counts .overs;
       closed = t .closed;
     }
 

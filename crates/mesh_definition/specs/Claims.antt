@@ -47,7 +47,7 @@ assembled gs box materials default =
 counts : List Given → List ℕ
 counts gs =
     let a = assembled gs onePoint [] 0 in
-    a .counts .edges ∷ a .counts .openEdges ∷ a .counts .overEdges ∷ cond (a .closed) 1 0 ∷ []
+    a .counts .edges ∷ a .counts .opens ∷ a .counts .overs ∷ cond (a .closed) 1 0 ∷ []
 
 -- the indices, parts and ranges that were written
 runs : List Given → List ℕ → ℕ → List ℕ

@@ -21,17 +21,17 @@ use Rattle.mesh_tally.proofs.UseSteps.{firstsFrom, firsts-all, firsts-n
 
 module _ (uses e o v : ℕ) where
   -- an edge of one use
-  pub edge-open : uses ≡ 1 → _≡_ {A = Counts} (record { edges = e + 1; openEdges = o + 1; overEdges = v }) (withEdge uses (record { edges = e; openEdges = o; overEdges = v }))
+  pub edge-open : uses ≡ 1 → _≡_ {A = Counts} (record { edges = e + 1; opens = o + 1; overs = v }) (withEdge uses (record { edges = e; opens = o; overs = v }))
   unfolding withEdge
   edge-open q = rw q (simp add-zero)
 
   -- an edge of more than two
-  pub edge-over : (uses ≡ 1 → ⊥) → 2 < uses → _≡_ {A = Counts} (record { edges = e + 1; openEdges = o; overEdges = v + 1 }) (withEdge uses (record { edges = e; openEdges = o; overEdges = v }))
+  pub edge-over : (uses ≡ 1 → ⊥) → 2 < uses → _≡_ {A = Counts} (record { edges = e + 1; opens = o; overs = v + 1 }) (withEdge uses (record { edges = e; opens = o; overs = v }))
   unfolding withEdge
   edge-over n l = rw (ne-eqb uses 1 n, lt-ltb 2 uses l) (simp add-zero)
 
   -- any other
-  pub edge-other : (uses ≡ 1 → ⊥) → uses ≤ 2 → _≡_ {A = Counts} (record { edges = e + 1; openEdges = o; overEdges = v }) (withEdge uses (record { edges = e; openEdges = o; overEdges = v }))
+  pub edge-other : (uses ≡ 1 → ⊥) → uses ≤ 2 → _≡_ {A = Counts} (record { edges = e + 1; opens = o; overs = v }) (withEdge uses (record { edges = e; opens = o; overs = v }))
   unfolding withEdge
   edge-other n l = rw (ne-eqb uses 1 n, le-ltb 2 uses l) (simp add-zero)
 
@@ -121,8 +121,8 @@ module _ {W : List ℕ} {at n i : ℕ} {c : EdgeCounts} (r : TallyReady W at n) 
   tallying-same : {d : EdgeCounts} → countsIn d ≡ countsIn c → ((us : List Use) → UseWords us W at n → firstsFrom us i ≡ firstsFrom us (i + 1)) → Tallying W at n (i + 1) d
   tallying-same {d} e p =
       let ee : d .edges ≡ c .edges = ap (λ (x : Counts). x .edges) e in
-      let eo : d .opens ≡ c .opens = ap (λ (x : Counts). x .openEdges) e in
-      let ev : d .overs ≡ c .overs = ap (λ (x : Counts). x .overEdges) e in
+      let eo : d .opens ≡ c .opens = ap (λ (x : Counts). x .opens) e in
+      let ev : d .overs ≡ c .overs = ap (λ (x : Counts). x .overs) e in
       record {
         low = omega arith;
         few-edges = omega (arith, t .few-edges);
@@ -143,8 +143,8 @@ module _ {W : List ℕ} {at n i : ℕ} {c : EdgeCounts} (r : TallyReady W at n) 
   tallying-edge {d} e h f =
       let k = getD W (at + n + i) 0 in
       let ee : d .edges ≡ c .edges + 1 = ap (λ (x : Counts). x .edges) e in
-      let eo : d .opens ≡ c .opens + cond (eqb k 1) 1 0 = ap (λ (x : Counts). x .openEdges) e in
-      let ev : d .overs ≡ c .overs + cond (ltb 2 k) 1 0 = ap (λ (x : Counts). x .overEdges) e in
+      let eo : d .opens ≡ c .opens + cond (eqb k 1) 1 0 = ap (λ (x : Counts). x .opens) e in
+      let ev : d .overs ≡ c .overs + cond (ltb 2 k) 1 0 = ap (λ (x : Counts). x .overs) e in
       record {
         low = omega arith;
         few-edges = omega (arith, t .few-edges);

@@ -15,11 +15,11 @@ use Rattle.mesh_counts.specs.Counts.{Counts}
 
 -- the counts that an answer holds
 abbrev pub countsIn : EdgeCounts → Counts
-countsIn c = record { edges = c .edges; openEdges = c .opens; overEdges = c .overs }
+countsIn c = record { edges = c .edges; opens = c .opens; overs = c .overs }
 
 -- the counts with one edge more, which has so many uses
 unfoldable pub withEdge : ℕ → Counts → Counts
-withEdge uses c = record { edges = c .edges + 1; openEdges = c .openEdges + cond (eqb uses 1) 1 0; overEdges = c .overEdges + cond (ltb 2 uses) 1 0 }
+withEdge uses c = record { edges = c .edges + 1; opens = c .opens + cond (eqb uses 1) 1 0; overs = c .overs + cond (ltb 2 uses) 1 0 }
 
 -- the counts after use i, of which an edge counts if its ends differ and it is its own first use: first uses of n uses stand from `at` on,
 -- counts and runs behind them

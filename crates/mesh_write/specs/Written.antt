@@ -47,7 +47,7 @@ pub record WriteReady (table : List ℕ) (ps ns : List Float) (is : List ℕ) (b
 
 -- the counts in the answer
 abbrev pub countsOfMesh : MeshCounts → Counts
-countsOfMesh r = record { edges = r .edges; openEdges = r .opens; overEdges = r .overs }
+countsOfMesh r = record { edges = r .edges; opens = r .opens; overs = r .overs }
 
 -- what it leaves: the mesh, its tables and failures at the front of their slices, and their counts
 pub record MeshWritten (table : List ℕ) (ps ns : List Float) (is : List ℕ) (box : Aabb) (W E : List ℕ) (m : ℕ) (t : Totals) (P P' N N' : List Float)

@@ -12,14 +12,14 @@ use Rattle.patch_geometry.specs.declared.Aabb.{Aabb}
 use Rattle.patch_alone.specs.declared.alone.Measured.the-variants as Measure
 use Rattle.patch_alone.specs.declared.alone.Judged.the-variants as Judge
 use Rattle.patch_alone.specs.Answers.{answerOr, measuredOf, judgedOf}
-use Rattle.patch_measures.specs.Volume.{Within, patchVolume}
+use Rattle.patch_measures.specs.Volume.{CornersInside, patchVolume}
 use Rattle.patch_geometry.specs.Geometry.{zero64}
 use Rattle.patch_alone.specs.Alone.{alone, volumeAlone, farthestAlone, escapesAlone}
 use Rattle.patch_measures.specs.Reach.{farthest, escapesBody}
 
 module _ (ps ns : List Float) (is : List ℕ) {n : ℕ} (e : n ≡ firstFailing (loneChecks ps ns is)) where
   -- the checks have passed: each index is of a vertex
-  pub within-alone : n ≡ 0 → Within ps is
+  pub within-alone : n ≡ 0 → CornersInside ps is
   within-alone z = passed-alone ps ns is (sym e ∙ z) .inside
 
   -- a check fails

@@ -34,8 +34,8 @@ unfoldable pub patchVolume : List Float → List ℕ → Bool → Float
 patchVolume ps is flip = div (sumVolumes ps flip zero64 (trianglesOf is)) six64
 
 -- each index is of a vertex
-abbrev pub Within : List Float → List ℕ → Type 0
-Within ps is = (k : ℕ) → k < length is → 3 * getD is k 0 + 2 < length ps
+abbrev pub CornersInside : List Float → List ℕ → Type 0
+CornersInside ps is = (k : ℕ) → k < length is → 3 * getD is k 0 + 2 < length ps
 
 -- three vertices of a patch
 pub record Corners (ps : List Float) (a b c : ℕ) : Type 0 where

@@ -10,7 +10,7 @@ use lib.Seq.{drop-cons}
 use lib.Ieee.{Float}
 use Rattle.patch_geometry.specs.declared.Vec3.{Vec3}
 use Rattle.body_rows.specs.Body.{trianglesOf}
-use Rattle.patch_measures.specs.Volume.{det, triangleVolume, sumVolumes, patchVolume, Within, Corners}
+use Rattle.patch_measures.specs.Volume.{det, triangleVolume, sumVolumes, patchVolume, CornersInside, Corners}
 use Rattle.patch_geometry.specs.Geometry.{pointAt, add, div, zero64, six64}
 
 -- the triangle at k, and those behind it
@@ -77,7 +77,7 @@ pub triangle-kept : (ps : List Float) {flip : Bool} (a b c : ℕ) {r : Float} �
 triangle-kept ps {flip} a b c t e = e ∙ sym (ap (λ (f : Bool). triangleVolume ps f (record { a = a; b = b; c = c })) t)
 
 -- the corners of the triangle at k are vertices
-pub corners-within : (ps : List Float) (is : List ℕ) {flip : Bool} {n k : ℕ} {v : Float} → Within ps is → Summing ps is flip n k v → 3 ≤ n - k
+pub corners-within : (ps : List Float) (is : List ℕ) {flip : Bool} {n k : ℕ} {v : Float} → CornersInside ps is → Summing ps is flip n k v → 3 ≤ n - k
     → Corners ps (getD is k 0) (getD is (k + 1) 0) (getD is (k + 2) 0)
 corners-within ps is {flip} {n} {k} w s h =
     record { in-a = w k (omega (arith, s .all)); in-b = w (k + 1) (omega (arith, s .all)); in-c = w (k + 2) (omega (arith, s .all)) }

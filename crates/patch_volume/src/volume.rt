@@ -4,7 +4,7 @@ use patch_geometry::Vec3;
 use patch_geometry::point;
 ghost use mathlib.Core.Path.{_≡_};
 ghost use Prim.Native.Nat.{_+_, _*_};
-ghost use Rattle.patch_measures.specs.Volume.{Corners, Within, det, patchVolume, triangleVolume};
+ghost use Rattle.patch_measures.specs.Volume.{Corners, CornersInside, det, patchVolume, triangleVolume};
 ghost use Rattle.patch_geometry.specs.Geometry.{pointAt};
 
 // The determinant of three points, left to right.
@@ -38,7 +38,7 @@ fn triangle(positions: &[f32], a: u32, b: u32, c: u32, flip: bool) -> f64
 
 // The volume of a patch, reversed where flip says so.
 pub fn patch_volume(positions: &[f32], indices: &[u32], flip: bool) -> f64
-    requires { ⌜ Within (now positions) (now indices) ⌝ }
+    requires { ⌜ CornersInside (now positions) (now indices) ⌝ }
     ensures { λ r. ⌜ r ≡ patchVolume (now (positions .entry)) (now (indices .entry)) flip ⌝ }
 {
     let mut total = 0.0f64;

@@ -12,11 +12,11 @@ use lib.Pow.{high, low}
 use borrow.Author.Tests.{eq-eqb, ne-eqb}
 use Rattle.point_rules.specs.Points.{key, bits}
 use Rattle.point_rules.specs.Bits.{Bits32, frontBits, digest}
-use Rattle.point_rules.specs.Rule.{names, Within, Both}
+use Rattle.point_rules.specs.Rule.{names, VertexInside, Both}
 use Rattle.point_rules.specs.Names.{names-at}
 
 -- the key of a vertex is its name
-pub key-named : (ps : List Float) (i : ℕ) {r : ℕ} → Within i ps → r ≡ key (getD ps (3 * i) nan) (getD ps (3 * i + 1) nan) (getD ps (3 * i + 2) nan)
+pub key-named : (ps : List Float) (i : ℕ) {r : ℕ} → VertexInside i ps → r ≡ key (getD ps (3 * i) nan) (getD ps (3 * i + 1) nan) (getD ps (3 * i + 2) nan)
     → r ≡ getD (names key ps) i 0
 key-named ps i w e = e ∙ sym (names-at key ps i nan (w .low))
 
@@ -58,7 +58,7 @@ fronts-decide ps i j {a} {b} {f} {g} w za zb e ef eg =
         go (no n) = ne-eqb f g n ∙ sym (ne-eqb _ _ (λ q. n (back q)))
 
 -- the digest that the code makes is that of the name
-pub digest-is : (ps : List Float) (i : ℕ) {r f z m : ℕ} → Within i ps → f ≡ frontBits ps i → Bits32 (getD ps (3 * i + 2) nan) z
+pub digest-is : (ps : List Float) (i : ℕ) {r f z m : ℕ} → VertexInside i ps → f ≡ frontBits ps i → Bits32 (getD ps (3 * i + 2) nan) z
     → m ≡ f * 11400714819323198485 % 2 ^ 64 → r ≡ (m + z * 2246822507) % 2 ^ 64 → r ≡ digest (getD (names bits ps) i 0)
 unfolding digest
 digest-is ps i {f = f} {z = z} w ef ez em er =

@@ -5,7 +5,7 @@ ghost use lib.ListN.{length, getD};
 ghost use lib.Dec.{eqb};
 ghost use Rattle.point_rules.specs.Points as Points;
 ghost use Rattle.point_rules.specs.Bits.{Bits32, frontBits, digest};
-ghost use Rattle.point_rules.specs.Rule.{names, Within, Both};
+ghost use Rattle.point_rules.specs.Rule.{names, VertexInside, Both};
 ghost use lib.Ieee.{nan};
 use crate::key::key;
 use crate::multiply::wrapping_mul;
@@ -18,7 +18,7 @@ const LAST: u64 = 2246822507;
 
 // The key of vertex i.
 pub fn key_at(positions: &[f32], i: usize) -> u64
-    requires { ⌜ Within i (now positions) ⌝ }
+    requires { ⌜ VertexInside i (now positions) ⌝ }
     ensures { λ r. ⌜ r ≡ getD (names Points.key (now (positions .entry))) i 0 ⌝ }
 {
     key(positions[3 * i], positions[3 * i + 1], positions[3 * i + 2])
@@ -34,7 +34,7 @@ fn bits_at(positions: &[f32], k: usize) -> u64
 
 // The bits of the first two numbers of vertex i, as one.
 fn front_bits(positions: &[f32], i: usize) -> u64
-    requires { ⌜ Within i (now positions) ⌝ }
+    requires { ⌜ VertexInside i (now positions) ⌝ }
     ensures { λ r. ⌜ r ≡ frontBits (now (positions .entry)) i ⌝ }
 {
     let x = bits_at(positions, 3 * i);
@@ -57,7 +57,7 @@ pub fn same_bits(positions: &[f32], i: usize, j: usize) -> bool
 
 // A digest of the bits of vertex i.
 pub fn digest_at(positions: &[f32], i: usize) -> u64
-    requires { ⌜ Within i (now positions) ⌝ }
+    requires { ⌜ VertexInside i (now positions) ⌝ }
     ensures { λ r. ⌜ r ≡ digest (getD (names Points.bits (now (positions .entry))) i 0) ⌝ }
 {
     let front = wrapping_mul(front_bits(positions, i), FRONT);

@@ -16,7 +16,7 @@ names rule (x ∷ y ∷ []) = []
 names rule (x ∷ y ∷ z ∷ ps) = rule x y z ∷ names rule ps
 
 -- vertex i is among the positions
-pub record Within (i : ℕ) (ps : List Float) : Type 0 where
+pub record VertexInside (i : ℕ) (ps : List Float) : Type 0 where
   pub low : 3 * i + 2 < length ps
 
 -- the vertices i and j are among the positions

@@ -80,8 +80,8 @@ countText t =
     ++ line splitForm (t .split ∷ [])
     ++ line okForm (t .ok ∷ [])
     ++ line edgesForm (t .edges ∷ [])
-    ++ line openForm (t .single ∷ [])
-    ++ line overForm (t .over ∷ [])
+    ++ line openForm (t .opens ∷ [])
+    ++ line overForm (t .overs ∷ [])
     ++ line closedForm (cond (t .closed) 1 0 ∷ [])
 
 -- A refusal prints only `(refused n)`.

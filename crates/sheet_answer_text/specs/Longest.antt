@@ -125,8 +125,8 @@ count-length t =
     let c = line splitForm (t .split ∷ []) in
     let d = line okForm (t .ok ∷ []) in
     let e = line edgesForm (t .edges ∷ []) in
-    let f = line openForm (t .single ∷ []) in
-    let g = line overForm (t .over ∷ []) in
+    let f = line openForm (t .opens ∷ []) in
+    let g = line overForm (t .overs ∷ []) in
     let h = line closedForm (cond (t .closed) 1 0 ∷ []) in
     omega (
       arith,
@@ -142,8 +142,8 @@ count-length t =
       line-length splitForm (t .split ∷ []),
       line-length okForm (t .ok ∷ []),
       line-length edgesForm (t .edges ∷ []),
-      line-length openForm (t .single ∷ []),
-      line-length overForm (t .over ∷ []),
+      line-length openForm (t .opens ∷ []),
+      line-length overForm (t .overs ∷ []),
       line-length closedForm (cond (t .closed) 1 0 ∷ []),
     )
 

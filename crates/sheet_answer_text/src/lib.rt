@@ -27,8 +27,8 @@ pub struct Tallies {
     pub split: u64,
     pub ok: u64,
     pub edges: u64,
-    pub single: u64,
-    pub over: u64,
+    pub opens: u64,
+    pub overs: u64,
     pub closed: bool,
 }
 
@@ -57,7 +57,7 @@ pub fn put_counts(out: &mut [u8], at: usize, t: Tallies) -> usize
     let c = put_count(out, b, b"(split#)", t.split);
     let d = put_count(out, c, b"(ok#)", t.ok);
     let e = put_count(out, d, b"(edges#)", t.edges);
-    let f = put_count(out, e, b"(open#)", t.single);
-    let g = put_count(out, f, b"(over#)", t.over);
+    let f = put_count(out, e, b"(open#)", t.opens);
+    let g = put_count(out, f, b"(over#)", t.overs);
     put_count(out, g, b"(closed#)", number_of(t.closed))
 }

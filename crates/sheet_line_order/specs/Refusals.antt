@@ -11,18 +11,18 @@ use Rattle.sheet_lines.specs.declared.Kind.{Kind}
 use Rattle.sheet_line_order.specs.Reading.{Patterns, State, failsWithZero, inOrder, lineRefusal, passesLimit}
 
 -- a sheet of so many rows, vertices and indices
-pub record Counts (rows vertices corners : ℕ) (x : Patterns) : Type 0 where
+pub record SheetCounts (rows vertices corners : ℕ) (x : Patterns) : Type 0 where
   pub table : length (x .table) ≡ 5 * rows
   pub positions : length (x .positions) ≡ 3 * vertices
   pub indices : length (x .indices) ≡ corners
 
 -- b says whether a line passes a limit
 pub record Limit (rows vertices indices : ℕ) (k : Kind) (ns : List ℕ) (b : Bool) : Type 0 where
-  pub is : (x : Patterns) → Counts rows vertices indices x → b ≡ passesLimit k ns x
+  pub is : (x : Patterns) → SheetCounts rows vertices indices x → b ≡ passesLimit k ns x
 
 -- n is the refusal of a line, 0 for none
 pub record Refusal (place rows vertices indices : ℕ) (k : Kind) (ns : List ℕ) (n : ℕ) : Type 0 where
-  pub is : (refusal : ℕ) (x : Patterns) → Counts rows vertices indices x → n ≡ lineRefusal (record { kind = k; numbers = ns }) (record { refusal = refusal; place = place; sheet = x })
+  pub is : (refusal : ℕ) (x : Patterns) → SheetCounts rows vertices indices x → n ≡ lineRefusal (record { kind = k; numbers = ns }) (record { refusal = refusal; place = place; sheet = x })
 
 -- what a line that isn't refused has passed
 pub record Passed (l : Line) (s : State) : Type 0 where

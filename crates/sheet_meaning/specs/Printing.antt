@@ -27,8 +27,8 @@ talliesOf t s a =
       split = s .splits;
       ok = a .ranges;
       edges = a .counts .edges;
-      single = a .counts .openEdges;
-      over = a .counts .overEdges;
+      opens = a .counts .opens;
+      overs = a .counts .overs;
       closed = a .closed;
     }
 

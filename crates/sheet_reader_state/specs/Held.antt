@@ -10,7 +10,7 @@ use lib.ListN.{length}
 use lib.Seq.{length-take-le}
 use Rattle.sheet_reader_state.specs.declared.Reader.{Reader}
 use Rattle.sheet_line_order.specs.Reading.{at}
-use Rattle.sheet_line_order.specs.Refusals.{Counts}
+use Rattle.sheet_line_order.specs.Refusals.{SheetCounts}
 use Rattle.sheet_reader_state.specs.Slices.{fits, fitsIn, inLimits, lastFits, lent, patternsOf}
 use Rattle.sheet_reader_state.specs.Limits.{Limited, limited}
 use Rattle.lists.specs.Both.{and-left, and-right}
@@ -58,7 +58,7 @@ module _ (s : Reader) (T P N I M : List ℕ) (h : Held s T P N I M) where
   pub last-index : 0 < s .rows → at T (5 * s .rows - 1) ≤ 96
   last-index l = leb-true (at T (5 * s .rows - 1)) 96 (and-right (leb (at T (5 * s .rows - 2)) 96) (leb (at T (5 * s .rows - 1)) 96) (both l))
 
-  pub counts-of : Counts (s .rows) (s .vertices) (s .indices) (patternsOf (lent s T P N I M))
+  pub counts-of : SheetCounts (s .rows) (s .vertices) (s .indices) (patternsOf (lent s T P N I M))
   counts-of = record {
     table = length-take-le (5 * s .rows) T (omega (arith, h .limits .table, h .limits .rows));
     positions = length-take-le (3 * s .vertices) P (omega (arith, h .limits .positions, h .limits .vertices));

@@ -20,7 +20,7 @@ use Rattle.sheet_reader_state.specs.Slices.{Lent, ended, fits, fitsIn, i
 use Rattle.lists.specs.Both.{and-left, or-right}
 
 -- the slices have room for the program's limits
-pub record Room (l : Lent) : Type 0 where
+pub record SheetRoom (l : Lent) : Type 0 where
   pub table : 80 ≤ length (l .table)
   pub positions : 288 ≤ length (l .positions)
   pub normals : 288 ≤ length (l .normals)
@@ -280,7 +280,7 @@ same-patterns : {b b' m m' t t' p p' n n' i i' : List ℕ} (sag default : ℕ) �
     (record { box = b'; sag = sag; default = default; materials = m'; table = t'; positions = p'; normals = n'; indices = i' })
 same-patterns sag default eb em et ep en ei = cc
 
-module _ (l : Lent) (room : Room l) (s : State) (v : Sized s) where
+module _ (l : Lent) (room : SheetRoom l) (s : State) (v : Sized s) where
   -- The slices hold the state.
   pub state-over : stateOf (over l s) ≡ s
   state-over =
@@ -328,7 +328,7 @@ module _ (l : Lent) (room : Room l) (s : State) (v : Sized s) where
       )
       (last-over (length (x .table) / 5) (omega (arith, v .table)))
 
-  room-over : Room (over l s)
+  room-over : SheetRoom (over l s)
   room-over =
       let x : Patterns = s .sheet in
       record {
@@ -343,7 +343,7 @@ module _ (l : Lent) (room : Room l) (s : State) (v : Sized s) where
 
 -- the slices have room and hold a state of such sizes
 pub record Kept (l : Lent) (s : State) : Type 0 where
-  pub room : Room l
+  pub room : SheetRoom l
   pub sized : Sized s
   pub same : stateOf l ≡ s
   pub fit : fits l ≡ true
@@ -367,7 +367,7 @@ kept-line l s xs k = go (eqb (s .refusal) 0) refl
         let line : readLine s xs ≡ s = rw (q, readLine) in
         subst (λ (m : Lent). Kept m (readLine s xs)) (sym into) (subst (λ (t : State). Kept l t) (sym line) k)
 
-fits-begin : (T P N I M : List ℕ) → Room (lent (readerOf start) T P N I M) → fits (lent (readerOf start) T P N I M) ≡ true
+fits-begin : (T P N I M : List ℕ) → SheetRoom (lent (readerOf start) T P N I M) → fits (lent (readerOf start) T P N I M) ≡ true
 unfolding fitsIn inLimits start
 fits-begin T P N I M room =
     rw (
@@ -380,7 +380,7 @@ fits-begin T P N I M room =
     )
 
 -- The slices that `begin` leaves hold the state before the first line.
-pub kept-begin : (T P N I M : List ℕ) → Room (lent (readerOf start) T P N I M) → take 64 M ≡ replicate 64 0 → Kept (lent (readerOf start) T P N I M) start
+pub kept-begin : (T P N I M : List ℕ) → SheetRoom (lent (readerOf start) T P N I M) → take 64 M ≡ replicate 64 0 → Kept (lent (readerOf start) T P N I M) start
 unfolding start
 kept-begin T P N I M room e =
     let l : Lent = lent (readerOf start) T P N I M in

@@ -26,8 +26,8 @@ use Rattle.stitch_count.specs.Counting.{EdgeReady, SidesReady, sidesIn, 
 
 -- an edge of two points
 pub edge-made : (ps : List Float) (g h s t : ℕ) (o : Bool) {p q : Vec3} {e : Edge} → p ≡ vertexAt ps (3 * g) → q ≡ vertexAt ps (3 * h) → e ≡ edgeOf p q
-    → _≡_ {A = TriangleEdge} (record { edge = e; start = s; end = t; opens = o }) (record { edge = edgeOf (pointAt ps g) (pointAt ps h); start = s; end = t; opens = o })
-edge-made ps g h s t o {p} {q} {e} ep eq ee = λ i. record { edge = (ee ∙ (λ j. edgeOf (ep j) (eq j))) i; start = s; end = t; opens = o }
+    → _≡_ {A = TriangleEdge} (record { edge = e; start = s; end = t; «is_open» = o }) (record { edge = edgeOf (pointAt ps g) (pointAt ps h); start = s; end = t; «is_open» = o })
+edge-made ps g h s t o {p} {q} {e} ep eq ee = λ i. record { edge = (ee ∙ (λ j. edgeOf (ep j) (eq j))) i; start = s; end = t; «is_open» = o }
 
 module _ {ps : List Float} {is : List ℕ} {v flags base k : ℕ} {W : List ℕ} (g : SidesReady ps is v flags base k W) where
   module _ {a b c : ℕ} (ea : a ≡ base + getD is k 0) (eb : b ≡ base + getD is (k + 1) 0) (ec : c ≡ base + getD is (k + 2) 0) where
@@ -45,16 +45,16 @@ module _ {ps : List Float} {is : List ℕ} {v flags base k : ℕ} {W : List ℕ}
 
     -- an edge by the body's vertices
     at : {x y s t : ℕ} (o : ℕ) {z : TriangleEdge} → s < v → t < v → x ≡ s → y ≡ t
-        → z ≡ record { edge = edgeOf (pointAt ps x) (pointAt ps y); start = getD W x 0; end = getD W y 0; opens = not (eqb o 0) } → z ≡ edgeAt ps (take v W) s t o
+        → z ≡ record { edge = edgeOf (pointAt ps x) (pointAt ps y); start = getD W x 0; end = getD W y 0; «is_open» = not (eqb o 0) } → z ≡ edgeAt ps (take v W) s t o
     at {x} {y} {s} {t} o {z} ls lt ex ey ez =
         ez
-        ∙ (λ i. record { edge = edgeOf (pointAt ps (ex i)) (pointAt ps (ey i)); start = getD W (ex i) 0; end = getD W (ey i) 0; opens = not (eqb o 0) })
-        ∙ (λ i. record { edge = edgeOf (pointAt ps s) (pointAt ps t); start = sym (getD-take v W s 0 ls) i; end = sym (getD-take v W t 0 lt) i; opens = not (eqb o 0) })
+        ∙ (λ i. record { edge = edgeOf (pointAt ps (ex i)) (pointAt ps (ey i)); start = getD W (ex i) 0; end = getD W (ey i) 0; «is_open» = not (eqb o 0) })
+        ∙ (λ i. record { edge = edgeOf (pointAt ps s) (pointAt ps t); start = sym (getD-take v W s 0 ls) i; end = sym (getD-take v W t 0 lt) i; «is_open» = not (eqb o 0) })
 
     pub sides-made : {x y z : TriangleEdge}
-        → x ≡ record { edge = edgeOf (pointAt ps a) (pointAt ps b); start = getD W a 0; end = getD W b 0; opens = not (eqb (getD W (flags + k) 0) 0) }
-        → y ≡ record { edge = edgeOf (pointAt ps b) (pointAt ps c); start = getD W b 0; end = getD W c 0; opens = not (eqb (getD W (flags + k + 1) 0) 0) }
-        → z ≡ record { edge = edgeOf (pointAt ps c) (pointAt ps a); start = getD W c 0; end = getD W a 0; opens = not (eqb (getD W (flags + k + 2) 0) 0) }
+        → x ≡ record { edge = edgeOf (pointAt ps a) (pointAt ps b); start = getD W a 0; end = getD W b 0; «is_open» = not (eqb (getD W (flags + k) 0) 0) }
+        → y ≡ record { edge = edgeOf (pointAt ps b) (pointAt ps c); start = getD W b 0; end = getD W c 0; «is_open» = not (eqb (getD W (flags + k + 1) 0) 0) }
+        → z ≡ record { edge = edgeOf (pointAt ps c) (pointAt ps a); start = getD W c 0; end = getD W a 0; «is_open» = not (eqb (getD W (flags + k + 2) 0) 0) }
         → _≡_ {A = Sides} (record { first = x; second = y; third = z }) (sidesIn ps is v flags base k W)
     sides-made {x} {y} {z} ex ey ez =
         λ i. record {
@@ -66,10 +66,10 @@ module _ {ps : List Float} {is : List ℕ} {v flags base k : ℕ} {W : List ℕ}
 -- ---- a triangle without an open edge
 
 -- no point counts for an edge that is not open
-closed-counts : (sag : Float) (s : TriangleEdge) (name : ℕ) (r : Vec3) → s .opens ≡ false → counts sag s name r ≡ false
+closed-counts : (sag : Float) (s : TriangleEdge) (name : ℕ) (r : Vec3) → s .«is_open» ≡ false → counts sag s name r ≡ false
 closed-counts sag s name r e = rw e
 
-module _ (sag : Float) (ps : List Float) (ns : List ℕ) (s : Sides) (a : s .first .opens ≡ false) (b : s .second .opens ≡ false) (c : s .third .opens ≡ false) where
+module _ (sag : Float) (ps : List Float) (ns : List ℕ) (s : Sides) (a : s .first .«is_open» ≡ false) (b : s .second .«is_open» ≡ false) (c : s .third .«is_open» ≡ false) where
   closed-found : (e name : ℕ) (r : Vec3) → foundOnly sag s e name r ≡ false
   unfolding foundOnly countsOn
   closed-found zero name r = closed-counts sag (s .first) name r a

@@ -17,7 +17,7 @@ use Rattle.stitch_rings.specs.Rings.{newPositions, newNormals, ringAfter, fanGo
 
 -- the edge between two vertices of the body, open if the flag o is set
 abbrev pub edgeAt : List Float → List ℕ → ℕ → ℕ → ℕ → TriangleEdge
-edgeAt ps ns g h o = record { edge = edgeOf (pointAt ps g) (pointAt ps h); start = getD ns g 0; end = getD ns h 0; opens = not (eqb o 0) }
+edgeAt ps ns g h o = record { edge = edgeOf (pointAt ps g) (pointAt ps h); start = getD ns g 0; end = getD ns h 0; «is_open» = not (eqb o 0) }
 
 -- the sides of a triangle of vertices a, b, c of the body, with the flags o, p, q
 abbrev pub sidesAt : List Float → List ℕ → ℕ → ℕ → ℕ → ℕ → ℕ → ℕ → Sides

@@ -17,7 +17,7 @@ fn edge_between(
     v: usize,
     g: usize,
     h: usize,
-    opens: bool,
+    is_open: bool,
 ) -> TriangleEdge
     requires { ⌜ EdgeReady (now positions) v g h (now w) ⌝ }
     ensures { λ r. ⌜ r ≡ record {
@@ -25,7 +25,7 @@ fn edge_between(
       start = getD
           (now (w .entry)) g 0;
       end = getD (now (w .entry)) h 0;
-      opens = opens;
+      «is_open» = «is_open»;
     } ⌝ }
 {
     let p = patch_geometry::vertex(positions, 3 * g);
@@ -34,7 +34,7 @@ fn edge_between(
         edge: stitch_projection::edge_of(p, q),
         start: w[g],
         end: w[h],
-        opens: opens,
+        is_open: is_open,
     }
 }
 
@@ -78,8 +78,8 @@ pub fn find_splits(
     ensures { λ r. ⌜ TriangleDone (now (positions .entry)) (now (indices .entry)) (f .sag) (f .v) (f .list) (f .count) (f .at) (f .ts) (f .flags) base k
         (now (w .entry)) (now (w .exit)) (r .found) (r .placed) ⌝ }
 {
-    let opens = stitch_gather::any_set(w, f.flags + k);
-    if opens {
+    let is_open = stitch_gather::any_set(w, f.flags + k);
+    if is_open {
         let s = sides_at(positions, indices, w, f.v, f.flags, base, k);
         return stitch_triangle::split_triangle(positions, w, s, f);
     }

@@ -66,8 +66,8 @@ fn gather_triangle(
     requires { ⌜ TriangleGatherable (now indices) v at count base k flags (now w) ⌝ }
     ensures { λ r. ⌜ TriangleGathered (now (indices .entry)) v at count base k flags (now (w .entry)) (now (w .exit)) r ⌝ }
 {
-    let opens = any_set(w, flags + k);
-    if opens {
+    let is_open = any_set(w, flags + k);
+    if is_open {
         let a = corner(indices, base, v, k);
         let b = corner(indices, base, v, k + 1);
         let c = corner(indices, base, v, k + 2);

@@ -131,10 +131,10 @@ once t e false false false ls = refl
 -- the corners of a triangle go in once, if one of its edges is open
 pub open-once : (f : Facet) (ls : List Loose)
     → insertOpen f (f .c₂) (insertOpen f (f .c₁) (insertOpen f (f .c₀) ls))
-    ≡ cond (f .c₀ .opens || f .c₁ .opens || f .c₂ .opens) (insertCorner (f .c₂) (insertCorner (f .c₁) (insertCorner (f .c₀) ls))) ls
+    ≡ cond (f .c₀ .isOpen || f .c₁ .isOpen || f .c₂ .isOpen) (insertCorner (f .c₂) (insertCorner (f .c₁) (insertCorner (f .c₀) ls))) ls
 unfolding insertOpen insertCorner
 open-once f ls =
     let a : Loose = record { name = f .c₀ .name; point = f .c₀ .point } in
     let b : Loose = record { name = f .c₁ .name; point = f .c₁ .point } in
     let c : Loose = record { name = f .c₂ .name; point = f .c₂ .point } in
-    once (three a b c) (three-again a b c) (f .c₀ .opens) (f .c₁ .opens) (f .c₂ .opens) ls
+    once (three a b c) (three-again a b c) (f .c₀ .isOpen) (f .c₁ .isOpen) (f .c₂ .isOpen) ls

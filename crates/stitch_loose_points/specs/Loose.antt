@@ -16,7 +16,7 @@ pub record Corner : Type 0 where
   pub index : ℕ
   pub point : Vec3
   pub name : ℕ
-  pub opens : Bool
+  pub isOpen : Bool
 
 -- a triangle of a patch, by its corners 0, 1, 2
 pub record Facet : Type 0 where
@@ -26,22 +26,22 @@ pub record Facet : Type 0 where
 
 -- a corner of a patch whose vertices have the names that `ns` begins with
 unfoldable pub cornerOf : List Float → List ℕ → Bool → ℕ → Corner
-cornerOf ps ns o i = record { index = i; point = pointAt ps i; name = getD ns i 0; opens = o }
+cornerOf ps ns o i = record { index = i; point = pointAt ps i; name = getD ns i 0; isOpen = o }
 
 -- the triangles of a patch; `opens` begins with the edges of its triangles, three each
 unfoldable pub facetsOf : List Float → List ℕ → List Bool → List Triangle → List Facet
-facetsOf ps ns opens [] = []
+facetsOf ps ns areOpen [] = []
 facetsOf ps ns [] (t ∷ ts) = []
 facetsOf ps ns (o ∷ []) (t ∷ ts) = []
 facetsOf ps ns (o ∷ p ∷ []) (t ∷ ts) = []
-facetsOf ps ns (o ∷ p ∷ q ∷ opens) (t ∷ ts) =
-    record { c₀ = cornerOf ps ns o (t .a); c₁ = cornerOf ps ns p (t .b); c₂ = cornerOf ps ns q (t .c) } ∷ facetsOf ps ns opens ts
+facetsOf ps ns (o ∷ p ∷ q ∷ areOpen) (t ∷ ts) =
+    record { c₀ = cornerOf ps ns o (t .a); c₁ = cornerOf ps ns p (t .b); c₂ = cornerOf ps ns q (t .c) } ∷ facetsOf ps ns areOpen ts
 
 -- the triangles of each row
 unfoldable pub bodyFacets : List ℕ → List Bool → List Patch → List (List Facet)
-bodyFacets ns opens [] = []
-bodyFacets ns opens (p ∷ ps) =
-    facetsOf (p .positions) ns opens (trianglesOf (p .indices)) ∷ bodyFacets (drop (p .row .vertices) ns) (drop (length (p .indices)) opens) ps
+bodyFacets ns areOpen [] = []
+bodyFacets ns areOpen (p ∷ ps) =
+    facetsOf (p .positions) ns areOpen (trianglesOf (p .indices)) ∷ bodyFacets (drop (p .row .vertices) ns) (drop (length (p .indices)) areOpen) ps
 
 -- a loose point, with its name
 pub record Loose : Type 0 where
@@ -60,7 +60,7 @@ insertCorner c ls = insertLoose (record { name = c .name; point = c .point }) ls
 
 -- All three corners of an open edge's triangle are loose points: corner 0, 1, 2 for the edge from corner c.
 unfoldable pub insertOpen : Facet → Corner → List Loose → List Loose
-insertOpen f c ls = cond (c .opens) (insertCorner (f .c₂) (insertCorner (f .c₁) (insertCorner (f .c₀) ls))) ls
+insertOpen f c ls = cond (c .isOpen) (insertCorner (f .c₂) (insertCorner (f .c₁) (insertCorner (f .c₀) ls))) ls
 
 -- the loose points of some triangles, in the order of open edges by row, triangle, corner
 unfoldable pub looseFrom : List Facet → List Loose → List Loose

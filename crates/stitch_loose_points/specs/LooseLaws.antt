@@ -85,43 +85,43 @@ module _ (ps : List Float) (nms : List ℕ) where
         go false e = refl
 
     -- a row's loose points are its vertices'
-    row-points : (opens : List Bool) (xs : List ℕ) → ((j : ℕ) → j < length xs → getD xs j 0 < n) → (R : List ℕ)
-        → looseFrom (facetsOf qs ms opens (trianglesOf xs)) (points R) ≡ points (rowVertices nms base (take (length xs) (map flag opens)) (trianglesOf xs) R)
+    row-points : (areOpen : List Bool) (xs : List ℕ) → ((j : ℕ) → j < length xs → getD xs j 0 < n) → (R : List ℕ)
+        → looseFrom (facetsOf qs ms areOpen (trianglesOf xs)) (points R) ≡ points (rowVertices nms base (take (length xs) (map flag areOpen)) (trianglesOf xs) R)
     unfolding looseFrom facetsOf rowVertices trianglesOf
-    row-points opens [] b R = refl
-    row-points opens (x ∷ []) b R = refl
-    row-points opens (x ∷ y ∷ []) b R = refl
+    row-points areOpen [] b R = refl
+    row-points areOpen (x ∷ []) b R = refl
+    row-points areOpen (x ∷ y ∷ []) b R = refl
     row-points [] (x ∷ y ∷ z ∷ xs) b R = refl
     row-points (o ∷ []) (x ∷ y ∷ z ∷ xs) b R = refl
     row-points (o ∷ p ∷ []) (x ∷ y ∷ z ∷ xs) b R = refl
-    row-points (o ∷ p ∷ q ∷ opens) (x ∷ y ∷ z ∷ xs) b R =
-        ap (looseFrom (facetsOf qs ms opens (trianglesOf xs))) (facet-vertices o p q x y z (b 0 (omega arith)) (b 1 (omega arith)) (b 2 (omega arith)) R)
-        ∙ row-points opens xs (λ j h. b (suc (suc (suc j))) (omega arith)) (cond (anySet (flag o) (flag p) (flag q)) (insertTriangle nms (base + x) (base + y) (base + z) R) R)
+    row-points (o ∷ p ∷ q ∷ areOpen) (x ∷ y ∷ z ∷ xs) b R =
+        ap (looseFrom (facetsOf qs ms areOpen (trianglesOf xs))) (facet-vertices o p q x y z (b 0 (omega arith)) (b 1 (omega arith)) (b 2 (omega arith)) R)
+        ∙ row-points areOpen xs (λ j h. b (suc (suc (suc j))) (omega arith)) (cond (anySet (flag o) (flag p) (flag q)) (insertTriangle nms (base + x) (base + y) (base + z) R) R)
 
   -- ---- all rows
 
   -- the loose points of all rows are their vertices'
-  body-points : (rows : List Row) (base : ℕ) (ns : List Float) (is : List ℕ) (opens : List Bool) (R : List ℕ) → allIndices rows ≤ length is → Inside rows is
-      → looseFrom (flatMap (λ fs. fs) (bodyFacets (drop base nms) opens (patchesOf rows (drop (3 * base) ps) ns is))) (points R)
-      ≡ points (bodyVertices nms base (map flag opens) rows is R)
+  body-points : (rows : List Row) (base : ℕ) (ns : List Float) (is : List ℕ) (areOpen : List Bool) (R : List ℕ) → allIndices rows ≤ length is → Inside rows is
+      → looseFrom (flatMap (λ fs. fs) (bodyFacets (drop base nms) areOpen (patchesOf rows (drop (3 * base) ps) ns is))) (points R)
+      ≡ points (bodyVertices nms base (map flag areOpen) rows is R)
   unfolding looseFrom flatMap bodyFacets patchesOf bodyVertices allIndices sumOf
-  body-points [] base ns is opens R l h = refl
-  body-points (r ∷ rs) base ns is opens R l h =
+  body-points [] base ns is areOpen R l h = refl
+  body-points (r ∷ rs) base ns is areOpen R l h =
       let v = r .vertices in
       let n = r .indices in
       let xs = take n is in
       let qs = take (3 * v) (drop (3 * base) ps) in
-      let here = rowVertices nms base (take n (map flag opens)) (trianglesOf xs) R in
-      let rest : List ℕ → ℕ → List Float → List Facet = λ ms k ts. flatMap (λ fs. fs) (bodyFacets ms (drop k opens) (patchesOf rs ts (drop (3 * v) ns) (drop n is))) in
+      let here = rowVertices nms base (take n (map flag areOpen)) (trianglesOf xs) R in
+      let rest : List ℕ → ℕ → List Float → List Facet = λ ms k ts. flatMap (λ fs. fs) (bodyFacets ms (drop k areOpen) (patchesOf rs ts (drop (3 * v) ns) (drop n is))) in
       let long : length xs ≡ n = length-take-le n is (omega arith) in
       let three : 3 * base + 3 * v ≡ 3 * (base + v) = omega arith in
       let left = drop-drop (3 * v) (3 * base) ps ∙ ap (λ (k : ℕ). drop k ps) three in
-      let row = row-points (points-from ps base v (drop (3 * base) ps) refl) (names-from nms base (drop base nms) refl) opens xs (inside-first r rs is h) R
-      ∙ ap (λ (k : ℕ). points (rowVertices nms base (take k (map flag opens)) (trianglesOf xs) R)) long in
-      loose-append (facetsOf qs (drop base nms) opens (trianglesOf xs)) (rest (drop v (drop base nms)) (length xs) (drop (3 * v) (drop (3 * base) ps))) (points R)
+      let row = row-points (points-from ps base v (drop (3 * base) ps) refl) (names-from nms base (drop base nms) refl) areOpen xs (inside-first r rs is h) R
+      ∙ ap (λ (k : ℕ). points (rowVertices nms base (take k (map flag areOpen)) (trianglesOf xs) R)) long in
+      loose-append (facetsOf qs (drop base nms) areOpen (trianglesOf xs)) (rest (drop v (drop base nms)) (length xs) (drop (3 * v) (drop (3 * base) ps))) (points R)
       ∙ (λ j. looseFrom (rest (drop-drop v base nms j) (long j) (left j)) (row j))
-      ∙ body-points rs (base + v) (drop (3 * v) ns) (drop n is) (drop n opens) here (omega (arith, length-drop n is)) (inside-rest r rs is h)
-      ∙ ap (λ (fs : List ℕ). points (bodyVertices nms (base + v) fs rs (drop n is) here)) (flags-drop n opens)
+      ∙ body-points rs (base + v) (drop (3 * v) ns) (drop n is) (drop n areOpen) here (omega (arith, length-drop n is)) (inside-rest r rs is h)
+      ∙ ap (λ (fs : List ℕ). points (bodyVertices nms (base + v) fs rs (drop n is) here)) (flags-drop n areOpen)
 
 -- The vertices gathered by the flags of a body's uses are those of its loose points.
 pub loose-is : (table : List ℕ) (ps ns : List Float) (is nms : List ℕ) → length is ≡ allIndices (rowsOf table) → Inside (rowsOf table) is

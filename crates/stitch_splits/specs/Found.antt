@@ -18,7 +18,7 @@ use Rattle.stitch_splits.specs.Entries.{Entry, insertEntry, keptEntries}
 
 -- an edge of a triangle as the code holds it
 abbrev pub edgeFrom : Corner → Corner → TriangleEdge
-edgeFrom c d = record { edge = edgeOf (c .point) (d .point); start = c .name; end = d .name; opens = c .opens }
+edgeFrom c d = record { edge = edgeOf (c .point) (d .point); start = c .name; end = d .name; «is_open» = c .isOpen }
 
 -- the edges of a triangle
 abbrev pub sidesFrom : Facet → Sides
@@ -26,7 +26,7 @@ sidesFrom f = record { first = edgeFrom (f .c₀) (f .c₁); second = edgeFrom (
 
 -- whether a point counts for an edge, if it is open: its name is neither end's, and it projects into the edge within the sag
 abbrev pub counts : Float → TriangleEdge → ℕ → Vec3 → Bool
-counts sag s name r = s .opens && not (eqb name (s .start)) && not (eqb name (s .end)) && withinSag sag (s .edge) r
+counts sag s name r = s .«is_open» && not (eqb name (s .start)) && not (eqb name (s .end)) && withinSag sag (s .edge) r
 
 -- the edge from corner 0, 1, 2
 unfoldable pub sideOf : Sides → ℕ → TriangleEdge

@@ -133,10 +133,10 @@ module _ (ps : List Float) where
     -- one edge, and the edges behind it
     from-found : (s : Side) (ss : List Side) (m : ℕ → Bool) (gs : List ℕ) (found : List Vec3) → Apart gs → Told m gs found
         → foundFrom sag (map (looseOf ps ns) gs) (s ∷ ss) found
-        ≡ foundFrom sag (map (looseOf ps ns) gs) ss (found ++ map (pointAt ps) (filter (λ g. s .start .opens && splits sag s (looseOf ps ns g) && not (m g)) gs))
+        ≡ foundFrom sag (map (looseOf ps ns) gs) ss (found ++ map (pointAt ps) (filter (λ g. s .start .isOpen && splits sag s (looseOf ps ns g) && not (m g)) gs))
     unfolding foundFrom
     from-found s ss m gs found a t =
-        pull (s .start .opens) ∙ ap (foundFrom sag (map (looseOf ps ns) gs) ss) (step-found (s .start .opens) s m gs found a t)
+        pull (s .start .isOpen) ∙ ap (foundFrom sag (map (looseOf ps ns) gs) ss) (step-found (s .start .isOpen) s m gs found a t)
       where
         pull : (o : Bool)
             → elim o [ true ↦ foundFrom sag (map (looseOf ps ns) gs) ss (foundOn sag s (map (looseOf ps ns) gs) found) | false ↦ foundFrom sag (map (looseOf ps ns) gs) ss found ]
@@ -171,10 +171,10 @@ third-only false false false = refl
 
 module _ (sag : Float) (ps : List Float) (ns : List ℕ) where
   -- a vertex counts for an edge in the code as in the definition
-  side-counts : (c d : Corner) (g : ℕ) → (c .opens && splits sag (sideOf c d) (looseOf ps ns g)) ≡ counts sag (edgeFrom c d) (getD ns g 0) (pointAt ps g)
+  side-counts : (c d : Corner) (g : ℕ) → (c .isOpen && splits sag (sideOf c d) (looseOf ps ns g)) ≡ counts sag (edgeFrom c d) (getD ns g 0) (pointAt ps g)
   unfolding splits sideOf
   side-counts c d g =
-      and-three (c .opens) (not (eqb (getD ns g 0) (c .name))) (not (eqb (getD ns g 0) (d .name))) (withinSag sag (edgeOf (c .point) (d .point)) (pointAt ps g))
+      and-three (c .isOpen) (not (eqb (getD ns g 0) (c .name))) (not (eqb (getD ns g 0) (d .name))) (withinSag sag (edgeOf (c .point) (d .point)) (pointAt ps g))
 
   -- The points that split a triangle are those of the vertices that the code finds, in order.
   pub found-points : (f : Facet) (gs : List ℕ) → Distinct ps ns gs
@@ -186,11 +186,11 @@ module _ (sag : Float) (ps : List Float) (ns : List ℕ) where
       let s₁ = sideOf (f .c₁) (f .c₂) in
       let s₂ = sideOf (f .c₂) (f .c₀) in
       let m₀ : ℕ → Bool = λ g. false in
-      let p₀ : ℕ → Bool = λ g. f .c₀ .opens && splits sag s₀ (looseOf ps ns g) && not (m₀ g) in
+      let p₀ : ℕ → Bool = λ g. f .c₀ .isOpen && splits sag s₀ (looseOf ps ns g) && not (m₀ g) in
       let m₁ : ℕ → Bool = λ g. m₀ g || p₀ g in
-      let p₁ : ℕ → Bool = λ g. f .c₁ .opens && splits sag s₁ (looseOf ps ns g) && not (m₁ g) in
+      let p₁ : ℕ → Bool = λ g. f .c₁ .isOpen && splits sag s₁ (looseOf ps ns g) && not (m₁ g) in
       let m₂ : ℕ → Bool = λ g. m₁ g || p₁ g in
-      let p₂ : ℕ → Bool = λ g. f .c₂ .opens && splits sag s₂ (looseOf ps ns g) && not (m₂ g) in
+      let p₂ : ℕ → Bool = λ g. f .c₂ .isOpen && splits sag s₂ (looseOf ps ns g) && not (m₂ g) in
       let t₀ : Told ps m₀ gs [] = λ k h. refl in
       let F₁ = map (pointAt ps) (filter p₀ gs) in
       let t₁ : Told ps m₁ gs F₁ = told-more ps ns sag m₀ p₀ gs [] a t₀ in

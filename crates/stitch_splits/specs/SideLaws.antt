@@ -30,12 +30,12 @@ not-found sag s (suc zero) name r h = ap (λ (b : Bool). b && not (countsOn sag 
 not-found sag s (suc (suc e)) name r h = ap (λ (b : Bool). b && not (countsOn sag s 0 name r) && not (countsOn sag s 1 name r)) h
 
 -- an edge that is not open finds nothing
-pub closed-finds-none : (sag : Float) (s : Sides) (e name : ℕ) (r : Vec3) → sideOf s e .opens ≡ false → foundOnly sag s e name r ≡ false
+pub closed-finds-none : (sag : Float) (s : Sides) (e name : ℕ) (r : Vec3) → sideOf s e .«is_open» ≡ false → foundOnly sag s e name r ≡ false
 closed-finds-none sag s e name r h = not-found sag s e name r (rw h)
 
 -- nor does an edge find what is not within the sag of it
 pub far-is-not-found : (sag : Float) (s : Sides) (e name : ℕ) (r : Vec3) → withinSag sag (sideOf s e .edge) r ≡ false → foundOnly sag s e name r ≡ false
-far-is-not-found sag s e name r h = not-found sag s e name r (last (sideOf s e .opens) _ _ _ h)
+far-is-not-found sag s e name r h = not-found sag s e name r (last (sideOf s e .«is_open») _ _ _ h)
   where
     last : (a b c d : Bool) → d ≡ false → (a && b && c && d) ≡ false
     last true true true d h = h

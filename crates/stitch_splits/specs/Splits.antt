@@ -48,7 +48,7 @@ foundOn sag s (l ∷ ls) found =
 unfoldable pub foundFrom : Float → List Loose → List Side → List Vec3 → List Vec3
 foundFrom sag ls [] found = found
 foundFrom sag ls (s ∷ ss) found =
-    elim (s .start .opens) [ true ↦ foundFrom sag ls ss (foundOn sag s ls found) | false ↦ foundFrom sag ls ss found ]
+    elim (s .start .isOpen) [ true ↦ foundFrom sag ls ss (foundOn sag s ls found) | false ↦ foundFrom sag ls ss found ]
 
 -- ---- placing
 

@@ -10,7 +10,7 @@ pub struct TriangleEdge {
     pub edge: Edge,
     pub start: u64,
     pub end: u64,
-    pub opens: bool,
+    pub is_open: bool,
 }
 
 // The edges from corner 0, 1 and 2.

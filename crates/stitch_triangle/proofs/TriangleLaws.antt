@@ -271,7 +271,7 @@ module _ {ps : List Float} {sag beyond : Float} {v list count e at ts found plac
         skip (far-is-not-found sag s e _ _ (subst (λ (x : TriangleEdge). withinSag sag (x .edge) (pointAt ps (getD E (list + j) 0)) ≡ false) ex (d .out sag (g .far) z)))
 
     -- nor any on an edge that is not open
-    skip-closed : sideOf s e .opens ≡ false → Finding ps sag s v list count e at ts found placed W total entries (j + 1) E
+    skip-closed : sideOf s e .«is_open» ≡ false → Finding ps sag s v list count e at ts found placed W total entries (j + 1) E
     skip-closed h = skip (closed-finds-none sag s e _ _ h)
 
   -- all have been tried
@@ -291,15 +291,15 @@ module _ {ps : List Float} {sag beyond : Float} {v list count e at ts found plac
       }
 
   -- an edge that is not open finds nothing
-  pub finding-closed : {x : TriangleEdge} → x ≡ sideOf s e → not (x .opens) ≡ true → FoundAll ps sag s v list count e at ts found placed W W found placed
+  pub finding-closed : {x : TriangleEdge} → x ≡ sideOf s e → not (x .«is_open») ≡ true → FoundAll ps sag s v list count e at ts found placed W W found placed
   finding-closed {x} ex h = finding-all (all count (omega arith)) (omega arith)
     where
       shut : (b : Bool) → not b ≡ true → b ≡ false
       shut true z = sym z
       shut false z = refl
 
-      closed : sideOf s e .opens ≡ false
-      closed = ap (λ (x : TriangleEdge). x .opens) (sym ex) ∙ shut (x .opens) h
+      closed : sideOf s e .«is_open» ≡ false
+      closed = ap (λ (x : TriangleEdge). x .«is_open») (sym ex) ∙ shut (x .«is_open») h
 
       all : (j : ℕ) → j ≤ count → Finding ps sag s v list count e at ts found placed W found placed j W
       all zero l = finding-none

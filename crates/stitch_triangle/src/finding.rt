@@ -13,7 +13,7 @@ fn counts_for(s: TriangleEdge, name: u64, r: Vec3, sag: f64, beyond: f64) -> boo
     requires { ⌜ Beyond sag beyond ⌝ }
     ensures { λ o. ⌜ o ≡ counts sag s name r ⌝ }
 {
-    let apart = s.opens & (name != s.start) & (name != s.end);
+    let apart = s.is_open & (name != s.start) & (name != s.end);
     if apart {
         return stitch_sag::within_sag(s.edge, r, sag, beyond);
     }

@@ -102,7 +102,7 @@ fn find_all(
         found: found,
         placed: placed,
     };
-    if !side.opens {
+    if !side.is_open {
         return t;
     }
     let mut j = 0usize;

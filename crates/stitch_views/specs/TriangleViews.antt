@@ -57,7 +57,7 @@ module _ {ps : List Float} {nms : List ℕ} {base n : ℕ} {qs : List Float} {ms
   edge-is : (o p : Bool) (i j : ℕ) → i < n → j < n → edgeFrom (cornerOf qs ms o i) (cornerOf qs ms p j) ≡ edgeAt ps nms (base + i) (base + j) (flag o)
   unfolding cornerOf
   edge-is o p i j hi hj =
-      λ k. record { edge = edgeOf (from .point i hi k) (from .point j hj k); start = named .name i k; end = named .name j k; opens = flag-set o k }
+      λ k. record { edge = edgeOf (from .point i hi k) (from .point j hj k); start = named .name i k; end = named .name j k; «is_open» = flag-set o k }
 
   -- so are the sides of a triangle
   sides-are : (o p q : Bool) (t : Triangle) → Corners n t → sidesFrom (facetAt qs ms o p q t) ≡ sidesAt ps nms (base + t .a) (base + t .b) (base + t .c) (flag o) (flag p) (flag q)

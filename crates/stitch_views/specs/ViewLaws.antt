@@ -85,19 +85,19 @@ patch-is r qs ts is from seen =
 module _ (sag : Float) {ps : List Float} {nms : List ℕ} {base n : ℕ} {qs : List Float} {ms : List ℕ} (from : PointsFrom ps base n qs) (named : NamesFrom nms base ms) (gs : List ℕ)
     (d : Distinct ps nms gs) where
   -- a row's triangles with their views
-  row-seen : (opens : List Bool) (xs : List ℕ) → ((j : ℕ) → j < length xs → getD xs j 0 < n)
-      → AllSeen ps n (map (splitTriangle sag (map (looseOf ps nms) gs)) (facetsOf qs ms opens (trianglesOf xs))) (rowViews sag ps nms gs base (take (length xs) (map flag opens)) (trianglesOf xs))
+  row-seen : (areOpen : List Bool) (xs : List ℕ) → ((j : ℕ) → j < length xs → getD xs j 0 < n)
+      → AllSeen ps n (map (splitTriangle sag (map (looseOf ps nms) gs)) (facetsOf qs ms areOpen (trianglesOf xs))) (rowViews sag ps nms gs base (take (length xs) (map flag areOpen)) (trianglesOf xs))
   unfolding facetsOf rowViews trianglesOf
-  row-seen opens [] b = none
-  row-seen opens (x ∷ []) b = none
-  row-seen opens (x ∷ y ∷ []) b = none
+  row-seen areOpen [] b = none
+  row-seen areOpen (x ∷ []) b = none
+  row-seen areOpen (x ∷ y ∷ []) b = none
   row-seen [] (x ∷ y ∷ z ∷ xs) b = none
   row-seen (o ∷ []) (x ∷ y ∷ z ∷ xs) b = none
   row-seen (o ∷ p ∷ []) (x ∷ y ∷ z ∷ xs) b = none
-  row-seen (o ∷ p ∷ q ∷ opens) (x ∷ y ∷ z ∷ xs) b =
+  row-seen (o ∷ p ∷ q ∷ areOpen) (x ∷ y ∷ z ∷ xs) b =
       one
       (triangle-seen from named sag gs d o p q (record { a = x; b = y; c = z }) (record { low-a = b 0 (omega arith); low-b = b 1 (omega arith); low-c = b 2 (omega arith) }))
-      (row-seen opens xs (λ j h. b (suc (suc (suc j))) (omega arith)))
+      (row-seen areOpen xs (λ j h. b (suc (suc (suc j))) (omega arith)))
 
 -- ---- where a row begins
 
@@ -108,21 +108,21 @@ points-behind ps base v qs e =
     ap (drop (3 * v)) e ∙ drop-drop (3 * v) (3 * base) ps ∙ ap (λ (k : ℕ). drop k ps) three
 
 -- rows whose vertices start at `base`: what is left of positions, normals and names, and the flags of the edges that are left
-record Begun (ps ns : List Float) (nms : List ℕ) (base : ℕ) (qs ts : List Float) (ms : List ℕ) (opens : List Bool) (fs : List ℕ) : Type 0 where
+record Begun (ps ns : List Float) (nms : List ℕ) (base : ℕ) (qs ts : List Float) (ms : List ℕ) (areOpen : List Bool) (fs : List ℕ) : Type 0 where
   positions : qs ≡ drop (3 * base) ps
   normals : ts ≡ drop (3 * base) ns
   names : ms ≡ drop base nms
-  flags : fs ≡ map flag opens
+  flags : fs ≡ map flag areOpen
 
 -- so are the rows behind the first
-begun-rest : {ps ns : List Float} {nms : List ℕ} {base : ℕ} {qs ts : List Float} {ms : List ℕ} {opens : List Bool} {fs : List ℕ} → Begun ps ns nms base qs ts ms opens fs → (v n k : ℕ) → k ≡ n
-    → Begun ps ns nms (base + v) (drop (3 * v) qs) (drop (3 * v) ts) (drop v ms) (drop k opens) (drop n fs)
-begun-rest {ps} {ns} {nms} {base} {qs} {ts} {ms} {opens} {fs} h v n k e =
+begun-rest : {ps ns : List Float} {nms : List ℕ} {base : ℕ} {qs ts : List Float} {ms : List ℕ} {areOpen : List Bool} {fs : List ℕ} → Begun ps ns nms base qs ts ms areOpen fs → (v n k : ℕ) → k ≡ n
+    → Begun ps ns nms (base + v) (drop (3 * v) qs) (drop (3 * v) ts) (drop v ms) (drop k areOpen) (drop n fs)
+begun-rest {ps} {ns} {nms} {base} {qs} {ts} {ms} {areOpen} {fs} h v n k e =
     record {
       positions = points-behind ps base v qs (h .positions);
       normals = points-behind ns base v ts (h .normals);
       names = ap (drop v) (h .names) ∙ drop-drop v base nms;
-      flags = ap (drop n) (h .flags) ∙ sym (flags-drop n opens) ∙ ap (λ (m : ℕ). map flag (drop m opens)) (sym e);
+      flags = ap (drop n) (h .flags) ∙ sym (flags-drop n areOpen) ∙ ap (λ (m : ℕ). map flag (drop m areOpen)) (sym e);
     }
 
 -- ---- all rows
@@ -170,27 +170,27 @@ module _ (ps ns : List Float) where
 
 module _ (sag : Float) (ps ns : List Float) (nms gs : List ℕ) (d : Distinct ps nms gs) where
   -- the triangles of the first row with their views
-  first-seen : {base : ℕ} {qs ts : List Float} {ms : List ℕ} {opens : List Bool} {fs : List ℕ} (r : Row) (rs : List Row) (is : List ℕ)
-      → Begun ps ns nms base qs ts ms opens fs → length (take (r .indices) is) ≡ r .indices → Inside (r ∷ rs) is
-      → AllSeen ps (r .vertices) (map (splitTriangle sag (map (looseOf ps nms) gs)) (facetsOf (take (3 * r .vertices) qs) ms opens (trianglesOf (take (r .indices) is))))
+  first-seen : {base : ℕ} {qs ts : List Float} {ms : List ℕ} {areOpen : List Bool} {fs : List ℕ} (r : Row) (rs : List Row) (is : List ℕ)
+      → Begun ps ns nms base qs ts ms areOpen fs → length (take (r .indices) is) ≡ r .indices → Inside (r ∷ rs) is
+      → AllSeen ps (r .vertices) (map (splitTriangle sag (map (looseOf ps nms) gs)) (facetsOf (take (3 * r .vertices) qs) ms areOpen (trianglesOf (take (r .indices) is))))
       (rowViews sag ps nms gs base (take (r .indices) fs) (trianglesOf (take (r .indices) is)))
-  first-seen {base} {qs} {ts} {ms} {opens} {fs} r rs is g long h =
+  first-seen {base} {qs} {ts} {ms} {areOpen} {fs} r rs is g long h =
       let xs = take (r .indices) is in
-      let e : take (length xs) (map flag opens) ≡ take (r .indices) fs = λ k. take (long k) (sym (g .flags) k) in
+      let e : take (length xs) (map flag areOpen) ≡ take (r .indices) fs = λ k. take (long k) (sym (g .flags) k) in
       subst
-      (λ (l : List ℕ). AllSeen ps (r .vertices) (map (splitTriangle sag (map (looseOf ps nms) gs)) (facetsOf (take (3 * r .vertices) qs) ms opens (trianglesOf xs)))
+      (λ (l : List ℕ). AllSeen ps (r .vertices) (map (splitTriangle sag (map (looseOf ps nms) gs)) (facetsOf (take (3 * r .vertices) qs) ms areOpen (trianglesOf xs)))
       (rowViews sag ps nms gs base l (trianglesOf xs)))
       e
-      (row-seen sag (points-from ps base (r .vertices) qs (g .positions)) (names-from nms base ms (g .names)) gs d opens xs (inside-first r rs is h))
+      (row-seen sag (points-from ps base (r .vertices) qs (g .positions)) (names-from nms base ms (g .names)) gs d areOpen xs (inside-first r rs is h))
 
   -- the patches that the code makes are the definition's
-  body-patches : {base : ℕ} {qs ts : List Float} {ms : List ℕ} {opens : List Bool} {fs : List ℕ} (rows : List Row) (is : List ℕ)
-      → Begun ps ns nms base qs ts ms opens fs → allIndices rows ≤ length is → Inside rows is
-      → stitchedPatches (patchesOf rows qs ts is) (map (λ xs. map (splitTriangle sag (map (looseOf ps nms) gs)) xs) (bodyFacets ms opens (patchesOf rows qs ts is)))
+  body-patches : {base : ℕ} {qs ts : List Float} {ms : List ℕ} {areOpen : List Bool} {fs : List ℕ} (rows : List Row) (is : List ℕ)
+      → Begun ps ns nms base qs ts ms areOpen fs → allIndices rows ≤ length is → Inside rows is
+      → stitchedPatches (patchesOf rows qs ts is) (map (λ xs. map (splitTriangle sag (map (looseOf ps nms) gs)) xs) (bodyFacets ms areOpen (patchesOf rows qs ts is)))
       ≡ viewedPatches ps ns base rows qs ts (bodyViews sag ps nms gs base fs rows is)
   unfolding stitchedPatches patchesOf bodyFacets viewedPatches bodyViews allIndices sumOf
   body-patches [] is g l h = refl
-  body-patches {base} {qs} {ts} {ms} {opens} {fs} (r ∷ rs) is g l h =
+  body-patches {base} {qs} {ts} {ms} {areOpen} {fs} (r ∷ rs) is g l h =
       let v = r .vertices in
       let n = r .indices in
       let long : length (take n is) ≡ n = length-take-le n is (omega arith) in
@@ -199,13 +199,13 @@ module _ (sag : Float) (ps ns : List Float) (nms gs : List ℕ) (d : Distinct ps
       λ k. here k ∷ rest k
 
   -- as many points split the triangles
-  body-found : {base : ℕ} {qs ts : List Float} {ms : List ℕ} {opens : List Bool} {fs : List ℕ} (rows : List Row) (is : List ℕ)
-      → Begun ps ns nms base qs ts ms opens fs → allIndices rows ≤ length is → Inside rows is
-      → sumOf (λ cs. sumOf (λ c. c .found) cs) (map (λ xs. map (splitTriangle sag (map (looseOf ps nms) gs)) xs) (bodyFacets ms opens (patchesOf rows qs ts is)))
+  body-found : {base : ℕ} {qs ts : List Float} {ms : List ℕ} {areOpen : List Bool} {fs : List ℕ} (rows : List Row) (is : List ℕ)
+      → Begun ps ns nms base qs ts ms areOpen fs → allIndices rows ≤ length is → Inside rows is
+      → sumOf (λ cs. sumOf (λ c. c .found) cs) (map (λ xs. map (splitTriangle sag (map (looseOf ps nms) gs)) xs) (bodyFacets ms areOpen (patchesOf rows qs ts is)))
       ≡ sumOf foundIn (bodyViews sag ps nms gs base fs rows is)
   unfolding patchesOf bodyFacets bodyViews allIndices sumOf
   body-found [] is g l h = refl
-  body-found {base} {qs} {ts} {ms} {opens} {fs} (r ∷ rs) is g l h =
+  body-found {base} {qs} {ts} {ms} {areOpen} {fs} (r ∷ rs) is g l h =
       let v = r .vertices in
       let n = r .indices in
       let long : length (take n is) ≡ n = length-take-le n is (omega arith) in

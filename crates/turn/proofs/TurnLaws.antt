@@ -10,7 +10,7 @@ use Rattle.point_rules.specs.Points.{key}
 use Rattle.body_rows.specs.Body.{firstFailing}
 use Rattle.body_refusals.specs.BodyChecks.{bodyChecks}
 use Rattle.body_checks.specs.Accepted.{Passed, passed}
-use Rattle.turn_definition.specs.declared.Counts.{Counts}
+use Rattle.turn_definition.specs.declared.TurnCounts.{TurnCounts}
 use Rattle.turn_definition.specs.declared.Turned.the-variants.{Done, Refused}
 use Rattle.turn_definition.specs.Orient.{refuseTurn, turnOf}
 use Rattle.turn_definition.specs.Answers.{left, leftDone, answered, turnDone}
@@ -31,7 +31,7 @@ module _ (table : List ℕ) (ps ns : List Float) (is W : List ℕ) {refusal : �
   turn-refused e = rw (ne-eqb (firstFailing (bodyChecks table ps ns is (length W))) 0 (λ q. e (f ∙ q)), turnOf)
 
   -- such a body is turned
-  pub call-done : {c : Counts} {ns' : List Float} {is' W' : List ℕ} → refusal ≡ 0 → leftDone c ns' is' W' ≡ turnDone table ps ns is W
+  pub call-done : {c : TurnCounts} {ns' : List Float} {is' W' : List ℕ} → refusal ≡ 0 → leftDone c ns' is' W' ≡ turnDone table ps ns is W
       → left (Done c) ns' is' W' ≡ answered (turnOf key table ps ns is W)
   call-done e t = ap answered (t ∙ sym (turn-done e))
 

@@ -1,6 +1,6 @@
 // An accepted body turned: coloured, coloured rows reversed, the work area cleared.
 
-use turn_definition::Counts;
+use turn_definition::TurnCounts;
 ghost use mathlib.Core.Path.{_≡_};
 ghost use lib.ListN.{length};
 ghost use Rattle.body_checks.specs.Accepted.{Passed};
@@ -13,7 +13,7 @@ pub fn turn_accepted(
     normals: &mut [f32],
     indices: &mut [u32],
     work: &mut [u64],
-) -> Counts
+) -> TurnCounts
     requires { ⌜ Passed (now rows) (now positions) (now normals) (now indices) (length (now work)) ⌝ }
     ensures { λ r. ⌜ leftDone r (now (normals .exit)) (now (indices .exit)) (now (work .exit))
         ≡ turnDone (now (rows .entry)) (now (positions .entry)) (now (normals .entry)) (now (indices .entry)) (now (work .entry)) ⌝ }
@@ -25,7 +25,7 @@ pub fn turn_accepted(
     let against = turn_colouring::colour_rows(rows, positions, indices, work, v, m);
     let turned = turn_reversal::reverse_rows(rows, normals, indices, work, colours);
     slice_fill::clear(work, 16 * n + 16 * m + 4 * v);
-    Counts {
+    TurnCounts {
         turned: turned,
         against: against,
     }

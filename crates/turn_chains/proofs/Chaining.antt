@@ -9,7 +9,7 @@ use lib.ListN.{length, getD, set, replicate, length-replicate, length-set}
 use lib.Seq.{sets, getD-set-same, getD-set-other, take-set-le, drop-set-lt}
 use Rattle.lists.specs.Sets.{getD-sets-in}
 use Rattle.turn_walk.specs.Uses.{Uses, own, far, records, touches, records-skip, records-same, records-yes, touch-none, touch-own, touch-far, touch-other}
-use Rattle.turn_walk.specs.Area.{Within, usesOf}
+use Rattle.turn_walk.specs.Area.{WrittenBetween, usesOf}
 use Rattle.turn_walk.specs.Chains.{linkFrom, Chains, Chainable, UseAt, PairAt, ChainNext, Chained, linked}
 use Rattle.turn_walk.specs.Frames.{within-sets, within-more}
 use Rattle.turn_walk.specs.Kept.{zeros}
@@ -141,7 +141,7 @@ module _ {n m i : ℕ} {W : List ℕ} (q : ChainNext n m i W) where
           fars = λ k h g p. far-link k h g p (ℕ-discrete i k);
         }
 
-    heads-set-within : Within (3 * n) (5 * n + m) W (linked n i a b W)
+    heads-set-within : WrittenBetween (3 * n) (5 * n + m) W (linked n i a b W)
     heads-set-within =
         record {
           front =
@@ -216,7 +216,7 @@ heads-cleared {n} {m} {W} {E} g e = subst (λ (F : List ℕ). Chained n m n W F)
     long : length (replicate {A = ℕ} m 0) ≡ m
     long = length-replicate m 0
 
-    within : Within (3 * n) (5 * n + m) W (sets W (5 * n) (replicate m 0))
+    within : WrittenBetween (3 * n) (5 * n + m) W (sets W (5 * n) (replicate m 0))
     within = within-sets (replicate m 0) W (omega arith) (omega (arith, long))
 
     none : 0 ≡ n - n

@@ -8,7 +8,7 @@ use native.Mathlib.Decide.{ℕ-discrete}
 use lib.ListN.{length, getD, take, drop, set, replicate, length-replicate, length-set, drop-of-length-le}
 use lib.Seq.{sets, getD-set-same, getD-set-other, take-set-lt, drop-set-add, drop-cons}
 use Rattle.turn_walk.specs.Walk.{opposite, inverted}
-use Rattle.turn_walk.specs.Area.{Within}
+use Rattle.turn_walk.specs.Area.{WrittenBetween}
 use Rattle.turn_walk.specs.Group.{queueOf, coloursOf, Colours, Queue, Uncoloured, Invertible, GroupInverted}
 use Rattle.lists.specs.Stretches.{front-at, stretch-sets}
 use Rattle.turn_walk.specs.Frames.{within-none, within-set, within-sets, within-more}
@@ -22,7 +22,7 @@ uncoloured {n} {m} {W} {E} room e =
     record {
       colours = all;
       known = record { known = λ y l. omega (arith, sym (colour-at n m E y l) ∙ ap (λ (c : List ℕ). getD c y 0) all ∙ zeros m y) };
-      within = subst (λ (F : List ℕ). Within (5 * n + 2 * m) (5 * n + 3 * m) W F) (sym filled) (within-sets (replicate m 0) W (omega arith) (omega (arith, long)));
+      within = subst (λ (F : List ℕ). WrittenBetween (5 * n + 2 * m) (5 * n + 3 * m) W F) (sym filled) (within-sets (replicate m 0) W (omega arith) (omega (arith, long)));
     }
   where
     gap : 5 * n + 2 * m + m - (5 * n + 2 * m) ≡ m
@@ -45,7 +45,7 @@ pub record Inverting (n m t : ℕ) (W : List ℕ) (k : ℕ) (E : List ℕ) : Typ
   pub goes-on : inverted (drop k (queueOf n m t W)) (coloursOf n m E) ≡ inverted (queueOf n m t W) (coloursOf n m W)
   pub queue : Queue n m t E
   pub known : Colours n m E
-  pub within : Within (5 * n + 2 * m) (5 * n + 3 * m) W E
+  pub within : WrittenBetween (5 * n + 2 * m) (5 * n + 3 * m) W E
   pub long : length E ≡ length W
 
 -- none

@@ -8,7 +8,7 @@ use Rattle.point_rules.specs.Rule.{names}
 use Rattle.point_rules.specs.Points.{key}
 use Rattle.join_definition.specs.Join.{joined}
 use Rattle.body_rows.specs.Body.{rowsOf, patchesOf}
-use Rattle.turn_definition.specs.declared.Counts.{Counts}
+use Rattle.turn_definition.specs.declared.TurnCounts.{TurnCounts}
 use Rattle.turn_definition.specs.declared.Turned.{Turned}
 use Rattle.turn_definition.specs.declared.Turned.the-variants.{Done, Refused}
 use Rattle.turn_definition.specs.Orient.{AfterTurn, walksOf, turnBody}
@@ -21,7 +21,7 @@ turnDone table ps ns is work =
     turnBody (rowsOf table) (patchesOf (rowsOf table) ps ns is) (walksOf (patchesOf (rowsOf table) ps ns is) (joined (names key ps))) work
 
 -- the counts, and what the lent slices hold
-abbrev pub leftDone : Counts → List Float → List ℕ → List ℕ → AfterTurn
+abbrev pub leftDone : TurnCounts → List Float → List ℕ → List ℕ → AfterTurn
 leftDone c ns is work = record { refusal = 0; turned = c .turned; against = c .against; normals = ns; indices = is; work = work }
 
 -- ---- the call

@@ -7,7 +7,7 @@ use lib.Ieee.{Float}
 use Rattle.body_rows.specs.Patches.{shapes}
 use Rattle.patch_geometry.specs.Geometry.{zero64}
 use Rattle.turn_walk.specs.Walk.{inverted}
-use Rattle.turn_walk.specs.Area.{queueAt, coloursAt, areaEnd, Within}
+use Rattle.turn_walk.specs.Area.{queueAt, coloursAt, areaEnd, WrittenBetween}
 use Rattle.turn_walk.specs.Group.{queueOf, coloursOf, Colours, Rooted, walkFrom}
 use Rattle.turn_definition.specs.Inversion.{volumeFrom, inverts}
 use Rattle.turn_definition.specs.Groups.{addGroup}
@@ -24,7 +24,7 @@ pub record Judged (table : List ℕ) (ps : List Float) (is : List ℕ) (n m t : 
       ≡ cond (inverts (shapes table ps is) (coloursOf n m W) (queueOf n m t W) (volumeFrom (shapes table ps is) (coloursOf n m W) zero64 (queueOf n m t W)))
       (inverted (queueOf n m t W) (coloursOf n m W)) (coloursOf n m W)
   pub known : Colours n m E
-  pub within : Within (coloursAt n m) (areaEnd n m) W E
+  pub within : WrittenBetween (coloursAt n m) (areaEnd n m) W E
 
 -- what settling the group of a root asks
 pub record Settleable (table : List ℕ) (ps : List Float) (is W : List ℕ) (n m root a : ℕ) : Type 0 where
@@ -37,4 +37,4 @@ pub record Settled (table : List ℕ) (ps : List Float) (is : List ℕ) (n m roo
   pub total : against ≡ walkFrom n m root a W .against
   pub known : Colours n m E
   pub few : against ≤ a + m * n
-  pub within : Within (queueAt n m) (areaEnd n m) W E
+  pub within : WrittenBetween (queueAt n m) (areaEnd n m) W E

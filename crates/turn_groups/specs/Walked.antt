@@ -9,7 +9,7 @@ use Rattle.body_rows.specs.Body.{Patch, rowsOf, allVertices, allIndices}
 use Rattle.body_rows.specs.Rows.{WholeRows, rowAt, verticesBefore, indicesBefore}
 use Rattle.turn_walk.specs.Walk.{Pair, unvisited}
 use Rattle.turn_walk.specs.Uses.{pairsBy}
-use Rattle.turn_walk.specs.Area.{queueAt, areaEnd, Within, usesOf, Sound}
+use Rattle.turn_walk.specs.Area.{queueAt, areaEnd, WrittenBetween, usesOf, Sound}
 use Rattle.turn_walk.specs.Chains.{Paired}
 use Rattle.turn_walk.specs.Group.{coloursOf, Colours, countable}
 use Rattle.turn_definition.specs.Groups.{Group, Walks, walksFrom}
@@ -35,7 +35,7 @@ pub record RootSettled (table : List ℕ) (ps : List Float) (is : List ℕ) (n m
       ≡ walksFrom (shapes table ps is) (pairsBy (usesOf n W)) k (drop k (shapes table ps is)) (record { groups = g; colours = coloursOf n m W; against = a })
   pub known : Colours n m E
   pub few : against ≤ a + m * n
-  pub within : Within (queueAt n m) (areaEnd n m) W E
+  pub within : WrittenBetween (queueAt n m) (areaEnd n m) W E
 
 -- what settling all groups asks: chains, and no row visited
 pub record GroupsReady (table : List ℕ) (ps : List Float) (is W : List ℕ) (n m : ℕ) : Type 0 where

@@ -13,7 +13,7 @@ use Rattle.body_rows.specs.Patches.{shapes}
 use Rattle.lists.specs.Lists.{sumOf}
 use Rattle.body_rows.specs.Body.{Patch, rowsOf}
 use Rattle.body_rows.specs.Rows.{rowAt, verticesBefore, indicesBefore}
-use Rattle.patch_measures.specs.Volume.{Within, patchVolume}
+use Rattle.patch_measures.specs.Volume.{CornersInside, patchVolume}
 use Rattle.patch_geometry.specs.Geometry.{add, zero64}
 use Rattle.turn_walk.specs.Walk.{unvisited}
 use Rattle.turn_walk.specs.Group.{queueOf, Queue}
@@ -49,7 +49,7 @@ module _ {table : List ℕ} {ps : List Float} {is W : List ℕ} {n m x : ℕ} (r
       let b : i ≡ indicesBefore (rowsOf table) x = omega (arith, i-is r) in
       ap (λ k. take k (drop i is)) a ∙ ap (λ k. take (rowAt table x .indices) (drop k is)) b ∙ sym (ap (λ (p : Patch). p .indices) (patch-is r))
 
-  pub row-within : Within (take (3 * getD W (vertexBasesAt n m + x) 0 + 3 * vs - 3 * getD W (vertexBasesAt n m + x) 0) (drop (3 * getD W (vertexBasesAt n m + x) 0) ps))
+  pub row-within : CornersInside (take (3 * getD W (vertexBasesAt n m + x) 0 + 3 * vs - 3 * getD W (vertexBasesAt n m + x) 0) (drop (3 * getD W (vertexBasesAt n m + x) 0) ps))
       (take (getD W (indexBasesAt n m + x) 0 + count - getD W (indexBasesAt n m + x) 0) (drop (getD W (indexBasesAt n m + x) 0) is))
   row-within k h =
       let a : vend - v ≡ 3 * rowAt table x .vertices = omega arith in

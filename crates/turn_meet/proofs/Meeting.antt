@@ -11,7 +11,7 @@ use lib.Seq.{getD-set-same, getD-set-other, take-set-le, take-set-lt, drop-set-l
 use borrow.Author.Tests.{eq-eqb, ne-eqb}
 use borrow.Author.Count.{below-more}
 use Rattle.turn_walk.specs.Walk.{meet}
-use Rattle.turn_walk.specs.Area.{Within}
+use Rattle.turn_walk.specs.Area.{WrittenBetween}
 use Rattle.turn_walk.specs.Group.{queueOf, coloursOf, walkOf, RootAt, visitedIn, UnderWay, Stage, MeetAt, Started}
 use Rattle.turn_walk.specs.Frames.{within-none, within-set, within-more}
 use Rattle.turn_walk.specs.Links.{paired-kept}
@@ -102,7 +102,7 @@ module _ {n m t x c : ℕ} {W : List ℕ} (s : UnderWay n m t W) (lx : x < m) (p
             );
       }
 
-  new-within : Within (5 * n + m) (5 * n + 3 * m) W New
+  new-within : WrittenBetween (5 * n + m) (5 * n + 3 * m) W New
   new-within =
       within-more (within-set x W (omega arith) (omega (arith, space))) (within-set c (set W (5 * n + m + t) x) (omega arith) (omega arith))
 

@@ -8,7 +8,7 @@ use native.Mathlib.Decide.{ℕ-discrete}
 use lib.ListN.{length, getD}
 use Rattle.turn_walk.specs.Walk.{opposite, Neighbour, Walk, meet, neighbours, visit}
 use Rattle.turn_walk.specs.Uses.{Uses, agrees, pairsFrom, touches, across, acrossFrom, across-agreeing, neighbours-across}
-use Rattle.turn_walk.specs.Area.{Within, usesOf}
+use Rattle.turn_walk.specs.Area.{WrittenBetween, usesOf}
 use Rattle.turn_walk.specs.Chains.{linkFrom, acrossOn, UseAt, Paired, On, LinkAt}
 use Rattle.turn_walk.specs.Group.{walkOf, UnderWay, Stage, MeetAt, WantAt, VisitAt, visitOf}
 use Rattle.turn_walk.specs.Frames.{within-none, within-more}
@@ -46,7 +46,7 @@ pub record Visiting (n m x c t a : ℕ) (W : List ℕ) (s : Walk) (found against
   pub grew : t ≤ found
   pub few : against ≤ a + n
   pub fewer : (p ≡ 0 → ⊥) → against < a + p
-  pub within : Within (5 * n + m) (5 * n + 3 * m) W E
+  pub within : WrittenBetween (5 * n + m) (5 * n + 3 * m) W E
   pub long : length E ≡ length W
 
 -- at its head

@@ -7,7 +7,7 @@ use native.Mathlib.Nat.{mul-le-mul-right, add-mul, one-mul}
 use lib.ListN.{length, getD}
 use Rattle.turn_walk.specs.Walk.{Walk, walk}
 use Rattle.turn_walk.specs.Uses.{Uses, pairsBy}
-use Rattle.turn_walk.specs.Area.{Within, usesOf}
+use Rattle.turn_walk.specs.Area.{WrittenBetween, usesOf}
 use Rattle.turn_walk.specs.Chains.{Paired}
 use Rattle.turn_walk.specs.Group.{walkOf, Rooted, begun, walkFrom, GroupWalked, UnderWay, Stage, VisitAt, visitOf, Started}
 use Rattle.turn_walk.specs.Frames.{within-none, within-more}
@@ -28,7 +28,7 @@ pub record Walking (n m a : ℕ) (W : List ℕ) (s : Walk) (found against k : �
   pub low : k ≤ found
   pub goes-on : walk (pairsBy (usesOf n E)) (m - k) k (walkOf n m found against E) ≡ s
   pub few : against ≤ a + k * n
-  pub within : Within (5 * n + m) (5 * n + 3 * m) W E
+  pub within : WrittenBetween (5 * n + m) (5 * n + 3 * m) W E
   pub long : length E ≡ length W
 
 -- the group's root is found, and no row is visited

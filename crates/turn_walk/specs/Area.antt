@@ -41,7 +41,7 @@ abbrev pub areaEnd : ℕ → ℕ → ℕ
 areaEnd n m = 5 * n + 3 * m
 
 -- W became E, and only the words from a up to b were written
-pub record Within (a b : ℕ) (W E : List ℕ) : Type 0 where
+pub record WrittenBetween (a b : ℕ) (W E : List ℕ) : Type 0 where
   pub front : take a E ≡ take a W
   pub rest : drop b E ≡ drop b W
 

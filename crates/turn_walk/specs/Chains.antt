@@ -6,7 +6,7 @@ use Prim.Native.Nat.{ℕ, zero, suc, _+_, _-_, _<_, _≤_}
 use lib.ListN.{length, getD, set}
 use Rattle.turn_walk.specs.Walk.{Neighbour}
 use Rattle.turn_walk.specs.Uses.{Uses, own, far, records, touches, across, acrossFrom}
-use Rattle.turn_walk.specs.Area.{ownLinksAt, farLinksAt, headsAt, queueAt, areaEnd, Within, usesOf, Sound}
+use Rattle.turn_walk.specs.Area.{ownLinksAt, farLinksAt, headsAt, queueAt, areaEnd, WrittenBetween, usesOf, Sound}
 
 -- the link to the first of the d uses from i on whose pair touches row x
 unfoldable pub linkFrom : Uses → ℕ → ℕ → ℕ → ℕ
@@ -59,7 +59,7 @@ pub record ChainNext (n m i : ℕ) (W : List ℕ) : Type 0 where
 pub record Chained (n m i : ℕ) (W E : List ℕ) : Type 0 where
   pub uses : usesOf n E ≡ usesOf n W
   pub chains : Chains n m i (usesOf n E) E
-  pub within : Within (ownLinksAt n) (queueAt n m) W E
+  pub within : WrittenBetween (ownLinksAt n) (queueAt n m) W E
 
 -- the pairs of all uses and their chains stand in W
 pub record Paired (n m : ℕ) (W : List ℕ) : Type 0 where

@@ -7,7 +7,7 @@ use lib.ListN.{length, getD, take, drop, set, replicate}
 use lib.Dec.{eqb}
 use Rattle.turn_walk.specs.Walk.{unvisited, plain, coloured, Walk, neighbours, visit, walk, inverted}
 use Rattle.turn_walk.specs.Uses.{pairsBy}
-use Rattle.turn_walk.specs.Area.{queueAt, coloursAt, areaEnd, Within, usesOf}
+use Rattle.turn_walk.specs.Area.{queueAt, coloursAt, areaEnd, WrittenBetween, usesOf}
 use Rattle.turn_walk.specs.Chains.{UseAt, Paired}
 
 -- the first t rows of the queue
@@ -45,7 +45,7 @@ pub record RowAt (n m x : ℕ) (W : List ℕ) : Type 0 where
 pub record Uncoloured (n m : ℕ) (W E : List ℕ) : Type 0 where
   pub colours : coloursOf n m E ≡ replicate m unvisited
   pub known : Colours n m E
-  pub within : Within (coloursAt n m) (areaEnd n m) W E
+  pub within : WrittenBetween (coloursAt n m) (areaEnd n m) W E
 
 -- ---- the walk of a group
 
@@ -82,7 +82,7 @@ pub record GroupWalked (n m root a found against : ℕ) (W E : List ℕ) : Type 
   pub queue : Queue n m found E
   pub known : Colours n m E
   pub few : against ≤ a + m * n
-  pub within : Within (queueAt n m) (areaEnd n m) W E
+  pub within : WrittenBetween (queueAt n m) (areaEnd n m) W E
 
 -- how many of the colours are of visited rows
 unfoldable pub visitedIn : List ℕ → ℕ
@@ -102,7 +102,7 @@ pub record Stage (n m least t a most : ℕ) (W E : List ℕ) (s : Walk) : Type 0
   pub state : walkOf n m t a E ≡ s
   pub grew : least ≤ t
   pub few : a ≤ most
-  pub within : Within (queueAt n m) (areaEnd n m) W E
+  pub within : WrittenBetween (queueAt n m) (areaEnd n m) W E
 
 -- what meeting row x where colour c is wanted asks
 pub record MeetAt (n m t a x c : ℕ) (W : List ℕ) : Type 0 where
@@ -134,7 +134,7 @@ pub record Started (n m root : ℕ) (W E : List ℕ) : Type 0 where
   pub under : UnderWay n m 1 E
   pub state : (a : ℕ) → walkOf n m 1 a E ≡ begun n m root a W
   pub paired : Paired n m E
-  pub within : Within (queueAt n m) (areaEnd n m) W E
+  pub within : WrittenBetween (queueAt n m) (areaEnd n m) W E
 
 -- ---- a group inverted
 
@@ -149,4 +149,4 @@ pub record GroupInverted (n m t : ℕ) (W E : List ℕ) : Type 0 where
   pub colours : coloursOf n m E ≡ inverted (queueOf n m t W) (coloursOf n m W)
   pub queue : Queue n m t E
   pub known : Colours n m E
-  pub within : Within (coloursAt n m) (areaEnd n m) W E
+  pub within : WrittenBetween (coloursAt n m) (areaEnd n m) W E
