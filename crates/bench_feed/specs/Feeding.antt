@@ -1,5 +1,5 @@
 -- A text fed piece by piece: what the reader, its slices and the line's buffer stand for. Assumes nothing.
-use mathlib.Core.List.{List, _++_}
+use mathlib.Core.List.{List, [], _∷_, _++_}
 use mathlib.Core.Path.{_≡_}
 use Prim.Native.Nat.{ℕ, _≤_}
 use lib.Dec.{T}
@@ -34,6 +34,10 @@ pub record Fed-on (part : List ℕ) (f : Fed) (line table positions normals indi
 pub record Fed-some (f : Fed) (line table positions normals indices materials : List ℕ) (g : Fed) (line' table' positions' normals' indices' materials' : List ℕ) : Type 0 where
   pub part : List ℕ
   pub fed : Fed-on part f line table positions normals indices materials g line' table' positions' normals' indices' materials'
+
+-- A text whose reading failed where it stands: an empty line, which is no form, follows what was read.
+abbrev pub failedRead : List ℕ
+failedRead = 10 ∷ 10 ∷ []
 
 -- the text has ended: what is printed of the reader and its slices is what the program is to print of the text
 pub record Ended (f : Fed) (line : List ℕ) (r : Reader) : Type 0 where
