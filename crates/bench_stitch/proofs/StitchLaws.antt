@@ -63,7 +63,8 @@ room-zeros = refl
 stitch-zeros : stitchZeros (f32 0) ≡ stitchSlices benchRoom
 stitch-zeros = ap stitchZeros zero-same ∙ room-zeros
 
-pub stitched-text : (T : List ℕ) (Q U : List Float) (J : List ℕ) (sag : Float) (box : Aabb) (M : List ℕ) (d : ℕ) (t : TurnCounts) (g : Stitched) (R : List ℕ) (P N : List Float) (I w E W : List ℕ) (r : ℕ)
+pub stitched-text : (T : List ℕ) (Q U : List Float) (J : List ℕ) (sag : Float) (box : Aabb) (M : List ℕ) (d : ℕ) (t : TurnCounts) (g : Stitched) (R : List ℕ) (P N : List Float) (I w E W : List ℕ)
+    (r : ℕ)
     → StitchSaid T box M d t g R P N I E W r → leftStitch g (slicesOf R P N I w) ≡ stitchAnswered (stitchOf key T Q U J sag (stitchZeros (f32 0)))
     → Told E (stitchedText T Q U J sag box M d t) W r
 unfolding stitchedText

@@ -1,7 +1,9 @@
-// The checks that every call begins with, and those of a patch asked about alone.
+// The checks that every call begins with, those of a patch asked about alone, and the words that the checks count.
 
 mod checks;
+mod clearing;
 mod lone;
 
 pub use checks::first_failing;
+pub use clearing::clear_words;
 pub use lone::lone_failing;

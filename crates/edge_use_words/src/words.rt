@@ -1,5 +1,9 @@
 // One word of a use: the name of its edge, or the way it runs.
 
+use edge_uses::DOWNWARD;
+use edge_uses::EQUAL_ENDS;
+use edge_uses::MOST_POINTS;
+use edge_uses::UPWARD;
 ghost use mathlib.Core.Path.{_≡_};
 ghost use mathlib.Core.List.{[], _∷_};
 ghost use Prim.Native.Nat.{_+_, _≤_};
@@ -13,9 +17,9 @@ pub fn edge_name(shell: u64, a: u64, b: u64) -> u64
     ensures { λ r. ⌜ r ≡ edgeName shell a b ⌝ }
 {
     if a < b {
-        return (shell * 262144 + a) * 262144 + b;
+        return (shell * MOST_POINTS + a) * MOST_POINTS + b;
     }
-    (shell * 262144 + b) * 262144 + a
+    (shell * MOST_POINTS + b) * MOST_POINTS + a
 }
 
 // Which way a use between two points runs: 0 upward, 1 downward, 2 where they are equal.
@@ -23,12 +27,12 @@ pub fn edge_run(a: u64, b: u64) -> u64
     ensures { λ r. ⌜ r ≡ runOf a b ⌝ }
 {
     if a == b {
-        return 2;
+        return EQUAL_ENDS;
     }
     if a < b {
-        return 0;
+        return UPWARD;
     }
-    1
+    DOWNWARD
 }
 
 // The point of the vertex that index k is of.

@@ -1,4 +1,5 @@
 // Joining by names of 64 bits.
+use join_definition::JOIN_WORDS;
 ghost use lib.ListN.{take};
 ghost use Rattle.join_definition.specs.Join.{Joined, JoinedAt, JoinRoom, RoomAt};
 use join_table::Source;
@@ -18,6 +19,6 @@ pub fn join_words_at(w: &mut [u64], at: usize, n: usize)
     requires { ⌜ RoomAt at n (now w) ⌝ }
     ensures { λ _. ⌜ JoinedAt at n (now (w .entry)) (now (w .exit)) ⌝ }
 {
-    let end = at + 4 * n;
+    let end = at + JOIN_WORDS * n;
     join_words(&mut w[at..end], n);
 }

@@ -1,5 +1,8 @@
 // A table of chains in 4·n words: a digest of each name, the representatives, the links, the heads of the chains.
 // A link is 0, or 1 + an item; it leads to a smaller item, so that a walk along a chain ends.
+use join_definition::HEADS;
+use join_definition::JOIN_WORDS;
+use join_definition::LINKS;
 ghost use mathlib.Core.Path.{_≡_};
 ghost use Prim.Native.Nat.{_*_, _≤_};
 ghost use lib.Dec.{eqb};
@@ -62,7 +65,7 @@ fn find(source: Source, positions: &[f32], w: &[u64], n: usize, i: usize, start:
         if same_name(source, positions, w, n, k, i) {
             return p;
         }
-        p = w[2 * n + k] as usize;
+        p = w[LINKS * n + k] as usize;
     }
     0
 }
@@ -72,12 +75,12 @@ fn join_one(source: Source, positions: &[f32], w: &mut [u64], n: usize, i: usize
     requires { ⌜ Turn (namesOf source (now positions) (take n (now w))) n i (now w) ⌝ }
     ensures { λ _. ⌜ Step (namesOf source (now (positions .entry)) (take n (now (w .entry)))) n i (now (w .entry)) (now (w .exit)) ⌝ }
 {
-    let at = 3 * n + bucket(w[i], n);
+    let at = HEADS * n + bucket(w[i], n);
     let head = w[at];
     let r = find(source, positions, w, n, i, head as usize);
     if r == 0 {
         w[n + i] = i as u64;
-        w[2 * n + i] = head;
+        w[LINKS * n + i] = head;
         w[at] = i as u64 + 1;
     } else {
         w[n + i] = (r - 1) as u64;
@@ -89,8 +92,8 @@ fn start(w: &mut [u64], n: usize)
     requires { ⌜ 4 * n ≤ length (now w) ⌝ }
     ensures { λ _. ⌜ Begun n (now (w .entry)) (now (w .exit)) ⌝ }
 {
-    let a = 3 * n;
-    let e = 4 * n;
+    let a = HEADS * n;
+    let e = JOIN_WORDS * n;
     clear(&mut w[a..e], n);
 }
 

@@ -6,10 +6,9 @@ use Prim.Native.Nat.{ℕ, _+_, _*_}
 use borrow.Author.Tests.{eq-eqb, ne-eqb}
 use lib.ListN.{length, drop, replicate}
 use lib.Ieee.{Float}
-use Rattle.body_rows.specs.Body.{rowsOf, patchesOf, allVertices, firstFailing}
+use Rattle.body_rows.specs.Body.{rowsOf, patchesOf, cleared, firstFailing}
 use Rattle.body_checks.specs.Cleared.{cleared-is}
 use Rattle.body_refusals.specs.BodyChecks.{bodyChecks}
-use Rattle.body_rows.specs.Rows.{Total}
 use Rattle.body_checks.specs.Accepted.{Passed}
 use Rattle.patch_geometry.specs.declared.Aabb.{Aabb}
 use Rattle.mesh_acceptance.specs.Acceptance.{acceptance}
@@ -22,18 +21,17 @@ use Rattle.mesh_accepted.specs.Rows.{BodyAssembled}
 
 -- ---- the words cleared
 
-module _ {table : List ℕ} {ps ns : List Float} {is : List ℕ} (W : List ℕ) {u m n : ℕ} (p : Passed table ps ns is (length W)) (ev : Total (allVertices (rowsOf table)) u)
-    (em : m ≡ length (rowsOf table)) (en : n ≡ length is) where
+module _ {table : List ℕ} {ps ns : List Float} {is : List ℕ} (W : List ℕ) (p : Passed table ps ns is (length W)) where
   -- the body is assembled as the definition says
   pub accepted-assembled : {box : Aabb} {materials : List ℕ} {default : ℕ} {P P' N N' : List Float} {I I' parts parts' ranges ranges' failures failures' X Z : List ℕ} {r : Assembled}
       → BodyAssembled table ps ns is box materials default P P' N N' I I' parts parts' ranges ranges' failures failures' W X r
-      → Z ≡ replicate (16 * n + 16 * m + 4 * u) 0 ++ drop (16 * n + 16 * m + 4 * u) X
+      → Z ≡ cleared (rowsOf table) X
       → leftMesh r (slicesOf P' N' I' parts' ranges' failures' Z) ≡ assembleAnswered (assembleAccepted table ps ns is box materials default (slicesOf P N I parts ranges failures W))
   unfolding clearedMesh
   accepted-assembled {box} {materials} {default} {P} {P'} {N} {N'} {I} {I'} {parts} {parts'} {ranges} {ranges'} {failures} {failures'} {X} {Z} b z =
       b .same Z
       ∙ ap (λ (work : List ℕ). assembleAnswered (assembleOrRefuse (rowsOf table) materials default (acceptance box materials default (patchesOf (rowsOf table) ps ns is))
-      (slicesOf P N I parts ranges failures work))) (cleared-is W p ev em en X (b .rest) z)
+      (slicesOf P N I parts ranges failures work))) (cleared-is W p X (b .rest) z)
 
 -- ---- the call
 

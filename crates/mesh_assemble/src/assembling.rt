@@ -35,9 +35,7 @@ fn assemble_accepted(
         (slicesOf (now («mesh_positions» .entry)) (now («mesh_normals» .entry)) (now («mesh_indices» .entry)) (now (parts .entry)) (now (ranges .entry))
         (now (failures .entry)) (now (work .entry)))) ⌝ }
 {
-    let v = body_rows::total_vertices(rows);
     let m = body_rows::row_count(rows);
-    let n = indices.len();
     let answer = assemble_rows(
         rows,
         positions,
@@ -55,7 +53,7 @@ fn assemble_accepted(
         work,
         m,
     );
-    slice_fill::clear(work, 16 * n + 16 * m + 4 * v);
+    body_checks::clear_words(rows, work);
     answer
 }
 

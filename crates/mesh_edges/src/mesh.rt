@@ -1,5 +1,8 @@
 // The edges of a mesh counted in the work area.
 
+use edge_uses::COUNTS;
+use edge_uses::RUNS;
+use join_definition::JOIN_WORDS;
 use join_points::vertices::Rule;
 use mesh_tally::EdgeCounts;
 use mesh_tally::tally;
@@ -13,7 +16,7 @@ fn name_edges(positions: &[f32], indices: &[u32], w: &mut [u64], v: usize)
 {
     let n = indices.len();
     join_points::vertices::join_points(Rule::Bits, positions, w, v);
-    edge_use_words::name_row(indices, w, v, v, 0, n, 4 * v, 0);
+    edge_use_words::name_row(indices, w, v, v, 0, n, JOIN_WORDS * v, 0);
 }
 
 // Behind n names at `at` come their first uses, and then how many have each as their first use.
@@ -22,7 +25,7 @@ fn count_firsts(w: &mut [u64], at: usize, n: usize)
     ensures { λ _. ⌜ FirstsCounted at n (now (w .entry)) (now (w .exit)) ⌝ }
 {
     join_points::words::join_words_at(w, at, n);
-    edge_use_counts::count_uses(w, at + n, at + 2 * n, n);
+    edge_use_counts::count_uses(w, at + n, at + COUNTS * n, n);
 }
 
 // The edges of a mesh of v vertices are counted, points being the same exactly if their bits agree and edges with equal ends being skipped.
@@ -33,7 +36,7 @@ pub fn count_edges(positions: &[f32], indices: &[u32], w: &mut [u64], v: usize) 
 {
     let n = indices.len();
     name_edges(positions, indices, w, v);
-    count_firsts(w, 4 * v, n);
-    edge_use_words::run_row(indices, w, v, v, 0, n, 4 * v + 3 * n);
-    tally(w, 4 * v + n, n)
+    count_firsts(w, JOIN_WORDS * v, n);
+    edge_use_words::run_row(indices, w, v, v, 0, n, JOIN_WORDS * v + RUNS * n);
+    tally(w, JOIN_WORDS * v + n, n)
 }

@@ -1,5 +1,7 @@
 // The edges of a mesh counted from the words of their uses.
 
+use edge_uses::EQUAL_ENDS;
+use edge_uses::RUNS_AFTER_FIRSTS;
 ghost use mathlib.Core.Path.{_≡_};
 ghost use Rattle.mesh_tally.specs.Tally.{Few, UseReady, TallyReady, Tallied, countsIn, withEdge, withUse};
 
@@ -41,7 +43,7 @@ fn with_use(w: &[u64], at: usize, n: usize, i: usize, c: EdgeCounts) -> EdgeCoun
     requires { ⌜ UseReady (now w) at n i c ⌝ }
     ensures { λ r. ⌜ countsIn r ≡ withUse (now (w .entry)) at n i (countsIn c) ⌝ }
 {
-    if w[at + 2 * n + i] == 2 {
+    if w[at + RUNS_AFTER_FIRSTS * n + i] == EQUAL_ENDS {
         return c;
     }
     if w[at + i] == i as u64 {

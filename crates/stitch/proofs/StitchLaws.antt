@@ -45,17 +45,17 @@ module _ (sag : Float) (ns : List ℕ) (patches : List Patch) where
 
 -- ---- an accepted body
 
-module _ {table : List ℕ} {ps ns : List Float} {is : List ℕ} (W : List ℕ) {v m n : ℕ} (p : Passed table ps ns is (length W)) (ev : Total (allVertices (rowsOf table)) v)
-    (em : m ≡ length (rowsOf table)) (en : n ≡ length is) where
+module _ {table : List ℕ} {ps ns : List Float} {is : List ℕ} (W : List ℕ) {v m : ℕ} (p : Passed table ps ns is (length W)) (ev : Total (allVertices (rowsOf table)) v)
+    (em : m ≡ length (rowsOf table)) where
   -- it can be stitched
   pub ready : StitchReady table ps ns is W v m
   ready = record { passed = p; vertices = ev .is; rows = em }
 
   module _ (sag : Float) {R R' : List ℕ} {P P' N N' : List Float} {I I' X Z : List ℕ} {r : Stitched}
       (b : BodyStitched (stitchBody sag (names key ps) (patchesOf (rowsOf table) ps ns is)) R R' P P' N N' I I' (16 * length is + 16 * m + 4 * v) W X r)
-      (z : Z ≡ replicate (16 * n + 16 * m + 4 * v) 0 ++ drop (16 * n + 16 * m + 4 * v) X) where
+      (z : Z ≡ cleared (rowsOf table) X) where
     work-is : Z ≡ cleared (rowsOf table) W
-    work-is = cleared-is W p ev em en X (subst (λ (k : ℕ). drop k X ≡ drop k W) (sym (words-needed ready)) (b .rest)) z
+    work-is = cleared-is W p X (subst (λ (k : ℕ). drop k X ≡ drop k W) (sym (words-needed ready)) (b .rest)) z
 
     -- the body is stitched as the definition says
     pub accepted-stitched : leftStitch r (slicesOf R' P' N' I' Z) ≡ stitchAnswered (stitchAccepted table ps ns is sag (slicesOf R P N I W))

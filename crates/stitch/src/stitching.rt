@@ -88,7 +88,6 @@ fn stitch_accepted(
 {
     let v = body_rows::total_vertices(rows);
     let m = body_rows::row_count(rows);
-    let n = indices.len();
     let answer = stitch_rows(
         rows,
         positions,
@@ -103,7 +102,7 @@ fn stitch_accepted(
         v,
         m,
     );
-    slice_fill::clear(work, 16 * n + 16 * m + 4 * v);
+    body_checks::clear_words(rows, work);
     answer
 }
 

@@ -1,5 +1,10 @@
 // Open edges: a flag for each use of an edge, over the whole body.
 
+use edge_uses::COUNTS;
+use edge_uses::EQUAL_ENDS;
+use edge_uses::RUNS;
+use edge_uses::RUNS_AFTER_FIRSTS;
+use join_definition::JOIN_WORDS;
 use join_points::vertices::Rule;
 ghost use mathlib.Core.Path.{_≡_};
 ghost use Rattle.edge_uses.specs.FirstUsers.{UsersReady};
@@ -12,7 +17,7 @@ fn join_body(positions: &[f32], w: &mut [u64], v: usize, m: usize)
     ensures { λ _. ⌜ BodyJoined (now (positions .entry)) v m (now (w .entry)) (now (w .exit)) ⌝ }
 {
     join_points::vertices::join_points(Rule::Key, positions, w, v);
-    slice_fill::fill(w, 4 * v, 4 * v + m, 0);
+    slice_fill::fill(w, JOIN_WORDS * v, JOIN_WORDS * v + m, 0);
 }
 
 // The uses are named at `at`, and behind their names come their first uses, how many uses each edge has, and their runs.
@@ -29,8 +34,8 @@ fn count_edges(
 {
     let n = indices.len();
     edge_first_users::first_users(rows, indices, w, points, shells, at);
-    edge_use_counts::count_uses(w, at + n, at + 2 * n, n);
-    edge_first_users::list_runs(rows, indices, w, points, at + 3 * n);
+    edge_use_counts::count_uses(w, at + n, at + COUNTS * n, n);
+    edge_first_users::list_runs(rows, indices, w, points, at + RUNS * n);
 }
 
 // How many uses the edge of use i has.
@@ -47,7 +52,7 @@ fn flag_at(w: &[u64], at: usize, n: usize, i: usize) -> u64
     requires { ⌜ FlagReady (now w) at n i ⌝ }
     ensures { λ r. ⌜ r ≡ flagIn (now (w .entry)) at n i ⌝ }
 {
-    if w[at + 2 * n + i] == 2 {
+    if w[at + RUNS_AFTER_FIRSTS * n + i] == EQUAL_ENDS {
         return 0;
     }
     if count_at(w, at, n, i) == 1 {
@@ -63,7 +68,7 @@ fn mark_uses(w: &mut [u64], at: usize, n: usize)
 {
     let mut i = 0usize;
     while i < n {
-        w[at + 2 * n + i] = flag_at(w, at, n, i);
+        w[at + RUNS_AFTER_FIRSTS * n + i] = flag_at(w, at, n, i);
         i += 1;
     }
 }
@@ -82,6 +87,13 @@ pub fn mark_open(
 {
     let n = indices.len();
     join_body(positions, w, v, m);
-    count_edges(rows, indices, w, v, 4 * v, 4 * v + 4 * m);
-    mark_uses(w, 4 * v + 4 * m + n, n);
+    count_edges(
+        rows,
+        indices,
+        w,
+        v,
+        JOIN_WORDS * v,
+        JOIN_WORDS * v + JOIN_WORDS * m,
+    );
+    mark_uses(w, JOIN_WORDS * v + JOIN_WORDS * m + n, n);
 }

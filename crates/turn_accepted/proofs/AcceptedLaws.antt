@@ -66,7 +66,7 @@ module _ {table : List ℕ} {ps ns : List Float} {is : List ℕ} (W : List ℕ) 
 
   module _ {X Z : List ℕ} {ns' : List Float} {is' : List ℕ} {against turned : ℕ} (long : length X ≡ length W) (c : Coloured table ps is v m W X against)
       (r : Reversed (take (length (rowsOf table)) (drop (4 * v + 6 * m + 6 * n) X)) table ns is ns' is' turned)
-      (z : Z ≡ replicate (16 * n + 16 * m + 4 * v) 0 ++ drop (16 * n + 16 * m + 4 * v) X) where
+      (z : Z ≡ cleared (rowsOf table) X) where
     -- the walks of the body
     abbrev walks : Walks
     walks = walksOf (patchesOf (rowsOf table) ps ns is) (joined (names key ps))
@@ -91,7 +91,7 @@ module _ {table : List ℕ} {ps ns : List Float} {is : List ℕ} (W : List ℕ) 
     indices-are = r .indices ∙ ap (λ (cs : List ℕ). changedRows swapped indexCount cs (rowsOf table) is) colours-are
 
     work-is : Z ≡ cleared (rowsOf table) W
-    work-is = cleared-is W p ev em en X (subst (λ (k : ℕ). drop k X ≡ drop k W) (sym needed) (c .rest)) z
+    work-is = cleared-is W p X (subst (λ (k : ℕ). drop k X ≡ drop k W) (sym needed) (c .rest)) z
 
     -- the body is turned as the definition says
     pub accepted-turned : leftDone (record { turned = turned; against = against }) ns' is' Z ≡ turnDone table ps ns is W

@@ -1,6 +1,9 @@
 // An accepted body turned: coloured, coloured rows reversed, the work area cleared.
 
+use join_definition::JOIN_WORDS;
 use turn_definition::TurnCounts;
+use turn_walk::ROW_WORDS_BEFORE_COLOURS;
+use turn_walk::USE_WORDS_BEFORE_COLOURS;
 ghost use mathlib.Core.Path.{_≡_};
 ghost use lib.ListN.{length};
 ghost use Rattle.body_checks.specs.Accepted.{Passed};
@@ -21,10 +24,10 @@ pub fn turn_accepted(
     let v = body_rows::total_vertices(rows);
     let m = body_rows::row_count(rows);
     let n = indices.len();
-    let colours = 4 * v + 6 * m + 6 * n;
+    let colours = JOIN_WORDS * v + ROW_WORDS_BEFORE_COLOURS * m + USE_WORDS_BEFORE_COLOURS * n;
     let against = turn_colouring::colour_rows(rows, positions, indices, work, v, m);
     let turned = turn_reversal::reverse_rows(rows, normals, indices, work, colours);
-    slice_fill::clear(work, 16 * n + 16 * m + 4 * v);
+    body_checks::clear_words(rows, work);
     TurnCounts {
         turned: turned,
         against: against,

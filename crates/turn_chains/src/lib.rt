@@ -1,5 +1,10 @@
 // Pairs of rows chained by row in the work area (turn_walk/specs/Area.antt names where each part of it stands).
 
+use edge_uses::EQUAL_ENDS;
+use turn_walk::FAR_LINKS;
+use turn_walk::OWN_LINKS;
+use turn_walk::RUNS;
+use turn_walk::USE_REGIONS;
 ghost use mathlib.Core.Path.{_≡_};
 ghost use Prim.Native.Nat.{_+_, _*_};
 ghost use Rattle.turn_walk.specs.Uses.{far};
@@ -11,7 +16,7 @@ fn clear_heads(w: &mut [u64], n: usize, m: usize)
     requires { ⌜ Chainable n m (now w) ⌝ }
     ensures { λ _. ⌜ Chained n m n (now (w .entry)) (now (w .exit)) ⌝ }
 {
-    let heads = 5 * n;
+    let heads = USE_REGIONS * n;
     slice_fill::fill(w, heads, heads + m, 0);
 }
 
@@ -29,11 +34,11 @@ fn link_pair(w: &mut [u64], n: usize, m: usize, i: usize, a: usize, b: usize)
     requires { ⌜ PairAt n m i a b (now w) ⌝ }
     ensures { λ _. ⌜ now (w .exit) ≡ linked n i a b (now (w .entry)) ⌝ }
 {
-    let heads = 5 * n;
+    let heads = USE_REGIONS * n;
     let after_own = w[heads + a];
     let after_far = w[heads + b];
-    w[3 * n + i] = after_own;
-    w[4 * n + i] = after_far;
+    w[OWN_LINKS * n + i] = after_own;
+    w[FAR_LINKS * n + i] = after_far;
     w[heads + a] = i as u64 + 1;
     w[heads + b] = i as u64 + 1;
 }
@@ -43,7 +48,7 @@ fn chain_use(w: &mut [u64], n: usize, m: usize, i: usize)
     requires { ⌜ ChainNext n m i (now w) ⌝ }
     ensures { λ _. ⌜ Chained n m i (now (w .entry)) (now (w .exit)) ⌝ }
 {
-    if w[2 * n + i] == 2 {
+    if w[RUNS * n + i] == EQUAL_ENDS {
         return;
     }
     let a = w[n + i] as usize;

@@ -1,5 +1,8 @@
 // The rows of a body coloured: its uses laid out, its groups walked, measured and inverted.
 
+use join_definition::JOIN_WORDS;
+use turn_walk::ROW_REGIONS;
+use turn_walk::USE_REGIONS;
 ghost use Rattle.turn_colouring.specs.Coloured.{Coloured};
 ghost use Rattle.edge_uses.specs.Area.{AreaReady};
 
@@ -16,8 +19,8 @@ pub fn colour_rows(
     ensures { λ r. ⌜ Coloured (now (rows .entry)) (now (positions .entry)) (now (indices .entry)) v m (now (w .entry)) (now (w .exit)) r ⌝ }
 {
     let n = indices.len();
-    let at = 4 * v + 4 * m + n;
-    let end = at + 5 * n + 5 * m;
+    let at = JOIN_WORDS * v + JOIN_WORDS * m + n;
+    let end = at + USE_REGIONS * n + ROW_REGIONS * m;
     turn_pairs::lay_uses(rows, positions, indices, w, v, m);
     turn_groups::walk_groups(rows, positions, indices, &mut w[at..end], n, m)
 }

@@ -1,5 +1,9 @@
 // The colours of rows in the work area, and a group's colours inverted (turn_walk/specs/Area.antt names where each part of it stands).
 
+use turn_walk::BOTH_COLOURS;
+use turn_walk::COLOURS;
+use turn_walk::UNVISITED;
+use turn_walk::USE_REGIONS;
 ghost use mathlib.Core.Path.{_≡_};
 ghost use Prim.Native.Nat.{_+_, _-_, _*_, _<_, _≤_};
 ghost use lib.ListN.{length, getD};
@@ -12,7 +16,7 @@ pub fn colour(w: &[u64], n: usize, m: usize, x: usize) -> u64
     requires { ⌜ RowAt n m x (now w) ⌝ }
     ensures { λ r. ⌜ r ≡ getD (coloursOf n m (now (w .entry))) x unvisited ⌝ }
 {
-    let colours = 5 * n + 2 * m;
+    let colours = USE_REGIONS * n + COLOURS * m;
     w[colours + x]
 }
 
@@ -21,7 +25,7 @@ pub fn queued(w: &[u64], n: usize, m: usize, k: usize) -> usize
     requires { ⌜ RowAt n m k (now w) ⌝ }
     ensures { λ r. ⌜ r ≡ getD (now (w .entry)) (queueAt n m + k) 0 ⌝ }
 {
-    let queue = 5 * n + m;
+    let queue = USE_REGIONS * n + m;
     w[queue + k] as usize
 }
 
@@ -30,8 +34,8 @@ pub fn uncolour(w: &mut [u64], n: usize, m: usize)
     requires { ⌜ 5 * n + 3 * m ≤ length (now w) ⌝ }
     ensures { λ _. ⌜ Uncoloured n m (now (w .entry)) (now (w .exit)) ⌝ }
 {
-    let colours = 5 * n + 2 * m;
-    slice_fill::fill(w, colours, colours + m, 0);
+    let colours = USE_REGIONS * n + COLOURS * m;
+    slice_fill::fill(w, colours, colours + m, UNVISITED);
 }
 
 // The other of the two colours.
@@ -39,7 +43,7 @@ pub fn opposite_colour(c: u64) -> u64
     requires { ⌜ c ≤ 2 ⌝ }
     ensures { λ r. ⌜ r ≡ opposite c ⌝ }
 {
-    3 - c
+    BOTH_COLOURS - c
 }
 
 // The first `t` rows of the queue get the other colour.
@@ -47,8 +51,8 @@ pub fn invert_group(w: &mut [u64], n: usize, m: usize, t: usize)
     requires { ⌜ Invertible n m t (now w) ⌝ }
     ensures { λ _. ⌜ GroupInverted n m t (now (w .entry)) (now (w .exit)) ⌝ }
 {
-    let queue = 5 * n + m;
-    let colours = 5 * n + 2 * m;
+    let queue = USE_REGIONS * n + m;
+    let colours = USE_REGIONS * n + COLOURS * m;
     let mut k = 0;
     while k < t {
         let x = w[queue + k] as usize;

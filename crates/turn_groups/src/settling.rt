@@ -1,6 +1,11 @@
 // One group after another: walked, measured, inverted if its volume says so.
 
 use turn_meet::Tally;
+use turn_walk::INDEX_BASES;
+use turn_walk::ROW_REGIONS;
+use turn_walk::UNVISITED;
+use turn_walk::USE_REGIONS;
+use turn_walk::VERTEX_BASES;
 ghost use Rattle.turn_groups.specs.Settled.{Judgeable, Judged, Settleable, Settled};
 ghost use Rattle.turn_groups.specs.Walked.{RootReady, RootSettled, GroupsReady, GroupsWalked, BasesReady, BasesLaid, Walkable};
 
@@ -64,7 +69,7 @@ fn settle_root(
         return against;
     }
     let colour = turn_colours::colour(w, n, m, k);
-    if colour == 0 {
+    if colour == UNVISITED {
         return settle_group(rows, positions, indices, w, n, m, k, against);
     }
     against
@@ -96,9 +101,9 @@ fn lay_bases(rows: &[u32], w: &mut [u64], n: usize, m: usize)
     requires { ⌜ BasesReady (now rows) (now w) n m ⌝ }
     ensures { λ _. ⌜ BasesLaid (now (rows .entry)) n m (now (w .entry)) (now (w .exit)) ⌝ }
 {
-    let vertices = 5 * n + 3 * m;
-    let indices = 5 * n + 4 * m;
-    let end = 5 * n + 5 * m;
+    let vertices = USE_REGIONS * n + VERTEX_BASES * m;
+    let indices = USE_REGIONS * n + INDEX_BASES * m;
+    let end = USE_REGIONS * n + ROW_REGIONS * m;
     body_rows::vertex_bases(rows, &mut w[vertices..indices]);
     body_rows::index_bases(rows, &mut w[indices..end]);
 }

@@ -1,5 +1,10 @@
 // The volume of a group, and whether its colours are inverted.
 
+use turn_walk::COLOURED;
+use turn_walk::INDEX_BASES;
+use turn_walk::PLAIN;
+use turn_walk::USE_REGIONS;
+use turn_walk::VERTEX_BASES;
 ghost use mathlib.Core.Path.{_≡_};
 ghost use Rattle.body_rows.specs.Patches.{shapes};
 ghost use Rattle.lists.specs.Lists.{sumOf};
@@ -24,9 +29,9 @@ fn row_volume(
     ensures { λ r. ⌜ r ≡ patchVolume (patchAt (shapes (now (rows .entry)) (now (positions .entry)) (now (indices .entry))) x .positions)
         (patchAt (shapes (now (rows .entry)) (now (positions .entry)) (now (indices .entry))) x .indices) flip ⌝ }
 {
-    let v = 3 * w[5 * n + 3 * m + x] as usize;
+    let v = 3 * w[USE_REGIONS * n + VERTEX_BASES * m + x] as usize;
     let vend = v + 3 * body_rows::vertices(rows, x) as usize;
-    let i = w[5 * n + 4 * m + x] as usize;
+    let i = w[USE_REGIONS * n + INDEX_BASES * m + x] as usize;
     let iend = i + body_rows::indices(rows, x) as usize;
     patch_volume::patch_volume(&positions[v..vend], &indices[i..iend], flip)
 }
@@ -50,7 +55,7 @@ pub fn group_volume(
     while k < t {
         let x = turn_colours::queued(w, n, m, k);
         let c = turn_colours::colour(w, n, m, x);
-        v = v + row_volume(rows, positions, indices, w, n, m, x, c == 2);
+        v = v + row_volume(rows, positions, indices, w, n, m, x, c == COLOURED);
         k += 1;
     }
     v
@@ -105,7 +110,7 @@ pub fn inverts_group(
     if v > 0.0 {
         return false;
     }
-    let plain = weigh(rows, w, n, m, t, 1);
-    let coloured = weigh(rows, w, n, m, t, 2);
+    let plain = weigh(rows, w, n, m, t, PLAIN);
+    let coloured = weigh(rows, w, n, m, t, COLOURED);
     plain < coloured
 }

@@ -1,6 +1,11 @@
-// A row met on the walk of a group, and the row that it starts from: queued and coloured if it has no colour yet (turn_walk/specs/Area.antt names where each part of
+// A row met on the walk of a group, and the row that it starts from: queued and coloured if it has no colour yet (turn_walk/specs/Area.antt names where each
+// part of
 // the work area stands).
 
+use turn_walk::COLOURS;
+use turn_walk::PLAIN;
+use turn_walk::UNVISITED;
+use turn_walk::USE_REGIONS;
 ghost use Prim.Native.Nat.{_+_};
 ghost use Rattle.turn_walk.specs.Walk.{meet};
 ghost use Rattle.turn_walk.specs.Group.{RootAt, Started, Stage, MeetAt, walkOf};
@@ -16,10 +21,10 @@ pub fn meet_row(w: &mut [u64], n: usize, m: usize, t: usize, a: u64, x: usize, c
     requires { ⌜ MeetAt n m t a x c (now w) ⌝ }
     ensures { λ r. ⌜ Stage n m t (r .found) (r .against) (a + 1) (now (w .entry)) (now (w .exit)) (meet x c (walkOf n m t a (now (w .entry)))) ⌝ }
 {
-    let queue = 5 * n + m;
-    let colours = 5 * n + 2 * m;
+    let queue = USE_REGIONS * n + m;
+    let colours = USE_REGIONS * n + COLOURS * m;
     let had = w[colours + x];
-    if had == 0 {
+    if had == UNVISITED {
         w[queue + t] = x as u64;
         w[colours + x] = c;
         return Tally {
@@ -44,8 +49,8 @@ pub fn start_group(w: &mut [u64], n: usize, m: usize, root: usize)
     requires { ⌜ RootAt n m root (now w) ⌝ }
     ensures { λ _. ⌜ Started n m root (now (w .entry)) (now (w .exit)) ⌝ }
 {
-    let queue = 5 * n + m;
-    let colours = 5 * n + 2 * m;
+    let queue = USE_REGIONS * n + m;
+    let colours = USE_REGIONS * n + COLOURS * m;
     w[queue] = root as u64;
-    w[colours + root] = 1;
+    w[colours + root] = PLAIN;
 }

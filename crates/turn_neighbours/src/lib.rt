@@ -1,8 +1,12 @@
-// What the pair of a use leads to on the walk of a group: the row across it, the colour wanted there, and the next pair of a row (turn_walk/specs/Area.antt names
+// What the pair of a use leads to on the walk of a group: the row across it, the colour wanted there, and the next pair of a row (turn_walk/specs/Area.antt
+// names
 // where each part of the work area stands).
 
 use turn_chains::far_row;
 use turn_colours::opposite_colour;
+use turn_walk::FAR_LINKS;
+use turn_walk::OWN_LINKS;
+use turn_walk::RUNS;
 ghost use mathlib.Core.Path.{_≡_};
 ghost use mathlib.Core.Bool.{cond};
 ghost use Prim.Native.Nat.{_-_};
@@ -17,7 +21,7 @@ pub fn wanted(w: &[u64], n: usize, m: usize, i: usize, c: u64) -> u64
     requires { ⌜ WantAt n m i c (now w) ⌝ }
     ensures { λ r. ⌜ r ≡ cond (agrees (usesOf n (now (w .entry))) i) c (opposite c) ⌝ }
 {
-    let runs = 2 * n;
+    let runs = RUNS * n;
     let first = w[i] as usize;
     if w[runs + first] == w[runs + i] {
         return opposite_colour(c);
@@ -45,7 +49,7 @@ pub fn next_link(w: &[u64], n: usize, m: usize, x: usize, p: usize) -> usize
     let i = p - 1;
     let a = w[n + i] as usize;
     if a == x {
-        return w[3 * n + i] as usize;
+        return w[OWN_LINKS * n + i] as usize;
     }
-    w[4 * n + i] as usize
+    w[FAR_LINKS * n + i] as usize
 }

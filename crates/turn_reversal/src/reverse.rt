@@ -1,5 +1,6 @@
 // Coloured rows are reversed where they stand: corners 1 and 2 of each triangle swapped, normals negated.
 
+use turn_walk::COLOURED;
 ghost use mathlib.Core.Path.{_≡_};
 ghost use mathlib.Core.List.{map};
 ghost use Prim.Native.Nat.{_-_};
@@ -50,7 +51,7 @@ fn reverse_row(
     requires { ⌜ RowStretches (now normals) (now indices) v vend i iend ⌝ }
     ensures { λ r. ⌜ RowReversed colour v vend i iend (now (normals .entry)) (now (indices .entry)) (now (normals .exit)) (now (indices .exit)) r ⌝ }
 {
-    if colour == 2 {
+    if colour == COLOURED {
         swap_corners(indices, i, iend);
         negate(normals, v, vend);
         return 1;
@@ -58,7 +59,7 @@ fn reverse_row(
     0
 }
 
-// Each row whose colour is 2 is reversed; the answer is how many there are. The colours stand from `colours` on.
+// Each coloured row is reversed; the answer is how many there are. The colours stand from `colours` on.
 pub fn reverse_rows(
     rows: &[u32],
     normals: &mut [f32],

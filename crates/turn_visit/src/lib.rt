@@ -6,6 +6,8 @@ use turn_meet::start_group;
 use turn_neighbours::next_link;
 use turn_neighbours::other_row;
 use turn_neighbours::wanted;
+use turn_walk::COLOURS;
+use turn_walk::USE_REGIONS;
 ghost use Prim.Native.Nat.{_+_};
 ghost use Rattle.turn_walk.specs.Group.{Rooted, GroupWalked, Stage, VisitAt, visitOf};
 
@@ -14,8 +16,8 @@ fn visit_row(w: &mut [u64], n: usize, m: usize, t: usize, a: u64, x: usize) -> T
     requires { ⌜ VisitAt n m t a x (now w) ⌝ }
     ensures { λ r. ⌜ Stage n m t (r .found) (r .against) (a + n) (now (w .entry)) (now (w .exit)) (visitOf n m t a x (now (w .entry))) ⌝ }
 {
-    let heads = 5 * n;
-    let colours = 5 * n + 2 * m;
+    let heads = USE_REGIONS * n;
+    let colours = USE_REGIONS * n + COLOURS * m;
     let c = w[colours + x];
     let mut found = t;
     let mut against = a;
@@ -41,7 +43,7 @@ pub fn walk_group(w: &mut [u64], n: usize, m: usize, root: usize, against: u64) 
     ensures { λ r. ⌜ GroupWalked n m root against (r .found) (r .against) (now (w .entry)) (now (w .exit)) ⌝ }
 {
     start_group(w, n, m, root);
-    let queue = 5 * n + m;
+    let queue = USE_REGIONS * n + m;
     let mut found = 1;
     let mut total = against;
     let mut done = 0;

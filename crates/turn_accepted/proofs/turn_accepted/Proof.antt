@@ -37,23 +37,8 @@ colour-rows-requires c κs =
 reverse-rows-requires : tie.Need-reverse-rows-requires
 reverse-rows-requires c κs = search reversible
 
-mul-clear : tie.Need-mul-clear
-mul-clear c = search needs
-
-mul-clear-2 : tie.Need-mul-clear-2
-mul-clear-2 c = search needs
-
-add-clear : tie.Need-add-clear
-add-clear c = search needs
-
-mul-clear-3 : tie.Need-mul-clear-3
-mul-clear-3 c = search needs
-
-add-clear-2 : tie.Need-add-clear-2
-add-clear-2 c = search needs
-
-clear-requires : tie.Need-clear-requires
-clear-requires c κs = search clearable
+clear-words-requires : tie.Need-clear-words-requires
+clear-words-requires c κs = search clearable
 
 same-length : tie.Need-same-length
 same-length c = search needs
@@ -71,7 +56,7 @@ returns c =
     let k = s .before .before .before .before .before .before in
     let r = k .before .before .before in
     let v = r .before in
-    accepted-turned _ (v .before .before .before .before .before .before .pre) (v .total-vertices .ensures) (r .row-count .ensures) refl (omega arith) (k .colour-rows .ensures) (s .reverse-rows .ensures) (z .clear .ensures)
+    accepted-turned _ (v .before .before .before .before .before .before .pre) (v .total-vertices .ensures) (r .row-count .ensures) refl (omega arith) (k .colour-rows .ensures) (s .reverse-rows .ensures) (z .clear-words .ensures)
 
 pub turn-accepted-spec : {M : Type 1} → statement M
 turn-accepted-spec =
@@ -86,12 +71,7 @@ turn-accepted-spec =
     add-colours-2
     colour-rows-requires
     reverse-rows-requires
-    mul-clear
-    mul-clear-2
-    add-clear
-    mul-clear-3
-    add-clear-2
-    clear-requires
+    clear-words-requires
     same-length
     same-length-2
     same-length-3

@@ -1,7 +1,6 @@
 -- `stitch_accepted` meets its contract. Assumes nothing.
 use Rattle.body_checks.specs.Cleared.{clearable}
 use Rattle.stitch.proofs.StitchLaws.{accepted-stitched}
-use mathlib.Core.Path.{refl}
 use borrow.Author.Needs.{needs}
 use Rattle.stitch.proofs.stitching.stitch_accepted.Statement.{statement}
 use Rattle.stitch.proofs.stitching.stitch_accepted.Tie as tie
@@ -15,23 +14,8 @@ row-count-requires c κs = search needs
 stitch-rows-requires : tie.Need-stitch-rows-requires
 stitch-rows-requires c κs = search needs
 
-mul-clear : tie.Need-mul-clear
-mul-clear c = search needs
-
-mul-clear-2 : tie.Need-mul-clear-2
-mul-clear-2 c = search needs
-
-add-clear : tie.Need-add-clear
-add-clear c = search needs
-
-mul-clear-3 : tie.Need-mul-clear-3
-mul-clear-3 c = search needs
-
-add-clear-2 : tie.Need-add-clear-2
-add-clear-2 c = search needs
-
-clear-requires : tie.Need-clear-requires
-clear-requires c κs = search clearable
+clear-words-requires : tie.Need-clear-words-requires
+clear-words-requires c κs = search clearable
 
 same-length : tie.Need-same-length
 same-length c = search needs
@@ -49,11 +33,7 @@ same-length-5 : tie.Need-same-length-5
 same-length-5 c = search needs
 
 returns : tie.Need-returns
-returns c =
-    let k = c .before .before .before .before .before .before .before .before .before .before .before .before .before .before in
-    let r = k .before .before .before .before .before .before in
-    let v = r .before in
-    accepted-stitched _ (v .before .before .before .before .before .before .before .before .before .before .pre) (v .total-vertices .ensures) (r .row-count .ensures) refl _ (k .stitch-rows .ensures) (c .before .before .clear .ensures)
+returns c = search accepted-stitched
 
 pub stitch-accepted-spec : {M : Type 1} → statement M
 stitch-accepted-spec =
@@ -62,12 +42,7 @@ stitch-accepted-spec =
     total-vertices-requires
     row-count-requires
     stitch-rows-requires
-    mul-clear
-    mul-clear-2
-    add-clear
-    mul-clear-3
-    add-clear-2
-    clear-requires
+    clear-words-requires
     same-length
     same-length-2
     same-length-3
