@@ -3,6 +3,9 @@
 ghost use mathlib.Core.Path.{_≡_};
 ghost use Rattle.body_refusals.specs.TableChecks.{tooLarge};
 
+// The largest outcome.
+pub const MOST_OUTCOME: u32 = 255;
+
 // The most rows.
 pub const MOST_ROWS: usize = 4096;
 

@@ -1,5 +1,6 @@
 // Checks 11 to 14: the table, and the lengths of the slices.
 
+use crate::limits::MOST_OUTCOME;
 use crate::limits::MOST_ROWS;
 use crate::limits::too_many;
 use body_rows::ROW_WIDTH;
@@ -34,7 +35,7 @@ fn bad_row(table: &[u32], k: usize) -> bool
     ensures { λ r. ⌜ r ≡ badRow (rowAt (now (table .entry)) k) ⌝ }
 {
     let o = outcome(table, k);
-    if o > 255 {
+    if o > MOST_OUTCOME {
         return true;
     }
     if o == 0 {

@@ -4,6 +4,7 @@ use float_steps::absolute_f64;
 use float_steps::bits_of_f64;
 use float_steps::f64_of_bits;
 use stitch_gather::move_up;
+use stitch_splits::EDGE_STEP;
 ghost use mathlib.Core.Path.{_≡_};
 ghost use Prim.Native.Nat.{_+_, _/_, _<_};
 ghost use lib.ListN.{length, getD};
@@ -29,7 +30,7 @@ pub fn entry_edge(w: &[u64], at: usize, j: usize) -> u64
     requires { ⌜ at + j < length (now w) ⌝ }
     ensures { λ r. ⌜ r ≡ getD (now (w .entry)) (at + j) 0 / 262144 ⌝ }
 {
-    w[at + j] / 262144
+    w[at + j] / EDGE_STEP
 }
 
 // The parameter of the entry at place j.
@@ -93,7 +94,7 @@ pub fn insert_entry(
     ensures { λ _. ⌜ EntryInserted at ts count e vertex t (now (w .entry)) (now (w .exit)) ⌝ }
 {
     let p = place_for(w, at, ts, count, e, t);
-    insert_word(w, at, count, p, e * 262144 + vertex as u64);
+    insert_word(w, at, count, p, e * EDGE_STEP + vertex as u64);
     insert_word(w, ts, count, p, bits_of_f64(t));
 }
 

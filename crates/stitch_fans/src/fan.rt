@@ -1,5 +1,6 @@
 // The fan of a split triangle from its corner 0.
 
+use stitch_splits::EDGE_STEP;
 ghost use mathlib.Core.List.{[], _∷_};
 ghost use lib.ListN.{getD, take, drop};
 ghost use Rattle.stitch_rings.specs.Added.{FanReady, FanWritten};
@@ -40,7 +41,7 @@ fn push_if(w: &[u64], k: usize, e: u64, out: &mut [u32], a: u32, f: Fan, x: u32)
     requires { ⌜ PickReady (now w) k e x f (now out) ⌝ }
     ensures { λ g. ⌜ Pushed a f (picked e (getD (now (w .entry)) k 0) x) (now (out .entry)) (now (out .exit)) g ⌝ }
 {
-    if w[k] / 262144 == e {
+    if w[k] / EDGE_STEP == e {
         return push(out, a, f, x);
     }
     f

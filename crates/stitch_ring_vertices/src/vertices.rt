@@ -5,6 +5,7 @@ use stitch_entries::entry_edge;
 use stitch_entries::entry_parameter;
 use stitch_normals::Normal;
 use stitch_normals::mixed_normal;
+use stitch_splits::EDGE_STEP;
 ghost use mathlib.Core.Path.{_≡_};
 ghost use mathlib.Core.List.{[], _∷_};
 ghost use Prim.Native.Nat.{_+_, _%_, _<_, _≤_};
@@ -25,7 +26,7 @@ fn entry_vertex(w: &[u64], at: usize, j: usize) -> usize
     requires { ⌜ at + j < length (now w) ⌝ }
     ensures { λ r. ⌜ r ≡ getD (now (w .entry)) (at + j) 0 % 262144 ⌝ }
 {
-    (w[at + j] % 262144) as usize
+    (w[at + j] % EDGE_STEP) as usize
 }
 
 // The numbers x, y, z are written from place k on.
