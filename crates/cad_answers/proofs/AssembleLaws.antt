@@ -1,6 +1,5 @@
 -- Laws of the struct of assemble's answer. Assumes nothing.
 use mathlib.Core.Path.{_≡_, sym, ap, _∙_}
-use mathlib.Core.Bool.{cond}
 use Prim.Native.Nat.{ℕ}
 use Rattle.mesh_definition.specs.declared.MeshCounts.{MeshCounts}
 use Rattle.mesh_definition.specs.declared.Assembled.{Assembled}
@@ -8,7 +7,7 @@ use Rattle.mesh_definition.specs.declared.Assembled.the-variants.{Done}
 use Rattle.cad_answers.specs.Assembling.{cadAssembled}
 
 -- the struct of a call that is done
-pub done-told : {t : Assembled} {c : MeshCounts} {f : ℕ} → t ≡ Done c → f ≡ cond (c .closed) 1 0
+pub done-told : {t : Assembled} {c : MeshCounts} {f : ℕ} → t ≡ Done c → f ≡ cadAssembled (Done c) .closed
     → record {
       refusal = 0;
       vertices = c .vertices;

@@ -3,3 +3,4 @@ pub mod Answers
 pub mod Turning
 pub mod Stitching
 pub mod Assembling
+pub mod AssembledStruct

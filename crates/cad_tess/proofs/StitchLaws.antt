@@ -35,7 +35,7 @@ unfolding stitchOrRefuse writeBody
 result-told s out =
     let rows = map (λ p. p .row) (s .patches) in
     let n = firstFailing (stitchChecks rows out) in
-    either (λ t. flat (stitchAnswered t)) (eqb n 0) (writeBody rows s out) (refuseStitch n out) refl (refused-told n out)
+    either (λ t. flat (stitchAnswered t) ≡ t) (eqb n 0) (writeBody rows s out) (refuseStitch n out) refl (refused-told n out)
 
 module _ (rule : Rule) (table : List ℕ) (ps ns : List Float) (is : List ℕ) (sag : Float) (out : StitchSlices) where
   -- the struct holds all that the definition says
@@ -44,7 +44,8 @@ module _ (rule : Rule) (table : List ℕ) (ps ns : List Float) (is : List ℕ) (
   all-told =
       let n = firstFailing (bodyChecks table ps ns is (length (out .work))) in
       let s = stitchBody sag (names rule ps) (patchesOf (rowsOf table) ps ns is) in
-      either (λ t. flat (stitchAnswered t)) (eqb n 0) (stitchOrRefuse s (clearedSlices (rowsOf table) out)) (refuseStitch n out) (result-told s (clearedSlices (rowsOf table) out)) (refused-told n out)
+      either (λ t. flat (stitchAnswered t) ≡ t) (eqb n 0) (stitchOrRefuse s (clearedSlices (rowsOf table) out)) (refuseStitch n out)
+      (result-told s (clearedSlices (rowsOf table) out)) (refused-told n out)
 
   -- what the call leaves
   pub call-left : {t : Stitched} {r : CadStitched} {s : StitchSlices} → leftStitch t s ≡ stitchAnswered (stitchOf rule table ps ns is sag out) → r ≡ cadStitched t

@@ -34,7 +34,7 @@ module _ (rule : Rule) (table : List ℕ) (ps ns : List Float) (is work : List �
   unfolding turnOf turnBody
   all-told =
       let n = firstFailing (bodyChecks table ps ns is (length work)) in
-      either (λ t. flat (answered t)) (eqb n 0) (turnBody (rowsOf table) (patchesOf (rowsOf table) ps ns is) (walksOf (patchesOf (rowsOf table) ps ns is) (joined (names rule ps))) work)
+      either (λ t. flat (answered t) ≡ t) (eqb n 0) (turnBody (rowsOf table) (patchesOf (rowsOf table) ps ns is) (walksOf (patchesOf (rowsOf table) ps ns is) (joined (names rule ps))) work)
       (refuseTurn n ns is work) refl (refused-told n ns is work)
 
   -- what the call leaves

@@ -7,7 +7,7 @@ ghost use mathlib.Core.Path.{_≡_};
 ghost use Rattle.mesh_definition.specs.Assemble.{assembleOf};
 ghost use Rattle.mesh_definition.specs.Assembled.{slicesOf};
 ghost use Rattle.cad_answers.specs.Answers.{boxOf};
-ghost use Rattle.cad_answers.specs.Assembling.{leftAfterAssemble};
+ghost use Rattle.cad_answers.specs.Assembling.{cadLeftMesh, cadMeshAnswered};
 
 // The mesh goes to the mesh slices, parts and ranges to tables of three numbers a row, failures to one of four words a row.
 // An entry of materials is 0 for none or 1 + the material of the face; the work area needs 16 words an index and a row and 4 a vertex, which come back zero.
@@ -33,12 +33,12 @@ pub extern "C" fn cad_assemble(
     failures: &mut [u64],
     work: &mut [u64],
 ) -> CadAssembled
-    ensures { λ r. ⌜ leftAfterAssemble r (slicesOf (now («mesh_positions» .exit)) (now («mesh_normals» .exit)) (now («mesh_indices» .exit)) (now (parts .exit))
+    ensures { λ r. ⌜ cadLeftMesh r (slicesOf (now («mesh_positions» .exit)) (now («mesh_normals» .exit)) (now («mesh_indices» .exit)) (now (parts .exit))
         (now (ranges .exit)) (now (failures .exit)) (now (work .exit)))
-        ≡ assembleOf (now (rows .entry)) (now (positions .entry)) (now (normals .entry)) (now (indices .entry)) (boxOf x0 y0 z0 x1 y1 z1)
+        ≡ cadMeshAnswered (assembleOf (now (rows .entry)) (now (positions .entry)) (now (normals .entry)) (now (indices .entry)) (boxOf x0 y0 z0 x1 y1 z1)
         (now (materials .entry)) default
         (slicesOf (now («mesh_positions» .entry)) (now («mesh_normals» .entry)) (now («mesh_indices» .entry)) (now (parts .entry)) (now (ranges .entry))
-        (now (failures .entry)) (now (work .entry))) ⌝ }
+        (now (failures .entry)) (now (work .entry)))) ⌝ }
 {
     let reference = box_of(x0, y0, z0, x1, y1, z1);
     assembled_answer(mesh_assemble::assemble(
