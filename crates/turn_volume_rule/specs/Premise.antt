@@ -5,24 +5,17 @@ use mathlib.Core.List.{List, [], _∷_}
 use Prim.Native.Nat.{ℕ}
 use lib.ListN.{replicate}
 use lib.IntN.{pos}
-use lib.Dec.{T}
 use lib.Ieee.{Float, fin}
-use Rattle.lists.specs.Lists.{all}
-use Rattle.point_rules.specs.Rule.{Rule, names}
-use Rattle.join_definition.specs.Join.{joined}
+use Rattle.point_rules.specs.Rule.{Rule}
 use Rattle.point_rules.specs.Points.{key}
-use Rattle.body_rows.specs.Body.{rowsOf, patchesOf}
-use Rattle.turn_definition.specs.Orient.{walksOf, turnOf}
-use Rattle.turn_volume_rule.specs.Exact.{ruleHolds}
+use Rattle.turn_definition.specs.Orient.{turnOf}
+use Rattle.turn_volume_rule.specs.VolumeRule.{KeepsVolume}
 use Rattle.turn_volume_rule.specs.Evaluation.{evaluation}
 
 -- the volume rule without that premise
 pub Unpremised : Type 0
 Unpremised = (rule : Rule) (table : List ℕ) (ps ns : List Float) (is work : List ℕ) → turnOf rule table ps ns is work .refusal ≡ 0
-    → let t = turnOf rule table ps ns is work in
-    let before = patchesOf (rowsOf table) ps ns is in
-    let after = patchesOf (rowsOf table) ps (t .normals) (t .indices) in
-    T (all (ruleHolds before after) (walksOf before (joined (names rule ps)) .groups))
+    → let t = turnOf rule table ps ns is work in KeepsVolume rule table ps ns is (t .normals) (t .indices)
 
 -- 2 ^ 400
 far : Float
@@ -34,6 +27,6 @@ nil = fin false 0 (pos 0)
 
 -- It is false.
 pub unpremised-false : Unpremised → ⊥
-unfolding evaluation Unpremised far nil
+unfolding evaluation KeepsVolume Unpremised far nil
 unpremised-false rule =
     rule key (0 ∷ 0 ∷ 0 ∷ 3 ∷ 3 ∷ []) (far ∷ nil ∷ nil ∷ nil ∷ far ∷ nil ∷ nil ∷ nil ∷ far ∷ []) (replicate 9 nil) (0 ∷ 1 ∷ 2 ∷ []) (replicate 76 0) refl

@@ -12,7 +12,7 @@ use lib.Ieee.Fits.{and-i}
 use borrow.Author.Tests.{eqb-true, not-false}
 use Rattle.lists.specs.Lists.{any, all}
 use Rattle.lists.specs.Any.{any-none}
-use Rattle.point_rules.specs.Rule.{names}
+use Rattle.point_rules.specs.Rule.{Rule, names}
 use Rattle.join_definition.specs.Join.{joined}
 use Rattle.body_rows.specs.Body.{Patch, trianglesOf, rowsOf, patchesOf}
 use Rattle.body_refusals.specs.PatchChecks.{badIndices}
@@ -20,12 +20,12 @@ use Rattle.body_patch_checks.specs.PatchTests.{partTriangle, notFinite}
 use Rattle.body_checks.specs.Accepted.{Clean, clean}
 use Rattle.patch_geometry.specs.Geometry.{zero64}
 use Rattle.turn_definition.specs.Groups.{Group}
-use Rattle.turn_definition.specs.Orient.{walksOf}
+use Rattle.turn_definition.specs.Orient.{AfterTurn, walksOf, turnOf}
 use Rattle.turn_definition.specs.Inversion.{patchAt, volumeFrom}
 use Rattle.turn_definition.specs.Reversal.{turnedBody}
 use Rattle.turn_walk.specs.Walk.{unvisited}
 use Rattle.turn_volume_rule.specs.Exact.{trianglesIn, largestIn, withinBound, leftOutward, ruleHolds, F32s}
-use Rattle.turn_volume_rule.specs.VolumeRule.{VolumeRule}
+use Rattle.turn_volume_rule.specs.VolumeRule.{KeepsVolume, VolumeRule}
 use Rattle.turn_volume_rule.specs.Sums.{RowGood}
 use Rattle.turn_volume_rule.specs.Bound.{within}
 use Rattle.turn_volume_rule.specs.Sign as All
@@ -116,7 +116,7 @@ all-pass f (x ∷ xs) (All.more h g) = go (all-pass f xs g) (f x) h
 
 -- ---- the rule
 pub volume-rule : VolumeRule
-unfolding VolumeRule
+unfolding VolumeRule KeepsVolume
 volume-rule rule table ps ns is work f h =
     let patches = patchesOf (rowsOf table) ps ns is in
     let w = walksOf patches (joined (names rule ps)) in
@@ -126,3 +126,11 @@ volume-rule rule table ps ns is work f h =
     subst (λ (after : List Patch). T (all (ruleHolds patches after) (w .groups))) (sym (output-is rule table ps ns is work c z))
     (all-pass (ruleHolds patches (turnedBody (w .colours) patches)) (w .groups)
     (all-map (group-rule patches (patch-good table ps ns is f c) (w .colours) l) (groups-ok patches (joined (names rule ps)) .groups)))
+
+-- so a call that leaves what the definition says keeps the rule
+pub volume-kept : (rule : Rule) (table : List ℕ) (ps ns : List Float) (is work : List ℕ) (t : AfterTurn) → F32s ps
+    → t ≡ turnOf rule table ps ns is work → t .refusal ≡ 0 → KeepsVolume rule table ps ns is (t .normals) (t .indices)
+unfolding VolumeRule
+volume-kept rule table ps ns is work t f e h =
+    subst (λ (a : AfterTurn). KeepsVolume rule table ps ns is (a .normals) (a .indices)) (sym e)
+    (volume-rule rule table ps ns is work f (ap (λ (a : AfterTurn). a .refusal) (sym e) ∙ h))

@@ -19,19 +19,30 @@ use Rattle.lists.specs.Lists.{all}
 use Rattle.point_rules.specs.Rule.{Rule, names}
 use Rattle.join_definition.specs.Join.{joined}
 use Rattle.body_rows.specs.Body.{Patch, rowsOf, patchesOf}
+use Rattle.turn_definition.specs.declared.Turned.{Turned}
+use Rattle.turn_definition.specs.declared.Turned.the-variants.{Done, Refused}
 use Rattle.turn_definition.specs.Groups.{Group}
 use Rattle.turn_definition.specs.Orient.{walksOf, turnOf}
 use Rattle.turn_definition.specs.Inversion.{patchAt}
 use Rattle.turn_volume_rule.specs.Exact.{F32s, ruleHolds}
 
--- In every body that turn accepts, whatever the joining rule, for every group: V lies within the bound of E, and if E is further from zero than the
--- bound, the exact volume of the group as turn leaves it is E, sign dropped. The body is read from the slices before and after the call.
+-- A body's slices before and after, its points joined by a rule. For every group: V lies within the bound of E, and if E is further from zero than the bound,
+-- the exact volume of the group as it is left is E, sign dropped.
+unfoldable pub KeepsVolume : Rule → List ℕ → List Float → List Float → List ℕ → List Float → List ℕ → Type 0
+KeepsVolume rule table ps ns is ns' is' =
+    let before = patchesOf (rowsOf table) ps ns is in
+    let after = patchesOf (rowsOf table) ps ns' is' in
+    T (all (ruleHolds before after) (walksOf before (joined (names rule ps)) .groups))
+
+-- In every body that turn accepts, whatever the joining rule, every group keeps the rule. The premise is what a slice of f32 holds; the calls have none.
 unfoldable pub VolumeRule : Type 0
 VolumeRule = (rule : Rule) (table : List ℕ) (ps ns : List Float) (is work : List ℕ) → F32s ps → turnOf rule table ps ns is work .refusal ≡ 0
-    → let t = turnOf rule table ps ns is work in
-    let before = patchesOf (rowsOf table) ps ns is in
-    let after = patchesOf (rowsOf table) ps (t .normals) (t .indices) in
-    T (all (ruleHolds before after) (walksOf before (joined (names rule ps)) .groups))
+    → let t = turnOf rule table ps ns is work in KeepsVolume rule table ps ns is (t .normals) (t .indices)
+
+-- what turn's answer says of volumes: a body that is done keeps the rule, a refusal says nothing
+abbrev pub DoneKeepsVolume : Turned → Rule → List ℕ → List Float → List Float → List ℕ → List Float → List ℕ → Type 0
+DoneKeepsVolume (Done c) rule table ps ns is ns' is' = KeepsVolume rule table ps ns is ns' is'
+DoneKeepsVolume (Refused n) rule table ps ns is ns' is' = Unit
 
 -- n is one of the rows
 pub data In (n : ℕ) : List ℕ → Type 0 where
