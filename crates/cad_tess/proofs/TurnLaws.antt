@@ -14,6 +14,9 @@ use Rattle.turn_definition.specs.declared.Turned.{Turned}
 use Rattle.turn_definition.specs.declared.Turned.the-variants.{Done, Refused}
 use Rattle.turn_definition.specs.Orient.{AfterTurn, walksOf, turnBody, refuseTurn, turnOf}
 use Rattle.turn_definition.specs.Answers.{Left, left, answered}
+use Rattle.turn_volume_rule.specs.Exact.{F32s}
+use Rattle.turn_volume_rule.specs.VolumeRule.{KeepsVolume}
+use Rattle.turn_volume_rule.specs.Rule.{volume-kept}
 use Rattle.cad_answers.specs.declared.turning.CadTurned.{CadTurned}
 use Rattle.cad_answers.specs.Turning.{cadTurned, leftAfterTurn}
 use Rattle.cad_tess.proofs.Told.{either}
@@ -41,3 +44,8 @@ module _ (rule : Rule) (table : List ℕ) (ps ns : List Float) (is work : List �
   pub call-left : {t : Turned} {r : CadTurned} {ns' : List Float} {is' work' : List ℕ} → left t ns' is' work' ≡ answered (turnOf rule table ps ns is work) → r ≡ cadTurned t
       → leftAfterTurn r ns' is' work' ≡ turnOf rule table ps ns is work
   call-left {t} {r} {ns'} {is'} {work'} e f = ap (λ (c : CadTurned). leftAfterTurn c ns' is' work') f ∙ ap flat e ∙ all-told
+
+  -- and that it keeps the volume rule
+  pub call-kept : {t : Turned} {r : CadTurned} {ns' : List Float} {is' work' : List ℕ} → F32s ps
+      → left t ns' is' work' ≡ answered (turnOf rule table ps ns is work) → r ≡ cadTurned t → r .refusal ≡ 0 → KeepsVolume rule table ps ns is ns' is'
+  call-kept {t} {r} {ns'} {is'} {work'} k e f h = volume-kept rule table ps ns is work (leftAfterTurn r ns' is' work') k (call-left e f) h

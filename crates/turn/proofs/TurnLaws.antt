@@ -1,5 +1,5 @@
 -- Laws of the call: a body is turned or refused. Assumes nothing.
-use mathlib.Core.Path.{_≡_, sym, ap, _∙_}
+use mathlib.Core.Path.{_≡_, refl, sym, ap, _∙_}
 use mathlib.Core.Bool.{Bool, true, false}
 use mathlib.Core.List.{List}
 use Prim.Native.Nat.{ℕ}
@@ -14,6 +14,9 @@ use Rattle.turn_definition.specs.declared.TurnCounts.{TurnCounts}
 use Rattle.turn_definition.specs.declared.Turned.the-variants.{Done, Refused}
 use Rattle.turn_definition.specs.Orient.{refuseTurn, turnOf}
 use Rattle.turn_definition.specs.Answers.{left, leftDone, answered, turnDone}
+use Rattle.turn_volume_rule.specs.Exact.{F32s}
+use Rattle.turn_volume_rule.specs.VolumeRule.{KeepsVolume}
+use Rattle.turn_volume_rule.specs.Rule.{volume-kept}
 
 module _ (table : List ℕ) (ps ns : List Float) (is W : List ℕ) {refusal : ℕ} (f : refusal ≡ firstFailing (bodyChecks table ps ns is (length W))) where
   -- a body that no check refuses has passed them
@@ -34,6 +37,11 @@ module _ (table : List ℕ) (ps ns : List Float) (is W : List ℕ) {refusal : �
   pub call-done : {c : TurnCounts} {ns' : List Float} {is' W' : List ℕ} → refusal ≡ 0 → leftDone c ns' is' W' ≡ turnDone table ps ns is W
       → left (Done c) ns' is' W' ≡ answered (turnOf key table ps ns is W)
   call-done e t = ap answered (t ∙ sym (turn-done e))
+
+  -- and keeps the volume rule
+  pub call-kept : {c : TurnCounts} {ns' : List Float} {is' W' : List ℕ} → F32s ps → refusal ≡ 0 → leftDone c ns' is' W' ≡ turnDone table ps ns is W
+      → KeepsVolume key table ps ns is ns' is'
+  call-kept {c} {ns'} {is'} {W'} k e t = volume-kept key table ps ns is W (leftDone c ns' is' W') k (t ∙ sym (turn-done e)) refl
 
   -- any other is refused
   pub call-refused : (refusal ≡ 0 → ⊥) → left (Refused refusal) ns is W ≡ answered (turnOf key table ps ns is W)

@@ -6,9 +6,10 @@ ghost use mathlib.Core.Path.{_≡_};
 ghost use Rattle.point_rules.specs.Points.{key};
 ghost use Rattle.turn_definition.specs.Orient.{turnOf};
 ghost use Rattle.turn_definition.specs.Answers.{left, answered};
+ghost use Rattle.turn_volume_rule.specs.VolumeRule.{DoneKeepsVolume};
 
 // The rows of a body are turned to agree: coloured rows have corners 1 and 2 of each triangle swapped and their normals negated.
-// A body that fails a check is refused with the check's number, and nothing is changed.
+// A body that fails a check is refused with the check's number, and nothing is changed. Every group of any other body keeps the volume rule.
 pub fn turn(
     rows: &[u32],
     positions: &[f32],
@@ -18,6 +19,8 @@ pub fn turn(
 ) -> Turned
     ensures { λ r. ⌜ left r (now (normals .exit)) (now (indices .exit)) (now (work .exit))
         ≡ answered (turnOf key (now (rows .entry)) (now (positions .entry)) (now (normals .entry)) (now (indices .entry)) (now (work .entry))) ⌝ }
+    ensures { λ r. ⌜ DoneKeepsVolume r key (now (rows .entry)) (now (positions .entry)) (now (normals .entry)) (now (indices .entry))
+        (now (normals .exit)) (now (indices .exit)) ⌝ }
 {
     let refusal = body_checks::first_failing(rows, positions, normals, indices, work.len());
     if refusal == 0 {

@@ -23,7 +23,9 @@ same-length-3 : tie.Need-same-length-3
 same-length-3 c = search needs
 
 returns : tie.Need-returns
-returns c = finished-text _ _ _ _ _ _ _ _ _ _ _ _ _ _ _ (c .before .before .print-turned .ensures) (c .before .before .before .before .before .before .before .before .before .before .before .turn .ensures)
+returns c =
+    let p = c .before .before in
+    finished-text _ _ _ _ _ _ _ _ _ _ _ _ _ _ _ (p .print-turned .ensures) (p .before .before .before .before .before .before .before .before .before .turn .ensures .0)
 
 pub finish-body-spec : {M : Type 1} → statement M
 finish-body-spec =

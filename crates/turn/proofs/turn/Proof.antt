@@ -1,5 +1,5 @@
 -- `turn` meets its contract. Assumes nothing.
-use Rattle.turn.proofs.TurnLaws.{body-passed, call-done, call-refused}
+use Rattle.turn.proofs.TurnLaws.{body-passed, call-done, call-kept, call-refused}
 use denote.Ref.{now}
 use borrow.Author.Needs.{needs}
 use Rattle.turn.proofs.turn.Statement.{statement}
@@ -24,7 +24,10 @@ same-length-3 : tie.Need-same-length-3
 same-length-3 c = search needs
 
 returns : tie.Need-returns
-returns c = search call-done
+returns c =
+    let i = c .before .before .before .before .before .before .before .before .before .before in
+    let k = i .before .before .before .before .before .before .before in
+    search (call-done, call-kept, k .shared-slice-known2 .given)
 
 same-length-4 : tie.Need-same-length-4
 same-length-4 c = search needs

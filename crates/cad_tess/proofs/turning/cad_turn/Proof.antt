@@ -1,5 +1,5 @@
 -- `cad_turn` meets its contract. Assumes nothing.
-use Rattle.cad_tess.proofs.TurnLaws.{call-left}
+use Rattle.cad_tess.proofs.TurnLaws.{call-left, call-kept}
 use borrow.Author.Needs.{needs}
 use Rattle.cad_tess.proofs.turning.cad_turn.Statement.{statement}
 use Rattle.cad_tess.proofs.turning.cad_turn.Tie as tie
@@ -20,7 +20,10 @@ same-length-3 : tie.Need-same-length-3
 same-length-3 c = search needs
 
 returns : tie.Need-returns
-returns c = search call-left
+returns c =
+    let t = c .before .before .before .before .before .before .before in
+    let k = t .before .before .before .before .before .before .before in
+    search (call-left, call-kept, k .shared-slice-known2 .given)
 
 pub cad-turn-spec : {M : Type 1} → statement M
 cad-turn-spec =
