@@ -16,7 +16,7 @@ done-is t e =
       ranges = t .ranges;
       failures = t .failures;
       edges = t .counts .edges;
-      opens = t .counts .openEdges;
-      overs = t .counts .overEdges;
+      opens = t .counts .opens;
+      overs = t .counts .overs;
       closed = cadMeshAnswer t .closed;
     }
