@@ -9,12 +9,11 @@ use sheet_meaning::floats_of;
 use sheet_meaning::sag_of;
 use sheet_reader_state::Reader;
 use sheet_room::in_limits;
+use slice_front::copy;
 use slice_front::front;
 use slice_front::front_floats;
 use slice_front::front_long;
-ghost use mathlib.Core.Path.{_≡_};
-ghost use mathlib.Core.List.{_++_};
-ghost use lib.ListN.{length, take, drop};
+ghost use lib.ListN.{length};
 ghost use Rattle.bench_definition.specs.Finish.{finish};
 ghost use Rattle.sheet_reader_state.specs.Limits.{Limited};
 ghost use Rattle.sheet_reader_state.specs.Slices.{lent, patternsOf};
@@ -23,20 +22,6 @@ ghost use Rattle.sheet_meaning.specs.Meaning.{meant};
 ghost use Rattle.bench_call_texts.specs.Told.{Told};
 ghost use Rattle.sheet_meaning.specs.Answered.{answerIn};
 ghost use Rattle.bench_finish.specs.Fronts.{FrontsSaid};
-
-// Numbers copied, as many as there is room for.
-fn copy(from: &[u32], to: &mut [u32])
-    ensures { λ _. ⌜ now (to .exit) ≡ take (length (now (to .entry))) (now (from .entry)) ++ drop (length (now (from .entry))) (now (to .entry)) ⌝ }
-{
-    let mut i: usize = 0;
-    while i < from.len() {
-        if to.len() <= i {
-            return;
-        }
-        to[i] = from[i];
-        i += 1;
-    }
-}
 
 // A body in the first n coordinates and m indices of slices, finished; 52 where these are fewer.
 fn finish_fronts(

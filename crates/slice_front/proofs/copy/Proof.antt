@@ -3,8 +3,8 @@ use Prim.Native.Nat.{_-_}
 use lib.ListN.{length}
 use Rattle.lists.specs.Copied.{Copied, copied-all, copied-full, copied-more, copied-none}
 use borrow.Author.Needs.{needs}
-use Rattle.bench_finish.proofs.copy.Statement.{statement}
-use Rattle.bench_finish.proofs.copy.Tie as tie
+use Rattle.slice_front.proofs.copy.Statement.{statement}
+use Rattle.slice_front.proofs.copy.Tie as tie
 
 abbrev Inv-loop : tie.InvT-loop
 Inv-loop from to₀ i₀ to i = Copied from to₀ to i
