@@ -1,5 +1,5 @@
 -- Small bodies stitched, each of which tells a reading of document 01 from a near miss. Assumes nothing.
-use mathlib.Core.Bool.{true, false}
+use mathlib.Core.Bool.{false}
 use mathlib.Core.List.{List, [], _∷_, _++_, map}
 use Prim.Native.Nat.{ℕ, _*_, _^_}
 use lib.ListN.{take, drop, replicate, set}
@@ -16,7 +16,6 @@ use Rattle.stitch_projection.specs.Projection.{near-end, least-length, far-end}
 use Rattle.stitch_splits.specs.Splits.{near-last}
 use Rattle.stitch_definition.specs.Slices.{StitchSlices, AfterStitch, stitchChecks}
 use Rattle.stitch_definition.specs.Stitch.{stitchOf}
-use Rattle.stitch_faces.specs.Faces.{faceIndices}
 use Rattle.stitch_definition.specs.Evaluation.{evaluation}
 
 -- slices with room for 9 rows, 99 vertices and 99 indices
@@ -121,7 +120,7 @@ constants = near-end ∷ near-last ∷ least-length ∷ far-end ∷ []
 meant : List Float
 meant = round binary64 false 1 (10 ^ 6) ∷ round binary64 false 1 (10 ^ 9) ∷ round binary64 false 1 (10 ^ 30) ∷ sub one64 (round binary64 false 1 (10 ^ 6)) ∷ []
 
--- splits, V, I and the first indices; new vertices; the new normal; a stretch of the old list or the new; what stands behind the written indices; a refusal; 33 before 32
+-- splits, V, I and the first indices; new vertices; the new normal; what stands behind the written indices; a refusal; 33 before 32
 pub claims : List Case
 claims =
     case 1 (map bits64 constants) (map bits64 meant)
@@ -133,7 +132,6 @@ claims =
     ∷ case 14 (stitched 0 distant one64 ++ stitched 0 distant quarter) (1 ∷ 7 ∷ 9 ∷ 0 ∷ 6 ∷ 6 ∷ [])
     ∷ case 15 (stitched 0 shells quarter) (0 ∷ 9 ∷ 9 ∷ [])
     ∷ case 16 (stitched 6 apex quarter) (1 ∷ 8 ∷ 15 ∷ 0 ∷ 3 ∷ 1 ∷ 0 ∷ 1 ∷ 2 ∷ [])
-    ∷ case 19 (faceIndices true (1 ∷ 2 ∷ 3 ∷ []) (4 ∷ 5 ∷ 6 ∷ 7 ∷ []) 1 2 ++ faceIndices false (1 ∷ 2 ∷ 3 ∷ []) (4 ∷ 5 ∷ 6 ∷ 7 ∷ []) 1 2) (5 ∷ 6 ∷ 2 ∷ 3 ∷ [])
     ∷ case 18 (sameKeySplits ∷ []) (0 ∷ [])
     ∷ case 17 mixedNormal (0x3F785B42 ∷ 0x3E785B42 ∷ 0 ∷ [])
     ∷ case 20 (take 2 (drop 12 (stitchGiven K8 quarter .slices .indices))) (9 ∷ 9 ∷ [])

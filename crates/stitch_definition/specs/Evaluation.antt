@@ -2,13 +2,12 @@
 use Prim.Native.Nat.{ℕ}
 use Rattle.body_refusals.specs.Evaluation as Refusals
 use Rattle.stitch_rings.specs.Evaluation as Rings
-use Rattle.stitch_faces.specs.Faces.{faceIndices}
 use Rattle.stitch_definition.specs.StitchedBody.{newNormal, coordinates, ring, fanned, stitchedPatch, stitchedPatches, stitchedBodyOf, stitchedBody}
 use Rattle.stitch_definition.specs.Slices.{stitchChecks, writeBody, refuseStitch, clearedSlices, stitchOrRefuse}
 use Rattle.stitch_definition.specs.Stitch.{stitchBody, stitchOf}
 
 -- every definition that computes
 unfoldable pub evaluation : ℕ
-unfolding Refusals.evaluation Rings.evaluation faceIndices newNormal coordinates ring fanned stitchedPatch stitchedPatches stitchedBodyOf stitchedBody stitchChecks writeBody refuseStitch clearedSlices
+unfolding Refusals.evaluation Rings.evaluation newNormal coordinates ring fanned stitchedPatch stitchedPatches stitchedBodyOf stitchedBody stitchChecks writeBody refuseStitch clearedSlices
     stitchOrRefuse stitchBody stitchOf
 evaluation = 0
