@@ -9,17 +9,17 @@ ghost use mathlib.Core.Path.{_≡_};
 ghost use Rattle.patch_alone.specs.Alone.{volumeAlone, farthestAlone, escapesAlone};
 ghost use Rattle.cad_answers.specs.Answers.{boxOf, cadMeasured, cadJudged};
 
-// The volume of a patch, reversed where flip says so.
+// The volume of a patch, reversed where flip says so; its stretches are read through their view.
 #[no_mangle]
-pub extern "C" fn cad_patch_volume(
-    positions: &[f32],
-    normals: &[f32],
-    indices: &[u32],
+pub extern "C" fn cad_patch_volume<'a>(
+    positions: &'a [f32],
+    normals: &'a [f32],
+    indices: &'a [u32],
     flip: bool,
 ) -> CadMeasured
     ensures { λ r. ⌜ r ≡ cadMeasured (volumeAlone (now (positions .entry)) (now (normals .entry)) (now (indices .entry)) flip) ⌝ }
 {
-    measured_answer(patch_alone::patch_volume_alone(positions, normals, indices, flip))
+    measured_answer(patch_view::volume_of(positions, normals, indices, flip))
 }
 
 // How far a patch's farthest vertex is from the box's centre.

@@ -67,3 +67,15 @@ pub fn volume<'a>(v: PatchView<'a>, flip: bool) -> Measured
 {
     volume_alone(v.positions, v.normals, v.indices, flip)
 }
+
+// The same of a patch's three stretches: they are read through their view.
+pub fn volume_of<'a>(
+    positions: &'a [f32],
+    normals: &'a [f32],
+    indices: &'a [u32],
+    flip: bool,
+) -> Measured
+    ensures { λ r. ⌜ r ≡ measuredOf (volumeAlone (now (positions .entry)) (now (normals .entry)) (now (indices .entry)) flip) ⌝ }
+{
+    volume(view_of(positions, normals, indices), flip)
+}

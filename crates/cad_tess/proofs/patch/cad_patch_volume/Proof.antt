@@ -4,8 +4,8 @@ use borrow.Author.Needs.{needs}
 use Rattle.cad_tess.proofs.patch.cad_patch_volume.Statement.{statement}
 use Rattle.cad_tess.proofs.patch.cad_patch_volume.Tie as tie
 
-patch-volume-alone-requires : tie.Need-patch-volume-alone-requires
-patch-volume-alone-requires c κs = search needs
+volume-of-requires : tie.Need-volume-of-requires
+volume-of-requires c κs = search needs
 
 measured-answer-requires : tie.Need-measured-answer-requires
 measured-answer-requires c κs = search needs
@@ -15,4 +15,4 @@ returns c = search volume-struct
 
 pub cad-patch-volume-spec : {M : Type 1} → statement M
 cad-patch-volume-spec =
-    tie.close (tie.spec patch-volume-alone-requires measured-answer-requires returns)
+    tie.close (tie.spec volume-of-requires measured-answer-requires returns)
