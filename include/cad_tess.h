@@ -8,7 +8,7 @@
  *     cad_stitch    writes the stitched body into second slices
  *     cad_assemble  writes the mesh, its parts, ranges and failures
  *
- * The other calls ask about one patch alone, or are the float steps on which the three are built.
+ * The other calls read a face of a body, ask about one patch alone, or are the float steps on which the three are built.
  *
  * No call allocates, keeps anything between calls, or has any state of its own: a caller lends every slice, and threads may call at
  * once with slices of their own. What each call answers and what it leaves in each slice is proved against a definition, refusals
@@ -127,6 +127,15 @@ enum CadRefusal {
     CAD_REFUSED_MESH = 41            /* cad_assemble: a mesh slice is shorter than the accepted patches need, or a table than F rows */
 };
 
+/* A row of the table: the table's five numbers, in their order. A table of F rows may be lent as F of these where a call takes them. */
+typedef struct CadRow {
+    uint32_t shell;
+    uint32_t face;
+    uint32_t outcome;  /* 0 for a patch, 1 to 255 for a failure from upstream */
+    uint32_t vertices; /* the row's vertex count */
+    uint32_t indices;  /* its index count */
+} CadRow;
+
 /* cad_turn's answer. */
 typedef struct CadTurned {
     uint32_t refusal; /* enum CadRefusal */
@@ -171,7 +180,8 @@ typedef struct CadJudged {
 /* The library's layout of all these; a compiler that was told to pack structures stops here. */
 typedef char cad_layout_is_the_library_s[sizeof(float) == 4 && sizeof(double) == 8 && sizeof(size_t) == 8 && sizeof(bool) == 1 &&
                                          sizeof(CadTurned) == 16 && sizeof(CadStitched) == 24 && sizeof(CadAssembled) == 56 &&
-                                         sizeof(CadMeasured) == 16 && sizeof(CadJudged) == 8 ? 1 : -1];
+                                         sizeof(CadMeasured) == 16 && sizeof(CadJudged) == 8 &&
+                                         sizeof(CadRow) == CAD_ROW_NUMBERS * sizeof(uint32_t) ? 1 : -1];
 
 /*
  * Turns the rows of a body so that neighbours of one shell agree on which side is outside; a group of neighbours whose volume comes
@@ -247,6 +257,31 @@ CadAssembled cad_assemble(const uint32_t *rows, size_t rows_len,
                           uint32_t *ranges, size_t ranges_len,
                           uint64_t *failures, size_t failures_len,
                           uint64_t *work, size_t work_len);
+
+/*
+ * One face of a body. Nothing is refused: a row past the end has face 0 and no indices, and slices may be of any length.
+ */
+
+/* The face number of row k. rows_len counts rows: an array of CadRow, or a table of 5 * rows_len numbers cast to one. */
+uint32_t cad_face_at(const CadRow *rows, size_t rows_len, size_t k);
+
+/*
+ * Row k's indices after stitching, as they count within the row's vertices. They are a stretch of the old indices if the row came
+ * through stitching unchanged, and of the new ones if it was stitched, which gives it vertices.
+ *
+ *     rows, indices                    the body as it was handed to cad_stitch
+ *     stitched_rows, stitched_indices  what cad_stitch left in out_rows and out_indices; they may be longer than what it wrote
+ *     out_len                          any: the answer says how many indices the row has, and so many are written, or as many as
+ *                                      there is room for. What stands behind them stays as it was
+ *
+ * The tables are taken as they are. A stretch that goes beyond its slice ends where the slice does.
+ */
+uint64_t cad_face_indices(const uint32_t *rows, size_t rows_len,
+                          const uint32_t *indices, size_t indices_len,
+                          const uint32_t *stitched_rows, size_t stitched_rows_len,
+                          const uint32_t *stitched_indices, size_t stitched_indices_len,
+                          size_t k,
+                          uint32_t *out, size_t out_len);
 
 /*
  * One patch alone: a body of one row with positions_len / 3 vertices and indices_len indices. It needs no work area and nothing is

@@ -104,6 +104,18 @@ static void patches(void)
     printf("a patch with a normal missing: refused with %" PRIu32 "\n", cad_patch_volume(corners, 12, normals, 9, triangles, 12, false).refusal);
 }
 
+/* What face number row k has, and its indices once the body is stitched, in room for five. */
+static void face(size_t k)
+{
+    uint32_t own[5] = {0};
+    const uint64_t count = cad_face_indices(lent.rows, lent.rows_len, lent.indices, lent.indices_len,
+                                            lent.out_rows, 2 * CAD_ROW_NUMBERS, lent.out_indices, 3 * ROOM, k, own, 5);
+    printf("row %zu: face %" PRIu32 ", %" PRIu64 " indices:", k, cad_face_at((const CadRow *)lent.rows, 2, k), count);
+    for (size_t i = 0; i < 5; i++)
+        printf(" %" PRIu32, own[i]);
+    printf("\n");
+}
+
 static void done(void)
 {
     fresh();
@@ -112,6 +124,8 @@ static void done(void)
     const CadStitched sewn = stitch(0.25);
     printf("stitch: %" PRIu32 ", %" PRIu32 " vertices, %" PRIu32 " indices, %" PRIu64 " splits\n", sewn.refusal, sewn.vertices, sewn.indices,
            sewn.splits);
+    for (size_t k = 0; k < 3; k++)
+        face(k);
     const CadAssembled mesh = assemble(CAD_MATERIAL(UINT32_MAX));
     printf("assemble: %" PRIu32 ", %" PRIu32 " vertices, %" PRIu32 " indices, %" PRIu32 " parts, %" PRIu32 " ranges, %" PRIu32 " failures, ",
            mesh.refusal, mesh.vertices, mesh.indices, mesh.parts, mesh.ranges, mesh.failures);

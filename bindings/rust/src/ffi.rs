@@ -6,7 +6,7 @@
 //! the processor's usual floating-point state for granted, as Rust does everywhere.
 
 use crate::answers::{Assembled, Stitched, Turned};
-use crate::body::{BodyMut, BodyOut, BodyRef, Point};
+use crate::body::{BodyMut, BodyOut, BodyRef, FaceId, Point, Row};
 use crate::mesh::{Aabb, MeshOut, Setting};
 use crate::refusal::Refusal;
 
@@ -56,6 +56,8 @@ extern "C" {
     fn cad_turn(rows: *const u32, rows_len: usize, positions: *const f32, positions_len: usize, normals: *mut f32, normals_len: usize, indices: *mut u32, indices_len: usize, work: *mut u64, work_len: usize) -> CadTurned;
     fn cad_stitch(rows: *const u32, rows_len: usize, positions: *const f32, positions_len: usize, normals: *const f32, normals_len: usize, indices: *const u32, indices_len: usize, sag: f64, out_rows: *mut u32, out_rows_len: usize, out_positions: *mut f32, out_positions_len: usize, out_normals: *mut f32, out_normals_len: usize, out_indices: *mut u32, out_indices_len: usize, work: *mut u64, work_len: usize) -> CadStitched;
     fn cad_assemble(rows: *const u32, rows_len: usize, positions: *const f32, positions_len: usize, normals: *const f32, normals_len: usize, indices: *const u32, indices_len: usize, min_x: f64, min_y: f64, min_z: f64, max_x: f64, max_y: f64, max_z: f64, materials: *const u64, materials_len: usize, default_material: u64, mesh_positions: *mut f32, mesh_positions_len: usize, mesh_normals: *mut f32, mesh_normals_len: usize, mesh_indices: *mut u32, mesh_indices_len: usize, parts: *mut u32, parts_len: usize, ranges: *mut u32, ranges_len: usize, failures: *mut u64, failures_len: usize, work: *mut u64, work_len: usize) -> CadAssembled;
+    fn cad_face_at(rows: *const Row, rows_len: usize, k: usize) -> u32;
+    fn cad_face_indices(rows: *const u32, rows_len: usize, indices: *const u32, indices_len: usize, stitched_rows: *const u32, stitched_rows_len: usize, stitched_indices: *const u32, stitched_indices_len: usize, k: usize, out: *mut u32, out_len: usize) -> u64;
     fn cad_patch_volume(positions: *const f32, positions_len: usize, normals: *const f32, normals_len: usize, indices: *const u32, indices_len: usize, flip: bool) -> CadMeasured;
     fn cad_farthest(positions: *const f32, positions_len: usize, normals: *const f32, normals_len: usize, indices: *const u32, indices_len: usize, min_x: f64, min_y: f64, min_z: f64, max_x: f64, max_y: f64, max_z: f64) -> CadMeasured;
     fn cad_escapes_body(positions: *const f32, positions_len: usize, normals: *const f32, normals_len: usize, indices: *const u32, indices_len: usize, min_x: f64, min_y: f64, min_z: f64, max_x: f64, max_y: f64, max_z: f64) -> CadJudged;
@@ -157,6 +159,21 @@ pub fn assemble(body: BodyRef<'_>, setting: &Setting<'_>, out: MeshOut<'_>, work
         overs: answer.overs,
         closed: answer.closed == 1,
     })
+}
+
+pub fn face_at(rows: &[Row], k: usize) -> FaceId {
+    // Sound: the pair is a live slice of rows, which are five numbers in the order of C's, and the call writes nothing.
+    FaceId(unsafe { cad_face_at(rows.as_ptr(), rows.len(), k) })
+}
+
+#[rustfmt::skip]
+pub fn face_indices(rows: &[Row], indices: &[u32], stitched_rows: &[Row], stitched_indices: &[u32], k: usize, out: &mut [u32]) -> u64 {
+    let ((r, r_len), (s, s_len)) = (numbers(rows), numbers(stitched_rows));
+    // Sound: each pair is a live slice of the numbers that the call takes; out comes from &mut, so it overlaps nothing.
+    unsafe {
+        cad_face_indices(r, r_len, indices.as_ptr(), indices.len(), s, s_len, stitched_indices.as_ptr(), stitched_indices.len(), k,
+            out.as_mut_ptr(), out.len())
+    }
 }
 
 pub fn patch_volume(positions: &[Point], normals: &[Point], indices: &[u32], flip: bool) -> Result<f64, Refusal> {

@@ -20,7 +20,7 @@
 //! ```
 
 use crate::answers::{Assembled, Stitched, Turned};
-use crate::body::{BodyMut, BodyOut, BodyRef, Point};
+use crate::body::{BodyMut, BodyOut, BodyRef, FaceId, Point, Row};
 use crate::ffi;
 use crate::mesh::{Aabb, MeshOut, Setting};
 use crate::refusal::Refusal;
@@ -42,6 +42,41 @@ pub fn stitch(body: BodyRef<'_>, sag: f64, out: BodyOut<'_>, work: &mut [u64]) -
 /// The work area must be enough for the body handed over: see [`work_words`](crate::work_words).
 pub fn assemble(body: BodyRef<'_>, setting: &Setting<'_>, out: MeshOut<'_>, work: &mut [u64]) -> Result<Assembled, Refusal> {
     ffi::assemble(body, setting, out, work)
+}
+
+/// The face of row k of a table, or face 0 past its end.
+///
+/// ```
+/// use body_finisher::{face_at, FaceId, Row};
+///
+/// let rows = [Row { face: FaceId(7), ..Row::default() }];
+/// assert_eq!((face_at(&rows, 0), face_at(&rows, 1)), (FaceId(7), FaceId(0)));
+/// ```
+pub fn face_at(rows: &[Row], k: usize) -> FaceId {
+    ffi::face_at(rows, k)
+}
+
+/// Row k's indices after stitching, copied to the front of `out` as far as it has room; the answer is how many there are. They are a
+/// stretch of the body's own indices if the row came through unchanged, and of the stitched ones if it was stitched; past the end there
+/// are none. The stitched rows and indices are what [`stitch`] left, and may be longer than what it wrote.
+///
+/// ```
+/// use body_finisher::{face_indices, Body, FaceId, Finisher};
+///
+/// // A triangle, and two that meet in the middle of its first edge.
+/// let (o, x, y, d, m) = ([0.0; 3], [10.0, 0.0, 0.0], [0.0, 10.0, 0.0], [0.0, -10.0, 0.0], [5.0, 0.0, 0.0]);
+/// let (mut body, mut stitched) = (Body::default(), Body::default());
+/// body.push_patch(0, FaceId(0), &[o, x, y], &[[0.0; 3]; 3], &[0, 1, 2])?;
+/// body.push_patch(0, FaceId(1), &[o, d, m, m, d, x], &[[0.0; 3]; 6], &[0, 1, 2, 3, 4, 5])?;
+/// Finisher::new().stitch(body.view(), 0.25, &mut stitched)?;
+///
+/// let (before, after, mut out) = (body.view(), stitched.view(), [9; 8]);
+/// assert_eq!(face_indices(before.rows, before.indices, after.rows, after.indices, 0, &mut out), 6);
+/// assert_eq!(out, [0, 3, 1, 0, 1, 2, 9, 9]);
+/// # Ok::<(), Box<dyn std::error::Error>>(())
+/// ```
+pub fn face_indices(rows: &[Row], indices: &[u32], stitched_rows: &[Row], stitched_indices: &[u32], k: usize, out: &mut [u32]) -> u64 {
+    ffi::face_indices(rows, indices, stitched_rows, stitched_indices, k, out)
 }
 
 /// The volume between a patch and the origin; as if turned, where `flip` says so.

@@ -4,7 +4,8 @@
 //!
 //! - [`Finisher`] finishes bodies one after another, with a work area that it keeps.
 //! - [`lent`] has the same calls with every slice lent by the caller, without an allocation.
-//! - [`patch_volume`], [`farthest`] and [`escapes_body`] ask about one patch alone; [`steps`] has the float steps.
+//! - [`face_at`] and [`face_indices`] read one face of a body, [`patch_volume`], [`farthest`] and [`escapes_body`] ask about one patch alone;
+//!   [`steps`] has the float steps.
 //!
 //! ```
 //! use body_finisher::{Body, Entry, FaceId, Finisher, MaterialId, Setting};
@@ -40,6 +41,6 @@ pub mod steps;
 pub use answers::{Assembled, Stitched, Turned};
 pub use body::{work_words, Body, BodyMut, BodyOut, BodyRef, FaceId, Point, Row, RowError};
 pub use finisher::{Counts, Finished, Finisher, MOST_INDICES, MOST_ROWS, MOST_VERTICES};
-pub use lent::{escapes_body, farthest, patch_volume};
+pub use lent::{escapes_body, face_at, face_indices, farthest, patch_volume};
 pub use mesh::{Aabb, Entry, FaceRange, Failure, MaterialId, Mesh, MeshOut, Part, RawFailure, Setting};
 pub use refusal::Refusal;

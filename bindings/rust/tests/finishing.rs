@@ -1,6 +1,8 @@
 //! Bodies finished through the wrapper: owned, lent, one after another, and from several threads.
 
-use body_finisher::{Aabb, Body, BodyRef, Entry, FaceId, FaceRange, Failure, Finisher, MaterialId, Mesh, Part, Setting};
+use body_finisher::{
+    face_at, face_indices, Aabb, Body, BodyRef, Entry, FaceId, FaceRange, Failure, Finisher, MaterialId, Mesh, Part, Setting,
+};
 
 const WALLS: [[usize; 4]; 6] = [[0, 2, 3, 1], [4, 5, 7, 6], [0, 1, 5, 4], [2, 6, 7, 3], [0, 4, 6, 2], [1, 3, 7, 5]];
 
@@ -89,6 +91,24 @@ fn the_stitched_body_gets_as_much_room_as_it_needs() {
         assert_eq!(out.indices.len(), body.indices.len() + 3 * points);
         assert_eq!((out.rows.len(), out.normals.len()), (body.rows.len(), out.positions.len()));
     }
+}
+
+#[test]
+fn a_face_has_the_indices_of_its_row_of_the_stitched_body() {
+    let (body, mut stitched) = (split_by(20), Body::default());
+    assert!(Finisher::new().stitch(body.view(), 0.05, &mut stitched).expect("a small body").splits > 0);
+    let (before, after) = (body.view(), stitched.view());
+    let copied = |k, out: &mut [u32]| face_indices(before.rows, before.indices, after.rows, after.indices, k, out);
+    let mut rest = after.indices;
+    for (k, row) in after.rows.iter().enumerate() {
+        let (own, behind) = rest.split_at(row.indices as usize);
+        let mut out = vec![u32::MAX; own.len() + 1];
+        assert_eq!(copied(k, &mut out), own.len() as u64);
+        assert_eq!(out.split_last(), Some((&u32::MAX, own)), "row {k}");
+        assert_eq!(face_at(after.rows, k), row.face);
+        rest = behind;
+    }
+    assert_eq!(copied(after.rows.len(), &mut []), 0);
 }
 
 #[test]

@@ -6,6 +6,7 @@ use lib.ListN.{length, getD, length-map, List·getD-map}
 use Rattle.body_rows.specs.Body as Body
 use Rattle.body_rows.specs.Body.{rowsOf, tableOf}
 use Rattle.body_rows.specs.Rows as Flat
+use Rattle.mesh_materials.specs.declared.FaceId.{FaceId}
 use Rattle.body_row_structs.specs.declared.Row.{Row}
 
 -- a row of zeros: what lies past the end
@@ -15,6 +16,10 @@ noRow = record { shell = 0; face = 0; outcome = 0; vertices = 0; indices = 0 }
 -- row k of the slice
 abbrev pub rowAt : List Row → ℕ → Row
 rowAt rows k = getD rows k noRow
+
+-- the face of row k
+abbrev pub faceAt : List Row → ℕ → FaceId
+faceAt rows k = record { 0 = rowAt rows k .face }
 
 -- the row of a body that it is
 abbrev pub bodyRow : Row → Body.Row
@@ -43,6 +48,6 @@ pub flat-row : (rows : List Row) (k : ℕ) → Flat.rowAt (flat rows) k ≡ body
 unfolding Flat.rowAt
 flat-row rows k = ap (λ (rs : List Body.Row). getD rs k Flat.noRow) (flat-rows rows) ∙ List·getD-map bodyRow rows k noRow
 
--- So a face number read from the slice is the one that the flat table has.
-pub flat-face : (rows : List Row) (k : ℕ) → Flat.rowAt (flat rows) k .face ≡ rowAt rows k .face
+-- So the face read from the slice has the number that the flat table has.
+pub flat-face : (rows : List Row) (k : ℕ) → Flat.rowAt (flat rows) k .face ≡ faceAt rows k .0
 flat-face rows k = ap (λ (r : Body.Row). r .face) (flat-row rows k)

@@ -1,10 +1,12 @@
 // The face table lent as a slice of rows: how many there are, and one of them.
 
+use mesh_materials::FaceId;
 ghost use mathlib.Core.Path.{_≡_};
 ghost use lib.ListN.{length};
-ghost use Rattle.body_row_structs.specs.FaceRows.{rowAt};
+ghost use Rattle.body_row_structs.specs.FaceRows.{faceAt, rowAt};
 
 // A row of the face table; an outcome of 0 is a patch, 1 to 255 an upstream failure.
+#[repr(C)]
 pub struct Row {
     pub shell: u32,
     pub face: u32,
@@ -36,9 +38,9 @@ pub fn row_at(rows: &[Row], k: usize) -> Row
     }
 }
 
-// The face number of row k, or 0 past the end.
-pub fn face_at(rows: &[Row], k: usize) -> u32
-    ensures { λ f. ⌜ f ≡ rowAt (now (rows .entry)) k .face ⌝ }
+// The face of row k, or face 0 past the end.
+pub fn face_at(rows: &[Row], k: usize) -> FaceId
+    ensures { λ f. ⌜ f ≡ faceAt (now (rows .entry)) k ⌝ }
 {
-    row_at(rows, k).face
+    FaceId(row_at(rows, k).face)
 }

@@ -1,6 +1,7 @@
 // The library's calls for C: each is a proved function under its C name, its answer a struct with the refusal first.
 
 mod assembling;
+mod faces;
 mod naming;
 mod patch;
 mod steps;
@@ -8,6 +9,8 @@ mod stitching;
 mod turning;
 
 pub use assembling::cad_assemble;
+pub use faces::cad_face_at;
+pub use faces::cad_face_indices;
 pub use naming::cad_cell;
 pub use naming::cad_key;
 pub use patch::cad_escapes_body;
