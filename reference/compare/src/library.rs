@@ -1,7 +1,7 @@
 //! The proved library's calls, declared as its C exports are, and wrapped.
 
 use cad_ir::math::Aabb;
-use driver::flat::Flat;
+use driver::flat::{Flat, ROW};
 
 #[repr(C)]
 #[derive(Debug, Clone, Copy, PartialEq)]
@@ -50,7 +50,7 @@ pub struct Assembled {
 }
 
 pub mod raw {
-    use super::{Assembled, Judged, Measured, Stitched, Turned};
+    use super::{Assembled, Judged, Measured, ROW, Stitched, Turned};
 
     #[rustfmt::skip]
     unsafe extern "C" {
@@ -61,6 +61,8 @@ pub mod raw {
         pub fn cad_larger(a: u64, b: u64) -> u64;
         pub fn cad_cell(v: f32) -> i64;
         pub fn cad_key(x: f32, y: f32, z: f32) -> u64;
+        pub fn cad_face_at(rows: *const [u32; ROW], rows_len: usize, k: usize) -> u32;
+        pub fn cad_face_indices(rows: *const u32, rows_len: usize, i: *const u32, ni: usize, stitched_rows: *const u32, stitched_rows_len: usize, si: *const u32, sin: usize, k: usize, out: *mut u32, out_len: usize) -> u64;
         pub fn cad_patch_volume(p: *const f32, pn: usize, n: *const f32, nn: usize, i: *const u32, ni: usize, flip: bool) -> Measured;
         pub fn cad_farthest(p: *const f32, pn: usize, n: *const f32, nn: usize, i: *const u32, ni: usize, x0: f64, y0: f64, z0: f64, x1: f64, y1: f64, z1: f64) -> Measured;
         pub fn cad_escapes_body(p: *const f32, pn: usize, n: *const f32, nn: usize, i: *const u32, ni: usize, x0: f64, y0: f64, z0: f64, x1: f64, y1: f64, z1: f64) -> Judged;
@@ -150,6 +152,30 @@ pub fn stitch(body: &Flat, sag: f64, out: &mut Flat, work: &mut [u64]) -> Stitch
             out.indices.len(),
             work.as_mut_ptr(),
             work.len(),
+        )
+    }
+}
+
+/// The face number of row k of a body's table, lent as rows.
+pub fn face_at(body: &Flat, k: usize) -> u32 {
+    unsafe { raw::cad_face_at(body.rows.as_ptr().cast(), body.rows.len() / ROW, k) }
+}
+
+/// Row k's indices after stitching, as many as there is room for; how many there are.
+pub fn face_indices(before: &Flat, stitched: &Flat, k: usize, out: &mut [u32]) -> u64 {
+    unsafe {
+        raw::cad_face_indices(
+            before.rows.as_ptr(),
+            before.rows.len(),
+            before.indices.as_ptr(),
+            before.indices.len(),
+            stitched.rows.as_ptr(),
+            stitched.rows.len(),
+            stitched.indices.as_ptr(),
+            stitched.indices.len(),
+            k,
+            out.as_mut_ptr(),
+            out.len(),
         )
     }
 }

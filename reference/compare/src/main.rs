@@ -2,6 +2,7 @@
 //! each patch alone, and the float steps against the processor's own.
 
 mod assembling;
+mod faces;
 mod faults;
 mod fences;
 mod lent;

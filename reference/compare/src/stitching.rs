@@ -1,5 +1,6 @@
 //! Stitching against the unchanged Rust's, and its refusals.
 
+use crate::faces;
 use crate::lent;
 use crate::source_bodies::{flat_of, unlike};
 use crate::work::Work;
@@ -104,10 +105,13 @@ pub fn differs(case: &Case, sag: f64, r: &mut Random) -> Option<String> {
         return wrong(before, sag, &outputs, &mut work(), refusal(33), &outputs, needed);
     }
     let want = Stitched { refusal: 0, vertices: vertices as u32, indices: indices as u32, splits: *splits as u64 };
-    wrong(before, sag, &outputs, &mut work(), want, &written(after, &outputs), needed).or_else(|| {
-        let short = short(after, &outputs, r)?;
-        wrong(before, sag, &short, &mut work(), refusal(32), &short, needed)
-    })
+    let stitched = written(after, &outputs);
+    wrong(before, sag, &outputs, &mut work(), want, &stitched, needed)
+        .or_else(|| {
+            let short = short(after, &outputs, r)?;
+            wrong(before, sag, &short, &mut work(), refusal(32), &short, needed)
+        })
+        .or_else(|| faces::wrong(before, &stitched, after, r))
 }
 
 /// How a body was held against the Rust beyond being copied.
