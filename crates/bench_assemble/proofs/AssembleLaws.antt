@@ -17,7 +17,8 @@ use Rattle.mesh_room.specs.Slices.{MeshSlices}
 use Rattle.float_steps.specs.Floats.{f32}
 use Rattle.patch_geometry.specs.declared.Aabb.{Aabb}
 use Rattle.patch_geometry.specs.Geometry.{zero64}
-use Rattle.bench_definition.specs.Finish.{benchRoom, area, meshSlices}
+use Rattle.sheet_line_order.specs.Limits.{benchLimits}
+use Rattle.bench_definition.specs.Finish.{area, meshSlices}
 use Rattle.mesh_definition.specs.Assembled.{LeftMesh, leftMesh, slicesOf, assembleAnswered, countsAnswered}
 use Rattle.turn_definition.specs.declared.TurnCounts.{TurnCounts}
 use Rattle.bench_call_texts.specs.Cases.{Cases, told-done, told-refused}
@@ -56,11 +57,11 @@ module _ (t : TurnCounts) (splits : ℕ) (g : Assembled) (P N : List Float) (I p
 abbrev meshZeros : Float → MeshSlices
 meshZeros z = slicesOf (replicate 576 z) (replicate 576 z) (replicate 192 0) (replicate 48 0) (replicate 48 0) (replicate 64 0) (replicate 4096 0)
 
-room-zeros : meshZeros zero64 ≡ meshSlices benchRoom
-unfolding meshSlices benchRoom area
+room-zeros : meshZeros zero64 ≡ meshSlices benchLimits
+unfolding meshSlices benchLimits area
 room-zeros = refl
 
-mesh-zeros : meshZeros (f32 0) ≡ meshSlices benchRoom
+mesh-zeros : meshZeros (f32 0) ≡ meshSlices benchLimits
 mesh-zeros = ap meshZeros zero-same ∙ room-zeros
 
 pub assembled-text : (T : List ℕ) (Q R : List Float) (J : List ℕ) (box : Aabb) (M : List ℕ) (d : ℕ) (t : TurnCounts) (splits : ℕ) (g : Assembled) (P N : List Float)
@@ -69,4 +70,4 @@ pub assembled-text : (T : List ℕ) (Q R : List Float) (J : List ℕ) (box : Aab
     → Told E (assembledText T Q R J box M d t splits) W r
 unfolding assembledText
 assembled-text T Q R J box M d t splits g P N I parts ranges failures w E W r m e =
-    m .says (assembleOf T Q R J box M d (meshSlices benchRoom)) w (e ∙ ap (λ (z : MeshSlices). assembleAnswered (assembleOf T Q R J box M d z)) mesh-zeros)
+    m .says (assembleOf T Q R J box M d (meshSlices benchLimits)) w (e ∙ ap (λ (z : MeshSlices). assembleAnswered (assembleOf T Q R J box M d z)) mesh-zeros)

@@ -24,7 +24,8 @@ use Rattle.mesh_definition.specs.Assemble.{AfterAssemble, assembleOf}
 use Rattle.mesh_definition.specs.declared.Assembled.{Assembled}
 use Rattle.mesh_definition.specs.Assembled.{countsAnswered, leftMesh, slicesOf, assembleAnswered}
 use Rattle.bench_call_texts.specs.Told.{Told}
-use Rattle.bench_definition.specs.Finish.{benchRoom, area, stitchSlices, meshSlices}
+use Rattle.sheet_line_order.specs.Limits.{benchLimits}
+use Rattle.bench_definition.specs.Finish.{area, stitchSlices, meshSlices}
 
 -- how much assemble wrote
 abbrev pub sizedFrom : MeshCounts → Sizes
@@ -51,7 +52,7 @@ pub record MeshSaid (t : TurnCounts) (splits : ℕ) (g : Assembled) (P N : List 
 
 -- what is printed of a stitched body, assembled in the program's room
 unfoldable pub assembledText : List ℕ → List Float → List Float → List ℕ → Aabb → List ℕ → ℕ → TurnCounts → ℕ → List ℕ
-assembledText T P N I box M d t splits = meshPrinted t splits (assembleOf T P N I box M d (meshSlices benchRoom))
+assembledText T P N I box M d t splits = meshPrinted t splits (assembleOf T P N I box M d (meshSlices benchLimits))
 
 -- what is printed of stitch's answer on a body of table T, once assembled
 unfoldable pub stitchPrinted : List ℕ → Aabb → List ℕ → ℕ → TurnCounts → AfterStitch → List ℕ
@@ -68,7 +69,7 @@ pub record StitchSaid (T : List ℕ) (box : Aabb) (M : List ℕ) (d : ℕ) (t : 
 
 -- what is printed of a turned body, stitched and assembled
 unfoldable pub stitchedText : List ℕ → List Float → List Float → List ℕ → Float → Aabb → List ℕ → ℕ → TurnCounts → List ℕ
-stitchedText T P N I sag box M d t = stitchPrinted T box M d t (stitchOf key T P N I sag (stitchSlices benchRoom))
+stitchedText T P N I sag box M d t = stitchPrinted T box M d t (stitchOf key T P N I sag (stitchSlices benchLimits))
 
 -- what is printed of turn's answer, once stitched and assembled
 unfoldable pub turnPrinted : List ℕ → List Float → Float → Aabb → List ℕ → ℕ → AfterTurn → List ℕ
@@ -83,4 +84,4 @@ pub record TurnSaid (T : List ℕ) (P : List Float) (sag : Float) (box : Aabb) (
 
 -- what is printed of a body, turned, stitched and assembled
 unfoldable pub finishedText : List ℕ → List Float → List Float → List ℕ → Float → Aabb → List ℕ → ℕ → List ℕ
-finishedText T P N I sag box M d = turnPrinted T P sag box M d (turnOf key T P N I (area benchRoom))
+finishedText T P N I sag box M d = turnPrinted T P sag box M d (turnOf key T P N I (area benchLimits))

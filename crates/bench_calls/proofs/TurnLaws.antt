@@ -13,7 +13,8 @@ use Rattle.turn_definition.specs.declared.Turned.{Turned}
 use Rattle.turn_definition.specs.declared.Turned.the-variants as TurnCase
 use Rattle.turn_definition.specs.Orient.{AfterTurn, turnOf}
 use Rattle.turn_definition.specs.Answers.{Left, left, answered}
-use Rattle.bench_definition.specs.Finish.{benchRoom, area}
+use Rattle.sheet_line_order.specs.Limits.{benchLimits}
+use Rattle.bench_definition.specs.Finish.{area}
 use Rattle.bench_call_texts.specs.Cases.{Cases, told-done, told-refused}
 use Rattle.bench_call_texts.specs.Told.{Told}
 use Rattle.bench_call_texts.specs.Texts.{TurnSaid, finishedText, stitchedText, turnPrinted}
@@ -40,12 +41,12 @@ module _ (T : List ℕ) (P : List Float) (sag : Float) (box : Aabb) (M : List �
   unfolding turnPrinted
   turn-said-refused k q v = record { says = λ t w e. told-refused turn-cases (countsIn t) (t .refusal) E W r _ k (sym q ∙ ap (λ (l : Left). l .answer) e) v }
 
-area-zeros : replicate 4096 0 ≡ area benchRoom
-unfolding benchRoom area
+area-zeros : replicate 4096 0 ≡ area benchLimits
+unfolding benchLimits area
 area-zeros = refl
 
 pub finished-text : (T : List ℕ) (P Q : List Float) (J : List ℕ) (sag : Float) (box : Aabb) (M : List ℕ) (d : ℕ) (g : Turned) (N : List Float) (I w E W : List ℕ) (r : ℕ)
     → TurnSaid T P sag box M d g N I E W r → left g N I w ≡ answered (turnOf key T P Q J (replicate 4096 0)) → Told E (finishedText T P Q J sag box M d) W r
 unfolding finishedText
 finished-text T P Q J sag box M d g N I w E W r m e =
-    m .says (turnOf key T P Q J (area benchRoom)) w (e ∙ ap (λ (z : List ℕ). answered (turnOf key T P Q J z)) area-zeros)
+    m .says (turnOf key T P Q J (area benchLimits)) w (e ∙ ap (λ (z : List ℕ). answered (turnOf key T P Q J z)) area-zeros)

@@ -21,6 +21,7 @@ use Rattle.patch_geometry.specs.Given.{box68, onePoint, vertex}
 use Rattle.turn_definition.specs.Claims.{turnGiven}
 use Rattle.stitch_definition.specs.Claims.{roomy, stitchGiven}
 use Rattle.bench_definition.specs.Evaluation.{evaluation}
+use Rattle.sheet_line_order.specs.Limits.{benchLimits}
 use Rattle.bench_definition.specs.Finish.{Sheet, Outcome, Refused, Finished, finish}
 
 -- ---- how the cases are read
@@ -70,7 +71,7 @@ cases =
     ∷ case 2 (map (λ b. pattern (cell (f32 b))) (0x55000000 ∷ 0x55800000 ∷ [])) (8_796_093_022_208_000_000 ∷ 9_223_372_036_854_775_807 ∷ [])
     ∷ case 3 (bits64 (sqrt (f64 0x4000000000000000)) ∷ []) (0x3FF6A09E667F3BCD ∷ [])
     ∷ case 4 (map (λ b. bits32 (narrow (f64 b))) (0x3FF0000010000000 ∷ 0x3FF0000030000000 ∷ [])) (0x3F800000 ∷ 0x3F800002 ∷ [])
-    ∷ case 5 (counts (finish nothing)) (0 ∷ 0 ∷ 0 ∷ 0 ∷ 0 ∷ 0 ∷ 0 ∷ 0 ∷ 0 ∷ 0 ∷ 0 ∷ 0 ∷ 0 ∷ 1 ∷ [])
+    ∷ case 5 (counts (finish benchLimits nothing)) (0 ∷ 0 ∷ 0 ∷ 0 ∷ 0 ∷ 0 ∷ 0 ∷ 0 ∷ 0 ∷ 0 ∷ 0 ∷ 0 ∷ 0 ∷ 1 ∷ [])
     ∷ case 6 (volumes K6 ++ turnGiven K6 .turned ∷ turnGiven K6-reversed .turned ∷ []) (0x3FC5555555555555 ∷ 0 ∷ 1 ∷ [])
     ∷ case 7 (turnGiven K7 .turned ∷ turnGiven K7 .against ∷ []) (0 ∷ 2 ∷ [])
     ∷ case 8 (stitchGiven K8 quarter .splits ∷ take 6 (stitchGiven K8 quarter .slices .indices)) (1 ∷ 0 ∷ 3 ∷ 1 ∷ 0 ∷ 1 ∷ 2 ∷ [])

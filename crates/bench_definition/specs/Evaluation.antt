@@ -3,11 +3,12 @@ use Prim.Native.Nat.{ℕ}
 use Rattle.turn_definition.specs.Evaluation as Turning
 use Rattle.stitch_definition.specs.Evaluation as Stitched
 use Rattle.mesh_definition.specs.Evaluation as Assemble
-use Rattle.bench_definition.specs.Finish.{benchRoom, area, stitchSlices, meshSlices, assembleNext, stitchNext, finishIn, finish}
+use Rattle.sheet_line_order.specs.Limits.{benchLimits}
+use Rattle.bench_definition.specs.Finish.{area, stitchSlices, meshSlices, assembleNext, stitchNext, finish}
 use Rattle.bench_definition.specs.Parts.{turnNumbers, sheetPatches, sheetFacets, placedNumbers, splitNumbers, splitsAt, placedAt, placedOf, withSplits, allWithSplits, finishFrom}
 
 -- every definition that computes
 unfoldable pub evaluation : ℕ
-unfolding Turning.evaluation Stitched.evaluation Assemble.evaluation benchRoom area stitchSlices meshSlices assembleNext stitchNext finishIn finish turnNumbers sheetPatches sheetFacets placedNumbers
+unfolding Turning.evaluation Stitched.evaluation Assemble.evaluation benchLimits area stitchSlices meshSlices assembleNext stitchNext finish turnNumbers sheetPatches sheetFacets placedNumbers
     splitNumbers splitsAt placedAt placedOf withSplits allWithSplits finishFrom
 evaluation = 0

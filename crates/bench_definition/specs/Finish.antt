@@ -1,4 +1,4 @@
--- The three calls in a row, as the bench program makes them once its sheet is read: turn, stitch, assemble. Assumes nothing.
+-- The three calls in a row, as a program makes them once its sheet is read: turn, stitch, assemble. Assumes nothing.
 use mathlib.Core.Bool.{true, false}
 use mathlib.Core.List.{List, map}
 use Prim.Native.Nat.{ℕ, _+_, _*_}
@@ -8,6 +8,7 @@ use lib.Ieee.{Float}
 use Rattle.float_steps.specs.Floats.{f32}
 use Rattle.point_rules.specs.Points.{key}
 use Rattle.body_rows.specs.Body.{rowWidth}
+use Rattle.sheet_line_order.specs.declared.Limits.{Limits}
 use Rattle.patch_geometry.specs.declared.Aabb.{Aabb}
 use Rattle.patch_geometry.specs.Geometry.{zero64}
 use Rattle.turn_definition.specs.Orient.{AfterTurn, turnOf}
@@ -29,41 +30,31 @@ pub record Sheet : Type 0 where
   pub normals : List ℕ
   pub indices : List ℕ
 
--- what the program has room for: results to so many rows, vertices and indices
-pub record ProgramRoom : Type 0 where
-  pub rows : ℕ
-  pub vertices : ℕ
-  pub indices : ℕ
-
--- The bench program takes 16 rows, and results to 192 vertices and 192 indices.
-unfoldable pub benchRoom : ProgramRoom
-benchRoom = record { rows = 16; vertices = 192; indices = 192 }
-
--- a work area for every body that there is room for
-unfoldable pub area : ProgramRoom → List ℕ
-area r = replicate (16 * r .indices + 16 * r .rows + 4 * r .vertices) 0
+-- a work area for every body within the limits, and every result
+unfoldable pub area : Limits → List ℕ
+area l = replicate (16 * l .«result_indices» + 16 * l .rows + 4 * l .«result_vertices») 0
 
 -- the slices that stitch is lent
-unfoldable pub stitchSlices : ProgramRoom → StitchSlices
-stitchSlices r =
+unfoldable pub stitchSlices : Limits → StitchSlices
+stitchSlices l =
     record {
-      table = replicate (rowWidth * r .rows) 0;
-      positions = replicate (3 * r .vertices) zero64;
-      normals = replicate (3 * r .vertices) zero64;
-      indices = replicate (r .indices) 0;
-      work = area r;
+      table = replicate (rowWidth * l .rows) 0;
+      positions = replicate (3 * l .«result_vertices») zero64;
+      normals = replicate (3 * l .«result_vertices») zero64;
+      indices = replicate (l .«result_indices») 0;
+      work = area l;
     }
 
 -- the slices that assemble is lent
-unfoldable pub meshSlices : ProgramRoom → MeshSlices
-meshSlices r =
+unfoldable pub meshSlices : Limits → MeshSlices
+meshSlices l =
     record {
-      vertices = record { positions = replicate (3 * r .vertices) zero64; normals = replicate (3 * r .vertices) zero64 };
-      indices = replicate (r .indices) 0;
-      parts = replicate (partWidth * r .rows) 0;
-      ranges = replicate (rangeWidth * r .rows) 0;
-      failures = replicate (failureWidth * r .rows) 0;
-      work = area r;
+      vertices = record { positions = replicate (3 * l .«result_vertices») zero64; normals = replicate (3 * l .«result_vertices») zero64 };
+      indices = replicate (l .«result_indices») 0;
+      parts = replicate (partWidth * l .rows) 0;
+      ranges = replicate (rangeWidth * l .rows) 0;
+      failures = replicate (failureWidth * l .rows) 0;
+      work = area l;
     }
 
 -- what the three calls give: the number of the first refusal, or their answers
@@ -72,8 +63,8 @@ pub data Outcome : Type 0 where
   Finished : AfterTurn → AfterStitch → AfterAssemble → Outcome
 
 -- the last call, on the stitched body
-unfoldable pub assembleNext : ProgramRoom → Sheet → AfterTurn → AfterStitch → Outcome
-assembleNext room x t s =
+unfoldable pub assembleNext : Limits → Sheet → AfterTurn → AfterStitch → Outcome
+assembleNext limits x t s =
     let out = s .slices in
     let a =
     assembleOf
@@ -84,21 +75,17 @@ assembleNext room x t s =
     (x .box)
     (x .materials)
     (x .default)
-    (meshSlices room) in
+    (meshSlices limits) in
     elim (eqb (a .refusal) 0) [ true ↦ Finished t s a | false ↦ Refused (a .refusal) ]
 
 -- the second call, on the turned body, and then the last
-unfoldable pub stitchNext : ProgramRoom → Sheet → AfterTurn → Outcome
-stitchNext room x t =
-    let s = stitchOf key (x .table) (map f32 (x .positions)) (t .normals) (t .indices) (x .sag) (stitchSlices room) in
-    elim (eqb (s .refusal) 0) [ true ↦ assembleNext room x t s | false ↦ Refused (s .refusal) ]
+unfoldable pub stitchNext : Limits → Sheet → AfterTurn → Outcome
+stitchNext limits x t =
+    let s = stitchOf key (x .table) (map f32 (x .positions)) (t .normals) (t .indices) (x .sag) (stitchSlices limits) in
+    elim (eqb (s .refusal) 0) [ true ↦ assembleNext limits x t s | false ↦ Refused (s .refusal) ]
 
 -- The program turns, stitches and assembles.
-unfoldable pub finishIn : ProgramRoom → Sheet → Outcome
-finishIn room x =
-    let t = turnOf key (x .table) (map f32 (x .positions)) (map f32 (x .normals)) (x .indices) (area room) in
-    elim (eqb (t .refusal) 0) [ true ↦ stitchNext room x t | false ↦ Refused (t .refusal) ]
-
--- that, in the bench program's room
-unfoldable pub finish : Sheet → Outcome
-finish x = finishIn benchRoom x
+unfoldable pub finish : Limits → Sheet → Outcome
+finish limits x =
+    let t = turnOf key (x .table) (map f32 (x .positions)) (map f32 (x .normals)) (x .indices) (area limits) in
+    elim (eqb (t .refusal) 0) [ true ↦ stitchNext limits x t | false ↦ Refused (t .refusal) ]

@@ -9,18 +9,19 @@ use Rattle.float_steps.specs.Floats.{f32, f64, bits32, bits64}
 use Rattle.point_rules.specs.Rule.{names}
 use Rattle.point_rules.specs.Points.{key}
 use Rattle.body_rows.specs.Body.{Patch, rowsOf, patchesOf}
+use Rattle.sheet_line_order.specs.declared.Limits.{Limits}
 use Rattle.patch_geometry.specs.Geometry.{zero64}
 use Rattle.turn_definition.specs.Orient.{turnOf}
 use Rattle.stitch_loose_points.specs.Loose.{Facet, facetsIn, looseIn}
 use Rattle.stitch_splits.specs.Splits.{Side, Placed, SplitTriangle, sidesOf, splitTriangle}
 use Rattle.stitch_definition.specs.Slices.{stitchOrRefuse, clearedSlices}
 use Rattle.stitch_definition.specs.StitchedBody.{stitchedBodyOf}
-use Rattle.bench_definition.specs.Finish.{Sheet, ProgramRoom, Outcome, Refused, area, stitchSlices, assembleNext}
+use Rattle.bench_definition.specs.Finish.{Sheet, Outcome, Refused, area, stitchSlices, assembleNext}
 
 -- turn's answer, normals and indices as numbers
-unfoldable pub turnNumbers : ProgramRoom → Sheet → List ℕ
-turnNumbers room x =
-    let t = turnOf key (x .table) (map f32 (x .positions)) (map f32 (x .normals)) (x .indices) (area room) in
+unfoldable pub turnNumbers : Limits → Sheet → List ℕ
+turnNumbers limits x =
+    let t = turnOf key (x .table) (map f32 (x .positions)) (map f32 (x .normals)) (x .indices) (area limits) in
     t .refusal ∷ t .turned ∷ t .against ∷ (map bits32 (t .normals) ++ t .indices)
 
 -- the patches of a sheet's body
@@ -76,10 +77,10 @@ allWithSplits (fs ∷ fss) [] = []
 allWithSplits (fs ∷ fss) (ns ∷ nss) = withSplits fs ns ∷ allWithSplits fss nss
 
 -- the rest of the program, given the turned body as a sheet, its counts and its splits
-unfoldable pub finishFrom : ProgramRoom → Sheet → ℕ → ℕ → List (List (List ℕ)) → Outcome
-finishFrom room x turned against nss =
-    let s = stitchOrRefuse (stitchedBodyOf (sheetPatches x) (allWithSplits (sheetFacets x) nss)) (clearedSlices (rowsOf (x .table)) (stitchSlices room)) in
+unfoldable pub finishFrom : Limits → Sheet → ℕ → ℕ → List (List (List ℕ)) → Outcome
+finishFrom limits x turned against nss =
+    let s = stitchOrRefuse (stitchedBodyOf (sheetPatches x) (allWithSplits (sheetFacets x) nss)) (clearedSlices (rowsOf (x .table)) (stitchSlices limits)) in
     elim (eqb (s .refusal) 0) [
-      | true ↦ assembleNext room x (record { refusal = 0; turned = turned; against = against; normals = []; indices = []; work = [] }) s
+      | true ↦ assembleNext limits x (record { refusal = 0; turned = turned; against = against; normals = []; indices = []; work = [] }) s
       | false ↦ Refused (s .refusal)
     ]

@@ -12,12 +12,13 @@ use lib.ListN.{length, getD, take, length-take}
 use lib.Seq.{length-take-le, take-all, take-nil, take-suc}
 use Rattle.sheet_digit_writing.specs.Writing.{Wrote}
 use Rattle.sheet_digit_writing.specs.Wrote.{take-again}
-use Rattle.sheet_line_order.specs.Laws.{long-line, noLF, read-end, read-line}
+use Rattle.sheet_line_order.specs.declared.Limits.{Limits}
+use Rattle.sheet_line_order.specs.Laws.{line-limits, long-line, noLF, read-end, read-line}
 use Rattle.sheet_line_order.specs.Reading.{State, cut, finished, readFrom, readLine, sheetOf}
 use Rattle.sheet_reader_state.specs.declared.Reader.{Reader}
 use Rattle.sheet_reader_state.specs.Kept.{Kept, ended-state, kept-line}
 use Rattle.sheet_reader_state.specs.Slices.{Lent, ended, fitsIn, inLimits, lent, readInto, refused, stateOf}
-use Rattle.sheet_meaning.specs.Bench.{bench, printed}
+use Rattle.sheet_meaning.specs.Bench.{printed, program, said}
 use Rattle.sheet_meaning.specs.Meaning.{meant}
 use Rattle.bench_definition.specs.Finish.{finish}
 use Rattle.sheet_answer_text.specs.Answer.{refusalLine}
@@ -64,19 +65,20 @@ same-line s tail L h = go (leb (length tail) L) refl (eqb (s .refusal) 0) refl
     go false q false z = rw (z, readLine)
 
 -- ---- the text, byte by byte
-module _ (text : List ℕ) (f : Fed) (line table positions normals indices materials : List ℕ) (v : SoFar text f line table positions normals indices materials) where
+module _ (limits : Limits) (text : List ℕ) (f : Fed) (line table positions normals indices materials : List ℕ) (v : SoFar limits text f line table positions normals indices materials) where
   held : Holds line (v .tail) (f .length)
   held = record { buffer = v .buffer; count = v .count }
 
-  goes-on : (c : ℕ) (rest : List ℕ) → sheetOf (text ++ c ∷ [] ++ rest) ≡ readFrom (v .state) (cut (v .tail ++ c ∷ rest))
-  goes-on c rest = ap sheetOf (append-assoc text (c ∷ []) rest) ∙ v .means (c ∷ rest)
+  goes-on : (c : ℕ) (rest : List ℕ) → sheetOf limits (text ++ c ∷ [] ++ rest) ≡ readFrom (v .state) (cut (v .tail ++ c ∷ rest))
+  goes-on c rest = ap (sheetOf limits) (append-assoc text (c ∷ []) rest) ∙ v .means (c ∷ rest)
 
   byte-fed : (c : ℕ) (line' : List ℕ) (n : ℕ) → eqb c 10 ≡ false → Wrote line (length (take (f .length) line)) (c ∷ []) line' n
-      → SoFar (text ++ c ∷ []) (record { reader = f .reader; length = n }) line' table positions normals indices materials
+      → SoFar limits (text ++ c ∷ []) (record { reader = f .reader; length = n }) line' table positions normals indices materials
   byte-fed c line' n q p =
       let h = holds-put line (v .tail) (f .length) c line' n held p in
       record {
         state = v .state;
+        within = v .within;
         tail = v .tail ++ c ∷ [];
         plain = plain-more (v .tail) c (v .plain) q;
         means = λ rest. goes-on c rest ∙ ap (λ (xs : List ℕ). readFrom (v .state) (cut xs)) (sym (append-assoc (v .tail) (c ∷ []) rest));
@@ -88,12 +90,13 @@ module _ (text : List ℕ) (f : Fed) (line table positions normals indices mater
 
   line-fed : (front : List ℕ) (t : Reader) (table' positions' normals' indices' materials' : List ℕ) → front ≡ take (f .length) line
       → lent t table' positions' normals' indices' materials' ≡ readInto (lent (f .reader) table positions normals indices materials) front
-      → SoFar (text ++ 10 ∷ []) (record { reader = t; length = 0 }) line table' positions' normals' indices' materials'
+      → SoFar limits (text ++ 10 ∷ []) (record { reader = t; length = 0 }) line table' positions' normals' indices' materials'
   line-fed front t table' positions' normals' indices' materials' q e =
       let l : Lent = lent (f .reader) table positions normals indices materials in
       let same : readLine (v .state) front ≡ readLine (v .state) (v .tail) = ap (readLine (v .state)) (q ∙ v .buffer) ∙ same-line (v .state) (v .tail) (length line) (v .room) in
       record {
         state = readLine (v .state) (v .tail);
+        within = line-limits (v .state) (v .tail) ∙ v .within;
         tail = [];
         plain = tt;
         means = λ rest. goes-on 10 rest ∙ read-line (v .state) (v .tail) rest (v .plain);
@@ -120,6 +123,14 @@ limits-fit : (r : Reader) (table : List ℕ) (p n i m : ℕ) → fitsIn r table 
 unfolding fitsIn
 limits-fit r table p n i m e = and-left (inLimits r (length table) p n i m) _ e
 
+ended-limits : (r : Reader) (rest : List ℕ) → ended r rest .limits ≡ r .limits
+unfolding ended
+ended-limits r rest = go (eqb (r .refusal) 0 && not (eqb (length rest) 0 && leb 3 (r .place)))
+  where
+    go : (b : Bool) → (cond b (refused 51 r) r) .limits ≡ r .limits
+    go true = refl
+    go false = refl
+
 limits-ended : (r : Reader) (rest : List ℕ) (t p n i m : ℕ) → inLimits (ended r rest) t p n i m ≡ inLimits r t p n i m
 unfolding ended inLimits
 limits-ended r rest t p n i m = go (eqb (r .refusal) 0 && not (eqb (length rest) 0 && leb 3 (r .place)))
@@ -128,10 +139,6 @@ limits-ended r rest t p n i m = go (eqb (r .refusal) 0 && not (eqb (length rest)
     go true = refl
     go false = refl
 
--- what is printed of a state
-abbrev said : State → List ℕ
-said s = elim (eqb (s .refusal) 0) [ true ↦ printed (finish (meant (s .sheet))) | false ↦ refusalLine (s .refusal) ]
-
 inner : (b d : Bool) (x y z : List ℕ) → d ≡ true
     → _≡_ {A = List ℕ} (elim b as (λ o. List ℕ) [ true ↦ elim d as (λ o. List ℕ) [ true ↦ x | false ↦ y ] | false ↦ z ]) (elim b as (λ o. List ℕ) [ true ↦ x | false ↦ z ])
 inner b true x y z e = refl
@@ -139,43 +146,43 @@ inner true false x y z e = let n : _≡_ {A = ℕ} 0 1 = cc in absurd (omega ari
 inner false false x y z e = refl
 
 -- what is printed of a reader and its slices is what is printed of a text that says the same
-answer-same : (l : Lent) (text : List ℕ) → stateOf l ≡ sheetOf text → inLimits (l .reader) (length (l .table)) (length (l .positions)) (length (l .normals)) (length (l .indices))
+answer-same : (limits : Limits) (l : Lent) (text : List ℕ) → stateOf l ≡ sheetOf limits text → inLimits (l .reader) (length (l .table)) (length (l .positions)) (length (l .normals)) (length (l .indices))
     (length (l .materials)) ≡ true
-    → answerIn l ≡ bench text
-unfolding answerIn bench
-answer-same l text e h =
+    → answerIn l ≡ program limits text
+unfolding answerIn said program
+answer-same limits l text e h =
     let here : answerIn l ≡ said (stateOf l) = inner (eqb (l .reader .refusal) 0) _ _ _ _ h in
     here ∙ ap said e
 
 module _ (f : Fed) (line front : List ℕ) (r : Reader) (q : front ≡ take (f .length) line) (e : r ≡ ended (f .reader) front) where
   pub text-ended : Ended f line r
-  text-ended = record { goes = go }
+  text-ended = record { within = ap (λ (t : Reader). t .limits) e ∙ ended-limits (f .reader) front; goes = go }
     where
-      go : (text table positions normals indices materials : List ℕ) → SoFar text f line table positions normals indices materials
-          → answerIn (lent r table positions normals indices materials) ≡ bench text
-      go text table positions normals indices materials v =
+      go : (limits : Limits) (text table positions normals indices materials : List ℕ) → SoFar limits text f line table positions normals indices materials
+          → answerIn (lent r table positions normals indices materials) ≡ program limits text
+      go limits text table positions normals indices materials v =
           let s : State = v .state in
           let k = v .kept in
           let empty : eqb (length front) 0 ≡ eqb (length (v .tail)) 0 = same-empty (v .tail) front (length line) (v .room) (q ∙ v .buffer) in
           let state : stateOf (lent (ended (f .reader) front) table positions normals indices materials) ≡ finished s (v .tail) =
           ended-state (f .reader) table positions normals indices materials front ∙ ap (λ (t : State). finished t front) (k .same) ∙ same-end s front (v .tail) empty in
-          let sheet : sheetOf text ≡ finished s (v .tail) =
-          ap sheetOf (sym (append-nil text)) ∙ v .means [] ∙ ap (λ (xs : List ℕ). readFrom s (cut xs)) (append-nil (v .tail)) ∙ read-end s (v .tail) (v .plain) in
-          let limits : inLimits (ended (f .reader) front) (length table) (length positions) (length normals) (length indices) (length materials) ≡ true =
+          let sheet : sheetOf limits text ≡ finished s (v .tail) =
+          ap (sheetOf limits) (sym (append-nil text)) ∙ v .means [] ∙ ap (λ (xs : List ℕ). readFrom s (cut xs)) (append-nil (v .tail)) ∙ read-end s (v .tail) (v .plain) in
+          let room : inLimits (ended (f .reader) front) (length table) (length positions) (length normals) (length indices) (length materials) ≡ true =
           limits-ended (f .reader) front (length table) (length positions) (length normals) (length indices) (length materials)
           ∙ limits-fit (f .reader) table (length positions) (length normals) (length indices) (length materials) (k .fit) in
           ap (λ (t : Reader). answerIn (lent t table positions normals indices materials)) e
-          ∙ answer-same (lent (ended (f .reader) front) table positions normals indices materials) text (state ∙ sym sheet) limits
+          ∙ answer-same limits (lent (ended (f .reader) front) table positions normals indices materials) text (state ∙ sym sheet) room
 
 -- ---- stretch by stretch
 module _ (f : Fed) (line table positions normals indices materials : List ℕ) where
   pub fed-none : Fed-on [] f line table positions normals indices materials f line table positions normals indices materials
-  fed-none = record { goes = λ text v. subst (λ (t : List ℕ). SoFar t f line table positions normals indices materials) (sym (append-nil text)) v }
+  fed-none = record { goes = λ limits text v. subst (λ (t : List ℕ). SoFar limits t f line table positions normals indices materials) (sym (append-nil text)) v }
 
   pub fed-byte : (c : ℕ) (front line' : List ℕ) (n : ℕ) → (c ≡ 10 → ⊥) → front ≡ take (f .length) line → Wrote line (length front) (c ∷ []) line' n
       → Fed-on (c ∷ []) f line table positions normals indices materials (record { reader = f .reader; length = n }) line' table positions normals indices materials
   fed-byte c front line' n q e p =
-      record { goes = λ text v. byte-fed text f line table positions normals indices materials v c line' n (ne-eqb c 10 q) (subst (λ (xs : List ℕ). Wrote line (length xs) (c ∷ []) line' n) e p) }
+      record { goes = λ limits text v. byte-fed limits text f line table positions normals indices materials v c line' n (ne-eqb c 10 q) (subst (λ (xs : List ℕ). Wrote line (length xs) (c ∷ []) line' n) e p) }
 
   pub kept-within : (front : List ℕ) → front ≡ take (f .length) line → length front ≤ length line
   kept-within front e = omega (arith, ap length e, length-take (f .length) line)
@@ -186,9 +193,9 @@ module _ (f : Fed) (line table positions normals indices materials : List ℕ) w
   fed-line c front t table' positions' normals' indices' materials' z q e =
       record {
         goes =
-            λ text v.
-            subst (λ (b : ℕ). SoFar (text ++ b ∷ []) (record { reader = t; length = 0 }) line table' positions' normals' indices' materials') (sym z)
-            (line-fed text f line table positions normals indices materials v front t table' positions' normals' indices' materials' q e);
+            λ limits text v.
+            subst (λ (b : ℕ). SoFar limits (text ++ b ∷ []) (record { reader = t; length = 0 }) line table' positions' normals' indices' materials') (sym z)
+            (line-fed limits text f line table positions normals indices materials v front t table' positions' normals' indices' materials' q e);
       }
 
   module _ (part : List ℕ) (i : ℕ) (g : Fed) (line' table' positions' normals' indices' materials' : List ℕ)
@@ -200,10 +207,10 @@ module _ (f : Fed) (line table positions normals indices materials : List ℕ) w
         let parts : take i part ++ getD part i 0 ∷ [] ≡ take (i + 1) part = sym (ap (λ (n : ℕ). take n part) (add-one i) ∙ take-suc part i 0 l) in
         record {
           goes =
-              λ text v.
-              subst (λ (t : List ℕ). SoFar t h line'' table'' positions'' normals'' indices'' materials'')
+              λ limits text v.
+              subst (λ (t : List ℕ). SoFar limits t h line'' table'' positions'' normals'' indices'' materials'')
               (append-assoc text (take i part) (getD part i 0 ∷ []) ∙ ap (λ (xs : List ℕ). text ++ xs) parts)
-              (x .goes (text ++ take i part) (w .goes text v));
+              (x .goes limits (text ++ take i part) (w .goes limits text v));
         }
 
     pub fed-all : length part ≤ i → Fed-on part f line table positions normals indices materials g line' table' positions' normals' indices' materials'

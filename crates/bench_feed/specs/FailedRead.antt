@@ -8,6 +8,7 @@ use lib.Dec.{eqb}
 use borrow.Author.Tests.{ne-eqb, eqb-false}
 use Rattle.sheet_lines.specs.Forms.{lineOf}
 use Rattle.sheet_lines.specs.Evaluation.{evaluation}
+use Rattle.sheet_line_order.specs.declared.Limits.{Limits}
 use Rattle.sheet_line_order.specs.Laws.{read-line}
 use Rattle.sheet_line_order.specs.Reading.{State, refuse, readLine, finished, cut, readFrom, sheetOf}
 use Rattle.bench_feed.specs.declared.Fed.{Fed}
@@ -47,10 +48,10 @@ stays s (l ∷ m ∷ ls) n =
     stays (readLine s l) (m ∷ ls) (subst Refused (sym r) n)
 
 -- whatever was read and whatever follows
-pub failed-refused : {text line table positions normals indices materials : List ℕ} {f : Fed} (rest : List ℕ) → SoFar text f line table positions normals indices materials
-    → Refused (sheetOf (text ++ (failedRead ++ rest)))
-failed-refused {text = text} rest v =
+pub failed-refused : {limits : Limits} {text line table positions normals indices materials : List ℕ} {f : Fed} (rest : List ℕ) → SoFar limits text f line table positions normals indices materials
+    → Refused (sheetOf limits (text ++ (failedRead ++ rest)))
+failed-refused {limits = limits} {text = text} rest v =
     let s = readLine (v .state) (v .tail) in
-    let r : sheetOf (text ++ (failedRead ++ rest)) ≡ readFrom (readLine s []) (cut rest) =
+    let r : sheetOf limits (text ++ (failedRead ++ rest)) ≡ readFrom (readLine s []) (cut rest) =
     v .means (failedRead ++ rest) ∙ read-line (v .state) (v .tail) (10 ∷ rest) (v .plain) ∙ read-line s [] rest tt in
     subst Refused (sym r) (stays (readLine s []) (cut rest) (empty-line s))

@@ -4,23 +4,25 @@ use mathlib.Core.Path.{_≡_}
 use Prim.Native.Nat.{ℕ, _≤_}
 use lib.Dec.{T}
 use lib.ListN.{length, take}
+use Rattle.sheet_line_order.specs.declared.Limits.{Limits}
 use Rattle.sheet_line_order.specs.Laws.{noLF}
 use Rattle.sheet_line_order.specs.Reading.{State, cut, readFrom, sheetOf}
 use Rattle.sheet_reader_state.specs.declared.Reader.{Reader}
 use Rattle.sheet_reader_state.specs.Kept.{Kept}
 use Rattle.sheet_reader_state.specs.Slices.{lent}
-use Rattle.sheet_meaning.specs.Bench.{bench}
+use Rattle.sheet_meaning.specs.Bench.{program}
 use Rattle.sheet_meaning.specs.Answered.{answerIn}
 use Rattle.bench_feed.specs.declared.Fed.{Fed}
 use Rattle.bench_call_texts.specs.Told.{Told}
 
 -- A text was fed: the lines before its last LF were read, giving the state, and what stands after that LF, the tail, is in the buffer, as far as it has room. However the text goes on, the
 -- sheet is what the state and the tail then give.
-pub record SoFar (text : List ℕ) (f : Fed) (line table positions normals indices materials : List ℕ) : Type 0 where
+pub record SoFar (limits : Limits) (text : List ℕ) (f : Fed) (line table positions normals indices materials : List ℕ) : Type 0 where
   pub state : State
+  pub within : state .limits ≡ limits
   pub tail : List ℕ
   pub plain : T (noLF tail)
-  pub means : (rest : List ℕ) → sheetOf (text ++ rest) ≡ readFrom state (cut (tail ++ rest))
+  pub means : (rest : List ℕ) → sheetOf limits (text ++ rest) ≡ readFrom state (cut (tail ++ rest))
   pub kept : Kept (lent (f .reader) table positions normals indices materials) state
   pub room : 108 ≤ length line
   pub buffer : take (f .length) line ≡ take (length line) tail
@@ -28,7 +30,7 @@ pub record SoFar (text : List ℕ) (f : Fed) (line table positions normals indic
 
 -- a stretch of the text was fed behind what was
 pub record Fed-on (part : List ℕ) (f : Fed) (line table positions normals indices materials : List ℕ) (g : Fed) (line' table' positions' normals' indices' materials' : List ℕ) : Type 0 where
-  pub goes : (text : List ℕ) → SoFar text f line table positions normals indices materials → SoFar (text ++ part) g line' table' positions' normals' indices' materials'
+  pub goes : (limits : Limits) (text : List ℕ) → SoFar limits text f line table positions normals indices materials → SoFar limits (text ++ part) g line' table' positions' normals' indices' materials'
 
 -- some stretch of the text was fed behind what was
 pub record Fed-some (f : Fed) (line table positions normals indices materials : List ℕ) (g : Fed) (line' table' positions' normals' indices' materials' : List ℕ) : Type 0 where
@@ -39,12 +41,13 @@ pub record Fed-some (f : Fed) (line table positions normals indices materials : 
 abbrev pub failedRead : List ℕ
 failedRead = 10 ∷ 10 ∷ []
 
--- the text has ended: what is printed of the reader and its slices is what the program is to print of the text
+-- the text has ended: what is printed of the reader and its slices is what the program of these limits is to print of the text
 pub record Ended (f : Fed) (line : List ℕ) (r : Reader) : Type 0 where
-  pub goes : (text table positions normals indices materials : List ℕ) → SoFar text f line table positions normals indices materials
-      → answerIn (lent r table positions normals indices materials) ≡ bench text
+  pub within : r .limits ≡ f .reader .limits
+  pub goes : (limits : Limits) (text table positions normals indices materials : List ℕ) → SoFar limits text f line table positions normals indices materials
+      → answerIn (lent r table positions normals indices materials) ≡ program limits text
 
--- what the program is to print of some text was written; which one, no contract of C's read could say
-pub record Answered (E W : List ℕ) (r : ℕ) : Type 0 where
+-- what the program of these limits is to print of some text was written; which one, no contract of C's read could say
+pub record Answered (limits : Limits) (E W : List ℕ) (r : ℕ) : Type 0 where
   pub text : List ℕ
-  pub told : Told E (bench text) W r
+  pub told : Told E (program limits text) W r

@@ -2,7 +2,7 @@
 use mathlib.Core.Bool.{Bool, true, false, not}
 use mathlib.Core.List.{List, [], _∷_, _++_, map}
 use mathlib.Core.Path.{_≡_, sym, _∙_, ap, subst}
-use Prim.Native.Nat.{ℕ, _*_, _≤_, _<_}
+use Prim.Native.Nat.{ℕ, _+_, _*_, _≤_, _<_}
 use native.Mathlib.Omega.{arith}
 use borrow.Author.Tests.{eq-eqb, ne-eqb, not-true, not-false}
 use lib.Ieee.{Float}
@@ -11,6 +11,8 @@ use lib.Seq.{length-take-le, take-all, take-at}
 use Rattle.sheet_answer_text.specs.Answer.{Written, refusalLine}
 use Rattle.float_steps.specs.Floats.{f32, f64}
 use Rattle.patch_geometry.specs.declared.Aabb.{Aabb}
+use Rattle.sheet_line_order.specs.declared.Limits.{Limits}
+use Rattle.sheet_line_order.specs.Limits.{benchLimits}
 use Rattle.bench_definition.specs.Finish.{finish}
 use Rattle.sheet_reader_state.specs.declared.Reader.{Reader}
 use Rattle.sheet_reader_state.specs.Limits.{Limited, limited}
@@ -31,6 +33,9 @@ module _ {A : Type 0} (ys E : List A) (m n : ℕ) (e : length ys ≡ n) (h : n �
       ∙ ap (λ (xs : List A). take n (xs ++ drop m E)) (take-all (length E) ys (omega arith))
       ∙ take-at ys (drop m E) n e
 
+pub whole-materials : (s : List ℕ) (face : ℕ) → length s ≤ face → s ≡ take (face + 1) s
+whole-materials s face h = sym (take-all (face + 1) s (omega arith))
+
 -- ---- the fronts of slices
 module _ (T : List ℕ) (P N : List Float) (I : List ℕ) (n m : ℕ) (sag : Float) (box : Aabb) (M : List ℕ) (d : ℕ) (E W : List ℕ) (r : ℕ) where
   pub few-normals : length N < n → FrontsSaid T P N I n m sag box M d E W r
@@ -43,34 +48,42 @@ module _ (T : List ℕ) (P N : List Float) (I : List ℕ) (n m : ℕ) (sag : Flo
   fronts-said A e v = record { says = λ a b. subst (λ (B : List Float). Told E (finishedText T B (take n N) (take m I) sag box M d) W r) e v }
 
 -- ---- the body
-module _ (s : Reader) (T P N I M : List ℕ) (v : Limited s (length T) (length P) (length N) (length I) (length M)) where
+module _ (s : Reader) (T P N I M : List ℕ) (l : s .limits ≡ benchLimits) (v : Limited s (length T) (length P) (length N) (length I) (length M)) where
   abbrev n : ℕ
   n = 3 * s .vertices
 
+  few-vertices : s .vertices ≤ 96
+  unfolding benchLimits
+  few-vertices = omega (arith, v .vertices, ap (λ (x : Limits). x .vertices) l)
+
+  few-counted : s .indices ≤ 96
+  unfolding benchLimits
+  few-counted = omega (arith, v .counted, ap (λ (x : Limits). x .indices) l)
+
   -- the floats of a slice's front fill an array's front
-  floats-front : (X fX : List ℕ) (E F : List Float) → 288 ≤ length X → length E ≡ 288 → fX ≡ take n X → F ≡ take (length E) (map f32 fX) ++ drop (length fX) E → take n F ≡ map f32 (take n X)
+  floats-front : (X fX : List ℕ) (E F : List Float) → n ≤ length X → length E ≡ 288 → fX ≡ take n X → F ≡ take (length E) (map f32 fX) ++ drop (length fX) E → take n F ≡ map f32 (take n X)
   floats-front X fX E F long room q f =
-      let few : n ≤ 288 = omega (arith, v .vertices) in
+      let few : n ≤ 288 = omega (arith, few-vertices) in
       let count : length (map f32 fX) ≡ n = length-map fX f32 ∙ ap length q ∙ length-take-le n X (omega arith) in
       filled-front (map f32 fX) E (length fX) n count (omega arith) F f ∙ ap (map f32) q
 
   pub body-told : (FT FP FN FI FM : List ℕ) (EP EN BP BN : List Float) (EI BI : List ℕ) (sag : Float) (box : Aabb) (E W : List ℕ) (r : ℕ)
-      → FP ≡ take n P → FN ≡ take n N → FI ≡ take (s .indices) I → FT ≡ take (5 * s .rows) T → FM ≡ take 64 M
+      → FP ≡ take n P → FN ≡ take n N → FI ≡ take (s .indices) I → FT ≡ take (5 * s .rows) T → FM ≡ take (s .limits .face + 1) M
       → BP ≡ take (length EP) (map f32 FP) ++ drop (length FP) EP → BN ≡ take (length EN) (map f32 FN) ++ drop (length FN) EN → BI ≡ take (length EI) FI ++ drop (length FI) EI
       → sag ≡ f64 (s .sag) → box ≡ boxOf (s .minx ∷ s .miny ∷ s .minz ∷ s .maxx ∷ s .maxy ∷ s .maxz ∷ [])
       → FrontsSaid FT BP BN BI n (s .indices) sag box FM (s .default) E W r
-      → length EP ≡ 288 → length EN ≡ 288 → length EI ≡ 96 → Told E (printed (finish (meant (patternsOf (lent s T P N I M))))) W r
+      → length EP ≡ 288 → length EN ≡ 288 → length EI ≡ 96 → Told E (printed (finish (s .limits) (meant (patternsOf (lent s T P N I M))))) W r
   unfolding meant
   body-told FT FP FN FI FM EP EN BP BN EI BI sag box E W r fp fn fi ft fm bp bn bi es eb said lp ln li =
-      let few : n ≤ 288 = omega (arith, v .vertices) in
-      let indices : length FI ≡ s .indices = ap length fi ∙ length-take-le (s .indices) I (omega (arith, v .indices, v .counted)) in
-      let ps : take n BP ≡ map f32 (take n P) = floats-front P FP EP BP (v .positions) lp fp bp in
-      let ns : take n BN ≡ map f32 (take n N) = floats-front N FN EN BN (v .normals) ln fn bn in
-      let is : take (s .indices) BI ≡ take (s .indices) I = filled-front FI EI (length FI) (s .indices) indices (omega (arith, v .counted)) BI bi ∙ fi in
-      let long-normals : n ≤ length BN = omega (arith, ap length ns, length-map (take n N) f32, length-take-le n N (omega (arith, v .normals)), length-take n BN) in
-      let long-indices : s .indices ≤ length BI = omega (arith, ap length is, length-take-le (s .indices) I (omega (arith, v .indices, v .counted)), length-take (s .indices) BI) in
-      let same : finishedText FT (take n BP) (take n BN) (take (s .indices) BI) sag box FM (s .default) ≡ printed (finish (meant (patternsOf (lent s T P N I M)))) =
-      (λ j. finishedText (ft j) (ps j) (ns j) (is j) (es j) (eb j) (fm j) (s .default)) ∙ sym (printed-finish (meant (patternsOf (lent s T P N I M)))) in
+      let few : n ≤ 288 = omega (arith, few-vertices) in
+      let indices : length FI ≡ s .indices = ap length fi ∙ length-take-le (s .indices) I (omega (arith, v .room .indices, v .counted)) in
+      let ps : take n BP ≡ map f32 (take n P) = floats-front P FP EP BP (omega (arith, v .vertices, v .room .positions)) lp fp bp in
+      let ns : take n BN ≡ map f32 (take n N) = floats-front N FN EN BN (omega (arith, v .vertices, v .room .normals)) ln fn bn in
+      let is : take (s .indices) BI ≡ take (s .indices) I = filled-front FI EI (length FI) (s .indices) indices (omega (arith, few-counted)) BI bi ∙ fi in
+      let long-normals : n ≤ length BN = omega (arith, ap length ns, length-map (take n N) f32, length-take-le n N (omega (arith, v .vertices, v .room .normals)), length-take n BN) in
+      let long-indices : s .indices ≤ length BI = omega (arith, ap length is, length-take-le (s .indices) I (omega (arith, v .room .indices, v .counted)), length-take (s .indices) BI) in
+      let same : finishedText FT (take n BP) (take n BN) (take (s .indices) BI) sag box FM (s .default) ≡ printed (finish (s .limits) (meant (patternsOf (lent s T P N I M)))) =
+      (λ j. finishedText (ft j) (ps j) (ns j) (is j) (es j) (eb j) (fm j) (s .default)) ∙ sym (printed-finish (meant (patternsOf (lent s T P N I M)))) ∙ ap (λ (x : Limits). printed (finish x (meant (patternsOf (lent s T P N I M))))) (sym l) in
       subst (λ (x : List ℕ). Told E x W r) same (said .says long-normals long-indices)
 
 -- ---- the sheet
@@ -87,6 +100,6 @@ module _ (s : Reader) (T P N I M E W : List ℕ) (r : ℕ) where
     unfolding answerIn
     sheet-large h v = subst (λ (x : List ℕ). Told E x W r) (sym (rw (eq-eqb (s .refusal) 0 z, sym e ∙ not-true b h, answerIn))) (told-refusal E 52 W r v)
 
-    pub sheet-told : not b ≡ false → Told E (printed (finish (meant (patternsOf (lent s T P N I M))))) W r → Told E (answerIn (lent s T P N I M)) W r
+    pub sheet-told : not b ≡ false → Told E (printed (finish (s .limits) (meant (patternsOf (lent s T P N I M))))) W r → Told E (answerIn (lent s T P N I M)) W r
     unfolding answerIn
     sheet-told h v = subst (λ (x : List ℕ). Told E x W r) (sym (rw (eq-eqb (s .refusal) 0 z, sym e ∙ not-false b h, answerIn))) v

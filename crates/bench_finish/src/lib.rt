@@ -13,8 +13,11 @@ use slice_front::copy;
 use slice_front::front;
 use slice_front::front_floats;
 use slice_front::front_long;
-ghost use lib.ListN.{length};
+ghost use mathlib.Core.Path.{_≡_};
+ghost use Prim.Native.Nat.{_+_};
+ghost use lib.ListN.{length, take};
 ghost use Rattle.bench_definition.specs.Finish.{finish};
+ghost use Rattle.sheet_line_order.specs.Limits.{benchLimits};
 ghost use Rattle.sheet_reader_state.specs.Limits.{Limited};
 ghost use Rattle.sheet_reader_state.specs.Slices.{lent, patternsOf};
 ghost use Rattle.sheet_meaning.specs.Bench.{printed};
@@ -59,6 +62,17 @@ fn finish_fronts(
     )
 }
 
+// The materials of the faces that are numbered to `face`.
+fn materials_to(s: &[u64], face: u64) -> &[u64]
+    ensures { λ r. ⌜ now r ≡ take (face + 1) (now (s .entry)) ⌝ }
+{
+    let n = face as usize;
+    if s.len() <= n {
+        return s;
+    }
+    front_long(s, n + 1)
+}
+
 // The floats made, the indices copied, and the body finished.
 fn answer_body(
     s: Reader,
@@ -69,8 +83,9 @@ fn answer_body(
     materials: &[u64],
     out: &mut [u8],
 ) -> usize
+    requires { ⌜ s .limits ≡ benchLimits ⌝ }
     requires { ⌜ Limited s (length (now table)) (length (now positions)) (length (now normals)) (length (now indices)) (length (now materials)) ⌝ }
-    ensures { λ r. ⌜ Told (now (out .entry)) (printed (finish
+    ensures { λ r. ⌜ Told (now (out .entry)) (printed (finish (s .limits)
         (meant (patternsOf (lent s (now (table .entry)) (now (positions .entry)) (now (normals .entry)) (now (indices .entry)) (now (materials .entry)))))))
         (now (out .exit)) r ⌝ }
 {
@@ -92,7 +107,7 @@ fn answer_body(
         m,
         sag_of(s),
         box_of(s),
-        front_long(materials, 64),
+        materials_to(materials, s.limits.face),
         s.default,
         out,
     )
@@ -109,6 +124,7 @@ pub fn answer_sheet(
     materials: &[u64],
     out: &mut [u8],
 ) -> usize
+    requires { ⌜ s .limits ≡ benchLimits ⌝ }
     ensures { λ r. ⌜ Told (now (out .entry)) (answerIn (lent s (now (table .entry)) (now (positions .entry)) (now (normals .entry)) (now (indices .entry))
         (now (materials .entry)))) (now (out .exit)) r ⌝ }
 {

@@ -17,7 +17,8 @@ use Rattle.stitch_definition.specs.declared.Stitched.the-variants as StitchCase
 use Rattle.stitch_definition.specs.Slices.{AfterStitch, StitchSlices}
 use Rattle.stitch_definition.specs.Stitch.{stitchOf}
 use Rattle.stitch_definition.specs.Answers.{LeftStitch, leftStitch, slicesOf, stitchAnswered}
-use Rattle.bench_definition.specs.Finish.{benchRoom, area, stitchSlices}
+use Rattle.sheet_line_order.specs.Limits.{benchLimits}
+use Rattle.bench_definition.specs.Finish.{area, stitchSlices}
 use Rattle.bench_call_texts.specs.Cases.{Cases, told-done, told-refused}
 use Rattle.bench_call_texts.specs.Zeros.{zero-same}
 use Rattle.bench_call_texts.specs.Told.{Told}
@@ -56,11 +57,11 @@ module _ (T : List ℕ) (box : Aabb) (M : List ℕ) (d : ℕ) (t : TurnCounts) (
 abbrev stitchZeros : Float → StitchSlices
 stitchZeros z = slicesOf (replicate 80 0) (replicate 576 z) (replicate 576 z) (replicate 192 0) (replicate 4096 0)
 
-room-zeros : stitchZeros zero64 ≡ stitchSlices benchRoom
-unfolding stitchSlices benchRoom area
+room-zeros : stitchZeros zero64 ≡ stitchSlices benchLimits
+unfolding stitchSlices benchLimits area
 room-zeros = refl
 
-stitch-zeros : stitchZeros (f32 0) ≡ stitchSlices benchRoom
+stitch-zeros : stitchZeros (f32 0) ≡ stitchSlices benchLimits
 stitch-zeros = ap stitchZeros zero-same ∙ room-zeros
 
 pub stitched-text : (T : List ℕ) (Q U : List Float) (J : List ℕ) (sag : Float) (box : Aabb) (M : List ℕ) (d : ℕ) (t : TurnCounts) (g : Stitched) (R : List ℕ) (P N : List Float) (I w E W : List ℕ)
@@ -69,4 +70,4 @@ pub stitched-text : (T : List ℕ) (Q U : List Float) (J : List ℕ) (sag : Floa
     → Told E (stitchedText T Q U J sag box M d t) W r
 unfolding stitchedText
 stitched-text T Q U J sag box M d t g R P N I w E W r m e =
-    m .says (stitchOf key T Q U J sag (stitchSlices benchRoom)) w (e ∙ ap (λ (z : StitchSlices). stitchAnswered (stitchOf key T Q U J sag z)) stitch-zeros)
+    m .says (stitchOf key T Q U J sag (stitchSlices benchLimits)) w (e ∙ ap (λ (z : StitchSlices). stitchAnswered (stitchOf key T Q U J sag z)) stitch-zeros)

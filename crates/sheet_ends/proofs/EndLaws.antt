@@ -1,37 +1,46 @@
 -- The laws of the beginning and of the end. Assumes nothing.
 use mathlib.Core.List.{List, _∷_, _++_}
 use mathlib.Core.Path.{_≡_, refl, sym, _∙_, ap}
-use Prim.Native.Nat.{ℕ, zero, suc, _≤_, _<_}
+use Prim.Native.Nat.{ℕ, zero, suc, _+_, _≤_, _<_}
 use native.Mathlib.Omega.{arith}
 use borrow.Author.Tests.{eq-eqb, ne-eqb, le-leb, lt-leb}
-use lib.ListN.{length, take, drop, replicate, drop-of-length-le}
+use lib.ListN.{length, take, drop, replicate, drop-of-length-le, length-replicate}
 use lib.Seq.{take-all}
+use Rattle.sheet_line_order.specs.declared.Limits.{Limits}
 use Rattle.sheet_reader_state.specs.declared.Reader.{Reader}
 use Rattle.sheet_line_order.specs.Reading.{start}
 use Rattle.sheet_reader_state.specs.Slices.{Begun, ended, readerOf, refused}
 
 -- ---- the beginning
-pub fresh-is : record { refusal = 0; place = 0; rows = 0; vertices = 0; indices = 0; default = 0; sag = 0; minx = 0; miny = 0; minz = 0; maxx = 0; maxy = 0; maxz = 0 } ≡ readerOf start
+pub fresh-is : (limits : Limits)
+    → record { limits = limits; refusal = 0; place = 0; rows = 0; vertices = 0; indices = 0; default = 0; sag = 0; minx = 0; miny = 0; minz = 0; maxx = 0; maxy = 0; maxz = 0 } ≡ readerOf (start limits)
 unfolding start
-fresh-is = refl
+fresh-is limits = refl
 
 front : (m n : ℕ) → m ≤ n → replicate {A = ℕ} m 0 ≡ take m (replicate n 0)
 front zero n l = refl
 front (suc m) zero l = absurd (omega arith)
 front (suc m) (suc n) l = ap (λ (xs : List ℕ). 0 ∷ xs) (front m n (omega arith))
 
-pub begun-short : (M W : List ℕ) (r : Reader) → length M < 64 → W ≡ replicate (length M) 0 ++ drop (length M) M → r ≡ readerOf start → Begun M r W
-begun-short M W r h e q =
-    let past : length M ≤ 64 = omega arith in
-    let whole : length M ≤ length M = omega arith in
-    record {
-      reader = q;
-      materials = e ∙ ap (λ (xs : List ℕ). xs ++ drop (length M) M) (front (length M) 64 past)
-          ∙ ap (λ (xs : List ℕ). take (length M) (replicate 64 0) ++ xs) (drop-of-length-le M whole ∙ sym (drop-of-length-le M past));
-    }
+module _ (limits : Limits) (M W : List ℕ) (r : Reader) where
+  -- how many face numbers there are
+  abbrev faces : ℕ
+  faces = limits .face + 1
 
-pub begun-long : (M W : List ℕ) (r : Reader) → 64 ≤ length M → W ≡ replicate 64 0 ++ drop 64 M → r ≡ readerOf start → Begun M r W
-begun-long M W r h e q = record { reader = q; materials = e ∙ ap (λ (xs : List ℕ). xs ++ drop 64 M) (sym (take-all (length M) (replicate 64 0) h)) }
+  pub begun-short : length M ≤ limits .face → W ≡ replicate (length M) 0 ++ drop (length M) M → r ≡ readerOf (start limits) → Begun limits M r W
+  begun-short h e q =
+      let past : length M ≤ faces = omega arith in
+      let whole : length M ≤ length M = omega arith in
+      record {
+        reader = q;
+        materials = e ∙ ap (λ (xs : List ℕ). xs ++ drop (length M) M) (front (length M) faces past)
+            ∙ ap (λ (xs : List ℕ). take (length M) (replicate faces 0) ++ xs) (drop-of-length-le M whole ∙ sym (drop-of-length-le M past));
+      }
+
+  pub begun-long : limits .face < length M → W ≡ replicate (limits .face + 1) 0 ++ drop (limits .face + 1) M → r ≡ readerOf (start limits) → Begun limits M r W
+  begun-long h e q =
+      let few : length (replicate {A = ℕ} faces 0) ≤ length M = omega (arith, length-replicate {A = ℕ} faces 0) in
+      record { reader = q; materials = e ∙ ap (λ (xs : List ℕ). xs ++ drop faces M) (sym (take-all (length M) (replicate faces 0) few)) }
 
 -- ---- the end
 module _ (s : Reader) (rest : List ℕ) where

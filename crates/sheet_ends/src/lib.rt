@@ -1,5 +1,6 @@
 // The reader before the first line of a sheet, with a refusal, and at the end.
 
+use sheet_line_order::Limits;
 use sheet_reader_state::Reader;
 use slice_fill::clear;
 ghost use mathlib.Core.Path.{_≡_};
@@ -7,10 +8,11 @@ ghost use Rattle.sheet_line_order.specs.Reading.{start};
 ghost use Rattle.sheet_reader_state.specs.Slices.{Begun, ended, readerOf, refused};
 
 // The reader before the first line.
-fn fresh() -> Reader
-    ensures { λ r. ⌜ r ≡ readerOf start ⌝ }
+fn fresh(limits: Limits) -> Reader
+    ensures { λ r. ⌜ r ≡ readerOf (start limits) ⌝ }
 {
     Reader {
+        limits: limits,
         refusal: 0,
         place: 0,
         rows: 0,
@@ -28,15 +30,16 @@ fn fresh() -> Reader
 }
 
 // The reader before the first line; no face has a material yet.
-pub fn begin(materials: &mut [u64]) -> Reader
-    ensures { λ r. ⌜ Begun (now (materials .entry)) r (now (materials .exit)) ⌝ }
+pub fn begin(limits: Limits, materials: &mut [u64]) -> Reader
+    ensures { λ r. ⌜ Begun limits (now (materials .entry)) r (now (materials .exit)) ⌝ }
 {
-    if materials.len() < 64 {
+    let face = limits.face as usize;
+    if materials.len() <= face {
         clear(materials, materials.len());
-        return fresh();
+        return fresh(limits);
     }
-    clear(materials, 64);
-    fresh()
+    clear(materials, face + 1);
+    fresh(limits)
 }
 
 // The reader with a refusal.

@@ -93,7 +93,7 @@ module _ (s : Reader) (T P N I M : List ℕ) where
     material-six a b c d e f rest W v q =
         let h = held-of s T P N I M (v .fitting .roomy .held) in
         let ok : Passed (lineFrom Material (a ∷ b ∷ c ∷ d ∷ e ∷ f ∷ rest)) (stateOf here) = passed _ _ (v .taken) in
-        let low-face : a ≤ 63 = ltb-false 63 a (ok .limit) in
+        let low-face : a ≤ s .limits .face = ltb-false (s .limits .face) a (ok .limit) in
         let first : leb 3 (s .place) ≡ true = and-left (leb 3 (s .place)) (leb (s .place) 3) (ok .order) in
         let last : leb (s .place) 3 ≡ true = and-right (leb 3 (s .place)) (leb (s .place) 3) (ok .order) in
         let place : s .place ≡ 3 = omega (arith, leb-true 3 (s .place) first, leb-true (s .place) 3 last) in
@@ -105,19 +105,20 @@ module _ (s : Reader) (T P N I M : List ℕ) where
         (kept (3 * s .vertices) P)
         (kept (3 * s .vertices) N)
         (kept (s .indices) I)
-        (q ∙ ap (λ (n : ℕ). set M a (n + 1)) (low b small) ∙ changed 64 M a (b + 1) (omega arith) (h .limits .materials))
+        (q ∙ ap (λ (n : ℕ). set M a (n + 1)) (low b small) ∙ changed (s .limits .face + 1) M a (b + 1) (omega arith) (omega (arith, h .limits .room .materials)))
 
     -- ---- a row
-    row-more : (place x y z : ℕ) (W : List ℕ) → Held s T P N I M → s .rows < 16 → s .refusal ≡ 0 → r ≡ moved s place (s .rows + 1) (s .vertices) (s .indices) (s .default) (s .sag)
+    row-more : (place x y z : ℕ) (W : List ℕ) → Held s T P N I M → s .refusal ≡ 0 → r ≡ moved s place (s .rows + 1) (s .vertices) (s .indices) (s .default) (s .sag)
         → W ≡ placed T (5 * s .rows) (x ∷ y ∷ z ∷ 0 ∷ 0 ∷ [])
         → lent r W P N I M ≡ over here (record {
+          limits = s .limits;
           refusal = 0;
           place = place;
           sheet = record {
             box = patternsOf here .box;
             sag = s .sag;
             default = s .default;
-            materials = take 64 M;
+            materials = take (s .limits .face + 1) M;
             table = take (5 * s .rows) T ++ x ∷ y ∷ z ∷ 0 ∷ 0
                 ∷ [];
             positions = take (3 * s .vertices) P;
@@ -125,7 +126,7 @@ module _ (s : Reader) (T P N I M : List ℕ) where
             indices = take (s .indices) I;
           };
         })
-    row-more place x y z W h l clean q e =
+    row-more place x y z W h clean q e =
         let long : length (take (5 * s .rows) T ++ x ∷ y ∷ z ∷ 0 ∷ 0 ∷ []) ≡ length (take (5 * s .rows) T) + 5 = length-append (take (5 * s .rows) T) (x ∷ y ∷ z ∷ 0 ∷ 0 ∷ []) in
         let rows : s .rows + 1 ≡ length (take (5 * s .rows) T ++ x ∷ y ∷ z ∷ 0 ∷ 0 ∷ []) / 5 = omega (arith, counts-of s T P N I M h .table) in
         same-lent
@@ -135,17 +136,18 @@ module _ (s : Reader) (T P N I M : List ℕ) where
         (kept (3 * s .vertices) P)
         (kept (3 * s .vertices) N)
         (kept (s .indices) I)
-        (kept 64 M)
+        (kept (s .limits .face + 1) M)
 
-  few-rows : (x : Bool) → Held s T P N I M → x || leb 80 (length (take (5 * s .rows) T)) ≡ false → s .rows < 16
-  few-rows x h e = omega (arith, leb-false 80 (length (take (5 * s .rows) T)) (or-right x (leb 80 (length (take (5 * s .rows) T))) e), counts-of s T P N I M h .table)
+  few-rows : (x : Bool) → Held s T P N I M → x || leb (5 * s .limits .rows) (length (take (5 * s .rows) T)) ≡ false → s .rows < s .limits .rows
+  few-rows x h e = omega (arith, leb-false (5 * s .limits .rows) (length (take (5 * s .rows) T)) (or-right x (leb (5 * s .limits .rows) (length (take (5 * s .rows) T))) e), counts-of s T P N I M h .table)
 
   -- a line that opens a row has room for it
-  row-room : (k : Kind) → ((ms : List ℕ) (x : Patterns) → passesLimit k ms x ≡ ltb 63 (at ms 1) || leb 80 (length (x .table))) → (ns : List ℕ) → Ready here k ns → RowRoom s T
+  row-room : (k : Kind) → ((ms : List ℕ) (x : Patterns) → passesLimit (s .limits) k ms x ≡ ltb (s .limits .face) (at ms 1) || leb (5 * s .limits .rows) (length (x .table))) → (ns : List ℕ) → Ready here k ns → RowRoom s T
   row-room k is ns v =
       let h = held-of s T P N I M (v .fitting .roomy .held) in
       let ok : Passed (lineFrom k ns) (stateOf here) = passed _ _ (v .taken) in
-      record { rows = few-rows (ltb 63 (at (lineFrom k ns .numbers) 1)) h (sym (is (lineFrom k ns .numbers) (patternsOf here)) ∙ ok .limit); table = h .limits .table }
+      let few : s .rows < s .limits .rows = few-rows (ltb (s .limits .face) (at (lineFrom k ns .numbers) 1)) h (sym (is (lineFrom k ns .numbers) (patternsOf here)) ∙ ok .limit) in
+      record { rows = omega (arith, h .limits .few .rows); table = omega (arith, h .limits .room .table) }
 
   face-six : (r : Reader) (a b c d e f : ℕ) (rest W : List ℕ) → Ready here Face (a ∷ b ∷ c ∷ d ∷ e ∷ f ∷ rest) → RowAdded s T a b 0 4 r W
       → lent r W P N I M ≡ takenUp here Face (a ∷ b ∷ c ∷ d ∷ e ∷ f ∷ rest)
@@ -154,7 +156,7 @@ module _ (s : Reader) (T P N I M : List ℕ) where
       let h = held-of s T P N I M (v .fitting .roomy .held) in
       let t0 : Dec.T (ltb a (2 ^ 32)) = and-l (ltb a (2 ^ 32)) (ltb b (2 ^ 32) && true) (v .fitting .small) in
       let t1 : Dec.T (ltb b (2 ^ 32)) = and-l (ltb b (2 ^ 32)) true (and-r (ltb a (2 ^ 32)) (ltb b (2 ^ 32) && true) (v .fitting .small)) in
-      row-more r 4 a b 0 W h (row-room Face (λ ms x. refl) (a ∷ b ∷ c ∷ d ∷ e ∷ f ∷ rest) v .rows) (v .fitting .roomy .clean) (q .reader)
+      row-more r 4 a b 0 W h (v .fitting .roomy .clean) (q .reader)
       (three-same T (5 * s .rows) (0 ∷ 0 ∷ []) (low a t0) (low b t1) refl (q .table))
 
   fail-six : (r : Reader) (a b c d e f : ℕ) (rest W : List ℕ) → Ready here Fail (a ∷ b ∷ c ∷ d ∷ e ∷ f ∷ rest) → RowAdded s T a b c 6 r W
@@ -166,7 +168,7 @@ module _ (s : Reader) (T P N I M : List ℕ) where
       let w1 : Dec.T (ltb b (2 ^ 32) && (ltb c (2 ^ 32) && true)) = and-r (ltb a (2 ^ 32)) (ltb b (2 ^ 32) && (ltb c (2 ^ 32) && true)) (v .fitting .small) in
       let t1 : Dec.T (ltb b (2 ^ 32)) = and-l (ltb b (2 ^ 32)) (ltb c (2 ^ 32) && true) w1 in
       let t2 : Dec.T (ltb c (2 ^ 32)) = and-l (ltb c (2 ^ 32)) true (and-r (ltb b (2 ^ 32)) (ltb c (2 ^ 32) && true) w1) in
-      row-more r 6 a b c W h (row-room Fail (λ ms x. refl) (a ∷ b ∷ c ∷ d ∷ e ∷ f ∷ rest) v .rows) (v .fitting .roomy .clean) (q .reader)
+      row-more r 6 a b c W h (v .fitting .roomy .clean) (q .reader)
       (three-same T (5 * s .rows) (0 ∷ 0 ∷ []) (low a t0) (low b t1) (low c t2) (q .table))
 
   material-below : (a b c d e f : ℕ) (rest : List ℕ) → Ready here Material (a ∷ b ∷ c ∷ d ∷ e ∷ f ∷ rest) → a < length M
@@ -174,7 +176,7 @@ module _ (s : Reader) (T P N I M : List ℕ) where
   material-below a b c d e f rest v =
       let h = held-of s T P N I M (v .fitting .roomy .held) in
       let ok : Passed (lineFrom Material (a ∷ b ∷ c ∷ d ∷ e ∷ f ∷ rest)) (stateOf here) = passed _ _ (v .taken) in
-      omega (arith, ltb-false 63 a (ok .limit), h .limits .materials)
+      omega (arith, ltb-false (s .limits .face) a (ok .limit), h .limits .room .materials)
 
   -- ---- the last row's counts
   module _ (back n : ℕ) (h : Held s T P N I M) (some-back : 0 < back) (few : back ≤ 5 * s .rows) where
@@ -199,14 +201,15 @@ module _ (s : Reader) (T P N I M : List ℕ) where
       let ok : Passed (lineFrom Vertex (a ∷ b ∷ c ∷ d ∷ e ∷ f ∷ rest)) (stateOf here) = passed _ _ (v .taken) in
       let first : leb 4 (s .place) ≡ true = and-left (leb 4 (s .place)) (leb (s .place) 4) (ok .order) in
       let row : 0 < s .rows = some-row s T P N I M h (omega (arith, leb-true 4 (s .place) first)) in
+      let few : s .vertices < s .limits .vertices = omega (arith, leb-false (3 * s .limits .vertices) (length (take (3 * s .vertices) P)) (ok .limit), counts-of s T P N I M h .positions) in
       record {
         some-row = row;
-        rows = h .limits .rows;
-        vertices = omega (arith, leb-false 288 (length (take (3 * s .vertices) P)) (ok .limit), counts-of s T P N I M h .positions);
-        table = h .limits .table;
-        positions = h .limits .positions;
-        normals = h .limits .normals;
-        count = last-vertex s T P N I M h row;
+        rows = omega (arith, h .limits .rows, h .limits .few .rows);
+        vertices = omega (arith, h .limits .few .vertices);
+        table = rows-fit s T P N I M h;
+        positions = omega (arith, h .limits .room .positions);
+        normals = omega (arith, h .limits .room .normals);
+        count = omega (arith, last-vertex s T P N I M h row, h .limits .few .vertices);
         long = v .fitting .long;
       }
 
@@ -238,7 +241,7 @@ module _ (s : Reader) (T P N I M : List ℕ) where
       (three-same N (3 * s .vertices) [] (low d (and-l (short d) (short e && (short f && true)) w3)) (low e (and-l (short e) (short f && true) w4)) (low f (and-l (short f) true w5)) (q .normals)
       ∙ grown (3 * s .vertices) N (d ∷ e ∷ f ∷ []) (normals-fit s T P N I M h))
       (kept (s .indices) I)
-      (kept 64 M)
+      (kept (s .limits .face + 1) M)
 
   -- ---- a triangle
   triangle-six-room : (a b c d e f : ℕ) (rest : List ℕ) → Ready here Triangle (a ∷ b ∷ c ∷ d ∷ e ∷ f ∷ rest) → TriangleRoom s T I (a ∷ b ∷ c ∷ d ∷ e ∷ f ∷ rest)
@@ -250,10 +253,10 @@ module _ (s : Reader) (T P N I M : List ℕ) where
       let row : 0 < s .rows = some-row s T P N I M h (omega (arith, leb-true 4 (s .place) first)) in
       record {
         some-row = row;
-        rows = h .limits .rows;
-        indices = omega (arith, leb-false 96 (length (take (s .indices) I)) (ok .limit), counts-of s T P N I M h .indices, h .whole, h .limits .indices);
-        table = h .limits .table;
-        count = last-index s T P N I M h row;
+        rows = omega (arith, h .limits .rows, h .limits .few .rows);
+        indices = omega (arith, ltb-false (s .limits .indices) (length (take (s .indices) I) + 3) (ok .limit), counts-of s T P N I M h .indices, h .limits .room .indices);
+        table = rows-fit s T P N I M h;
+        count = omega (arith, last-index s T P N I M h row, h .limits .few .indices);
         long = v .fitting .long;
       }
 
@@ -277,7 +280,7 @@ module _ (s : Reader) (T P N I M : List ℕ) where
       (kept (3 * s .vertices) N)
       (three-same I (s .indices) [] (low a (and-l (ltb a (2 ^ 32)) (ltb b (2 ^ 32) && (ltb c (2 ^ 32) && true)) w0)) (low b (and-l (ltb b (2 ^ 32)) (ltb c (2 ^ 32) && true) w1))
       (low c (and-l (ltb c (2 ^ 32)) true w2)) (q .indices) ∙ grown (s .indices) I (a ∷ b ∷ c ∷ []) (indices-fit s T P N I M h))
-      (kept 64 M)
+      (kept (s .limits .face + 1) M)
 
   -- ---- every kind, whatever numbers follow the line's own
   module _ (k : Kind) (ns : List ℕ) (v : Ready here k ns) where
@@ -309,7 +312,7 @@ module _ (s : Reader) (T P N I M : List ℕ) where
         six (λ xs. Ready here Material xs → W ≡ set M (getD xs 0 0) (getD xs 1 0 % 2 ^ 32 + 1) → lent s T P N I W ≡ takenUp here Material xs) (λ a b c d e f rest. material-six s a b c d e f rest W) ns
         (v .fitting .long) (ready Material e) q ∙ back-to Material e
 
-    pub open-room : (j : Kind) → ((ms : List ℕ) (x : Patterns) → passesLimit j ms x ≡ ltb 63 (at ms 1) || leb 80 (length (x .table))) → k ≡ j → RowRoom s T
+    pub open-room : (j : Kind) → ((ms : List ℕ) (x : Patterns) → passesLimit (s .limits) j ms x ≡ ltb (s .limits .face) (at ms 1) || leb (5 * s .limits .rows) (length (x .table))) → k ≡ j → RowRoom s T
     open-room j is e = row-room j is ns (ready j e)
 
     pub take-face : (r : Reader) (W : List ℕ) → k ≡ Face → RowAdded s T (getD ns 0 0) (getD ns 1 0) 0 4 r W → lent r W P N I M ≡ takenUp here k ns

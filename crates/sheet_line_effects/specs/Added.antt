@@ -5,6 +5,7 @@ use mathlib.Core.Path.{_≡_}
 use Prim.Native.Nat.{ℕ, _+_, _-_, _*_, _%_, _^_, _≤_, _<_}
 use lib.ListN.{length, set}
 use lib.Dec.{T}
+use Rattle.body_refusals.specs.TableChecks.{mostIndices, mostRows, mostVertices}
 use Rattle.sheet_lines.specs.ReadBack.{fits}
 use Rattle.sheet_lines.specs.Forms.{form}
 use Rattle.sheet_lines.specs.declared.Kind.{Kind}
@@ -32,8 +33,8 @@ pub record Ready (l : Lent) (k : Kind) (N : List ℕ) : Type 0 where
 
 -- room for a row more
 pub record RowRoom (r : Reader) (T : List ℕ) : Type 0 where
-  pub rows : r .rows < 16
-  pub table : 80 ≤ length T
+  pub rows : r .rows < mostRows
+  pub table : 5 * r .rows + 5 ≤ length T
 
 -- a row was added
 pub record RowAdded (r : Reader) (T : List ℕ) (shell face outcome place : ℕ) (s : Reader) (W : List ℕ) : Type 0 where
@@ -43,12 +44,12 @@ pub record RowAdded (r : Reader) (T : List ℕ) (shell face outcome place : ℕ)
 -- room for a vertex more
 pub record VertexRoom (r : Reader) (T P N numbers : List ℕ) : Type 0 where
   pub some-row : 0 < r .rows
-  pub rows : r .rows ≤ 16
-  pub vertices : r .vertices < 96
-  pub table : 80 ≤ length T
-  pub positions : 288 ≤ length P
-  pub normals : 288 ≤ length N
-  pub count : at T (5 * r .rows - 2) ≤ 96
+  pub rows : r .rows ≤ mostRows
+  pub vertices : r .vertices < mostVertices
+  pub table : 5 * r .rows ≤ length T
+  pub positions : 3 * r .vertices + 3 ≤ length P
+  pub normals : 3 * r .vertices + 3 ≤ length N
+  pub count : at T (5 * r .rows - 2) ≤ mostVertices
   pub long : 6 < length numbers
 
 -- a vertex was added
@@ -61,10 +62,10 @@ pub record VertexAdded (r : Reader) (T P N ns : List ℕ) (s : Reader) (T' P' N'
 -- room for a triangle more
 pub record TriangleRoom (r : Reader) (T I numbers : List ℕ) : Type 0 where
   pub some-row : 0 < r .rows
-  pub rows : r .rows ≤ 16
+  pub rows : r .rows ≤ mostRows
   pub indices : r .indices + 3 ≤ length I
-  pub table : 80 ≤ length T
-  pub count : at T (5 * r .rows - 1) ≤ 96
+  pub table : 5 * r .rows ≤ length T
+  pub count : at T (5 * r .rows - 1) ≤ mostIndices
   pub long : 6 < length numbers
 
 -- a triangle was added

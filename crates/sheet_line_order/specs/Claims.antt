@@ -1,4 +1,4 @@
--- Which text is a sheet: short texts and the refusals of their reading, each of which tells a reading of document 01 from a near miss. Assumes nothing.
+-- Which text is a sheet of the bench program: short texts and the refusals of their reading, each of which tells a reading of document 01 from a near miss. Assumes nothing.
 use mathlib.Core.List.{List, [], _∷_, _++_}
 use Prim.Native.Nat.{ℕ}
 use lib.ListN.{take, replicate}
@@ -6,13 +6,14 @@ use lib.Dec.{T}
 use Rattle.lists.specs.Lists.{all}
 use Rattle.lists.specs.Table.{Case, case, agrees}
 use Rattle.sheet_digits.specs.Bytes.{bytes, lines}
+use Rattle.sheet_line_order.specs.Limits.{benchLimits}
 use Rattle.sheet_line_order.specs.Reading.{sheetOf}
 use Rattle.sheet_line_order.specs.Samples.{face, sheet, vertex}
 use Rattle.sheet_line_order.specs.Evaluation.{evaluation}
 
 -- the refusal of a text, 0 for a sheet
 refusal : List ℕ → ℕ
-refusal t = sheetOf t .refusal
+refusal t = sheetOf benchLimits t .refusal
 
 -- the refusal of those lines after box, sag and default
 reading : List (List ℕ) → ℕ
@@ -42,9 +43,9 @@ claims =
     ∷ case 7 (reading (bytes "(fail 0 64 0)" ∷ []) ∷ reading (bytes "(face 0 64)" ∷ bytes "(face" ∷ []) ∷ reading (bytes "(face" ∷ bytes "(face 0 64)" ∷ [])
     ∷ reading (face ∷ triangle ∷ bytes "(material 64 1)" ∷ []) ∷ []) (51 ∷ 52 ∷ 51 ∷ 51 ∷ [])
     ∷ case 8 (reading (times 16 face) ∷ reading (times 17 face) ∷ reading (face ∷ times 32 triangle) ∷ reading (face ∷ times 33 triangle) ∷ []) (0 ∷ 52 ∷ 0 ∷ 52 ∷ [])
-    ∷ case 9 (sheetOf (sheet (bytes "(material 1 5)" ∷ bytes "(material 2 0)" ∷ bytes "(material 1 6)" ∷ [])) .sheet .default
-    ∷ take 4 (sheetOf (sheet (bytes "(material 1 5)" ∷ bytes "(material 2 0)" ∷ bytes "(material 1 6)" ∷ [])) .sheet .materials)) (3 ∷ 0 ∷ 7 ∷ 1 ∷ 0 ∷ [])
-    ∷ case 10 (sheetOf (sheet (face ∷ vertex ∷ vertex ∷ triangle ∷ bytes "(fail 8 9 3)" ∷ [])) .sheet .table) (0 ∷ 63 ∷ 0 ∷ 2 ∷ 3 ∷ 8 ∷ 9 ∷ 3 ∷ 0 ∷ 0 ∷ [])
+    ∷ case 9 (sheetOf benchLimits (sheet (bytes "(material 1 5)" ∷ bytes "(material 2 0)" ∷ bytes "(material 1 6)" ∷ [])) .sheet .default
+    ∷ take 4 (sheetOf benchLimits (sheet (bytes "(material 1 5)" ∷ bytes "(material 2 0)" ∷ bytes "(material 1 6)" ∷ [])) .sheet .materials)) (3 ∷ 0 ∷ 7 ∷ 1 ∷ 0 ∷ [])
+    ∷ case 10 (sheetOf benchLimits (sheet (face ∷ vertex ∷ vertex ∷ triangle ∷ bytes "(fail 8 9 3)" ∷ [])) .sheet .table) (0 ∷ 63 ∷ 0 ∷ 2 ∷ 3 ∷ 8 ∷ 9 ∷ 3 ∷ 0 ∷ 0 ∷ [])
     ∷ []
 
 -- The definitions yield each.

@@ -12,7 +12,7 @@ use borrow.Author.Tests.{eq-eqb}
 use lib.ListN.{length}
 use Rattle.sheet_lines.specs.Lengths.{line-length}
 use Rattle.sheet_lines.specs.Forms.{Line, lineOf}
-use Rattle.sheet_line_order.specs.Reading.{State, refuse, readLine, finished, intoFirst, cut, readFrom}
+use Rattle.sheet_line_order.specs.Reading.{State, refuse, lineRefusal, takeUp, withForm, readLine, finished, intoFirst, cut, readFrom}
 
 -- ---- the text
 
@@ -54,6 +54,24 @@ read-line s l rest t = ap (readFrom s) (cut-line l rest t) ∙ cut-some rest s l
 pub read-end : (s : State) (rest : List ℕ) → T (noLF rest) → readFrom s (cut rest) ≡ finished s rest
 unfolding readFrom
 read-end s rest t = ap (readFrom s) (cut-rest rest t)
+
+-- A line changes no limit.
+form-limits : (s : State) (l : Line) → withForm s l .limits ≡ s .limits
+unfolding withForm takeUp refuse
+form-limits s l = go (eqb (lineRefusal l s) 0)
+  where
+    go : (b : Bool) → (elim b as (λ x. State) [ true ↦ takeUp s l | false ↦ refuse (lineRefusal l s) s ]) .limits ≡ s .limits
+    go true = refl
+    go false = refl
+
+pub line-limits : (s : State) (xs : List ℕ) → readLine s xs .limits ≡ s .limits
+unfolding readLine refuse
+line-limits s xs = go (eqb (s .refusal) 0) (lineOf xs)
+  where
+    go : (b : Bool) (o : Option Line) → (elim b as (λ x. State) [ true ↦ elim o as (λ x. State) [ none ↦ refuse 51 s | some l ↦ withForm s l ] | false ↦ s ]) .limits ≡ s .limits
+    go true none = refl
+    go true (some l) = form-limits s l
+    go false o = refl
 
 -- An over-long line is 51.
 pub long-line : (s : State) (xs : List ℕ) → s .refusal ≡ 0 → 107 < length xs → readLine s xs ≡ refuse 51 s

@@ -9,6 +9,7 @@ use Rattle.body_rows.specs.Body.{rowWidth, check, firstFailing}
 use Rattle.sheet_lines.specs.Forms.{Line, lineOf}
 use Rattle.sheet_lines.specs.declared.Kind.{Kind}
 use Rattle.sheet_lines.specs.declared.Kind.the-variants.{Box, Sag, NoDefault, Default, Material, Face, Vertex, Triangle, Fail}
+use Rattle.sheet_line_order.specs.declared.Limits.{Limits}
 
 -- the sheet as its lines give it: floats are bits, the box's minimum and maximum three each; of default and materials 0 is none, n + 1 is material n
 pub record Patterns : Type 0 where
@@ -82,17 +83,17 @@ withLine Triangle ns x =
 withLine Fail ns x =
     patterns (x .box) (x .sag) (x .default) (x .materials) (x .table ++ at ns 0 ∷ at ns 1 ∷ at ns 2 ∷ 0 ∷ 0 ∷ []) (x .positions) (x .normals) (x .indices)
 
--- 52: it passes a program limit: face numbers to 63, 16 rows, 96 vertices, 96 indices
-unfoldable pub passesLimit : Kind → List ℕ → Patterns → Bool
-passesLimit Box ns x = false
-passesLimit Sag ns x = false
-passesLimit NoDefault ns x = false
-passesLimit Default ns x = false
-passesLimit Material ns x = ltb 63 (at ns 0)
-passesLimit Face ns x = ltb 63 (at ns 1) || leb (rowWidth * 16) (length (x .table))
-passesLimit Vertex ns x = leb (3 * 96) (length (x .positions))
-passesLimit Triangle ns x = leb 96 (length (x .indices))
-passesLimit Fail ns x = ltb 63 (at ns 1) || leb (rowWidth * 16) (length (x .table))
+-- 52: it passes a program limit: a face number above its limit, or a row, a vertex or three indices more than the limit
+unfoldable pub passesLimit : Limits → Kind → List ℕ → Patterns → Bool
+passesLimit limits Box ns x = false
+passesLimit limits Sag ns x = false
+passesLimit limits NoDefault ns x = false
+passesLimit limits Default ns x = false
+passesLimit limits Material ns x = ltb (limits .face) (at ns 0)
+passesLimit limits Face ns x = ltb (limits .face) (at ns 1) || leb (rowWidth * limits .rows) (length (x .table))
+passesLimit limits Vertex ns x = leb (3 * limits .vertices) (length (x .positions))
+passesLimit limits Triangle ns x = ltb (limits .indices) (length (x .indices) + 3)
+passesLimit limits Fail ns x = ltb (limits .face) (at ns 1) || leb (rowWidth * limits .rows) (length (x .table))
 
 -- a fail line with number 0
 unfoldable pub failsWithZero : Kind → List ℕ → Bool
@@ -108,31 +109,32 @@ failsWithZero Fail ns = eqb (at ns 2) 0
 
 -- ---- line by line
 
--- what the lines so far gave: the refusal's number or 0, the place, and the sheet
+-- what the lines so far gave within a program's limits: the refusal's number or 0, the place, and the sheet
 pub record State : Type 0 where
+  pub limits : Limits
   pub refusal : ℕ
   pub place : ℕ
   pub sheet : Patterns
 
--- before the first line; 64 faces have no material of their own
-unfoldable pub start : State
-start = record { refusal = 0; place = 0; sheet = patterns (replicate 6 0) 0 0 (replicate 64 0) [] [] [] [] }
+-- before the first line; no face, numbered from 0 to the limit, has a material of its own
+unfoldable pub start : Limits → State
+start limits = record { limits = limits; refusal = 0; place = 0; sheet = patterns (replicate 6 0) 0 0 (replicate (limits .face + 1) 0) [] [] [] [] }
 
 -- the refusal's number kept, and nothing else changed
 unfoldable pub refuse : ℕ → State → State
-refuse n s = record { refusal = n; place = s .place; sheet = s .sheet }
+refuse n s = record { limits = s .limits; refusal = n; place = s .place; sheet = s .sheet }
 
 -- 51: a line is out of order, or fails with number 0. 51 before 52 on one line.
 unfoldable pub lineRefusal : Line → State → ℕ
 lineRefusal l s =
     firstFailing (
     check 51 (not (inOrder (s .place) (l .kind)) || failsWithZero (l .kind) (l .numbers))
-    ∷ check 52 (passesLimit (l .kind) (l .numbers) (s .sheet))
+    ∷ check 52 (passesLimit (s .limits) (l .kind) (l .numbers) (s .sheet))
     ∷ [])
 
 -- a line that is taken up
 unfoldable pub takeUp : State → Line → State
-takeUp s l = record { refusal = 0; place = orderOf (l .kind) .then; sheet = withLine (l .kind) (l .numbers) (s .sheet) }
+takeUp s l = record { limits = s .limits; refusal = 0; place = orderOf (l .kind) .then; sheet = withLine (l .kind) (l .numbers) (s .sheet) }
 
 -- a line that is some form: refused, or taken up
 unfoldable pub withForm : State → Line → State
@@ -167,6 +169,6 @@ readFrom s [] = s
 readFrom s (rest ∷ []) = finished s rest
 readFrom s (l ∷ m ∷ ls) = readFrom (readLine s l) (m ∷ ls)
 
--- what a text says: the refusal's number or 0, and the sheet
-unfoldable pub sheetOf : List ℕ → State
-sheetOf text = readFrom start (cut text)
+-- what a text says to a program of such limits: the refusal's number or 0, and the sheet
+unfoldable pub sheetOf : Limits → List ℕ → State
+sheetOf limits text = readFrom (start limits) (cut text)

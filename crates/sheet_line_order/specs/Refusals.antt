@@ -8,6 +8,7 @@ use lib.ListN.{length}
 use Rattle.body_rows.specs.Body.{firstFailing}
 use Rattle.sheet_lines.specs.Forms.{Line}
 use Rattle.sheet_lines.specs.declared.Kind.{Kind}
+use Rattle.sheet_line_order.specs.declared.Limits.{Limits}
 use Rattle.sheet_line_order.specs.Reading.{Patterns, State, failsWithZero, inOrder, lineRefusal, passesLimit}
 
 -- a sheet of so many rows, vertices and indices
@@ -17,17 +18,18 @@ pub record SheetCounts (rows vertices corners : ℕ) (x : Patterns) : Type 0 whe
   pub indices : length (x .indices) ≡ corners
 
 -- b says whether a line passes a limit
-pub record Limit (rows vertices indices : ℕ) (k : Kind) (ns : List ℕ) (b : Bool) : Type 0 where
-  pub is : (x : Patterns) → SheetCounts rows vertices indices x → b ≡ passesLimit k ns x
+pub record Limit (limits : Limits) (rows vertices indices : ℕ) (k : Kind) (ns : List ℕ) (b : Bool) : Type 0 where
+  pub is : (x : Patterns) → SheetCounts rows vertices indices x → b ≡ passesLimit limits k ns x
 
 -- n is the refusal of a line, 0 for none
-pub record Refusal (place rows vertices indices : ℕ) (k : Kind) (ns : List ℕ) (n : ℕ) : Type 0 where
-  pub is : (refusal : ℕ) (x : Patterns) → SheetCounts rows vertices indices x → n ≡ lineRefusal (record { kind = k; numbers = ns }) (record { refusal = refusal; place = place; sheet = x })
+pub record Refusal (limits : Limits) (place rows vertices indices : ℕ) (k : Kind) (ns : List ℕ) (n : ℕ) : Type 0 where
+  pub is : (refusal : ℕ) (x : Patterns) → SheetCounts rows vertices indices x
+      → n ≡ lineRefusal (record { kind = k; numbers = ns }) (record { limits = limits; refusal = refusal; place = place; sheet = x })
 
 -- what a line that isn't refused has passed
 pub record Passed (l : Line) (s : State) : Type 0 where
   pub order : inOrder (s .place) (l .kind) ≡ true
-  pub limit : passesLimit (l .kind) (l .numbers) (s .sheet) ≡ false
+  pub limit : passesLimit (s .limits) (l .kind) (l .numbers) (s .sheet) ≡ false
 
 -- the refusal by its two tests
 of-tests : Bool → Bool → ℕ
@@ -43,5 +45,5 @@ bad-line false b c e = absurd (omega arith)
 pub passed : (l : Line) (s : State) → lineRefusal l s ≡ 0 → Passed l s
 unfolding lineRefusal firstFailing of-tests
 passed l s e =
-    let r = bad-line (inOrder (s .place) (l .kind)) (failsWithZero (l .kind) (l .numbers)) (passesLimit (l .kind) (l .numbers) (s .sheet)) e in
+    let r = bad-line (inOrder (s .place) (l .kind)) (failsWithZero (l .kind) (l .numbers)) (passesLimit (s .limits) (l .kind) (l .numbers) (s .sheet)) e in
     record { order = r .0; limit = r .1 }

@@ -2,10 +2,10 @@
 use mathlib.Core.Bool.{Bool, true, false, not, _||_, cond}
 use mathlib.Core.List.{List}
 use mathlib.Core.Path.{_≡_, refl, sym, _∙_, ap, subst}
-use Prim.Native.Nat.{ℕ, _*_, _≤_, _<_}
+use Prim.Native.Nat.{ℕ, _+_, _-_, _*_, _≤_, _<_}
 use native.Mathlib.Nat.{mul-le-mul-left, mul-lt-mul-of-pos-left}
 use native.Mathlib.Omega.{arith}
-use borrow.Author.Tests.{le-leb, lt-leb, le-ltb, lt-ltb, leb-true, leb-false, not-true, not-false}
+use borrow.Author.Tests.{le-leb, lt-leb, le-ltb, lt-ltb, leb-true, leb-false, ltb-true, ltb-false, not-true, not-false}
 use lib.Dec.{leb, ltb, eqb}
 use lib.ListN.{getD, length, take}
 use lib.Seq.{getD-take}
@@ -14,6 +14,7 @@ use Rattle.sheet_lines.specs.Counted.{countIn}
 use Rattle.sheet_lines.specs.Forms.{form, numbers}
 use Rattle.sheet_lines.specs.declared.Kind.{Kind}
 use Rattle.sheet_lines.specs.declared.Kind.the-variants.{Material, Vertex, Triangle, Fail}
+use Rattle.sheet_line_order.specs.declared.Limits.{Limits}
 use Rattle.sheet_line_order.specs.Reading.{Patterns, State, failsWithZero, inOrder, lineRefusal, orderOf, passesLimit}
 use Rattle.sheet_line_order.specs.Refusals.{Limit, Refusal}
 
@@ -44,44 +45,54 @@ times c m n p = go (leb m n) refl
     go true q = sym (le-leb (c * m) (c * n) (mul-le-mul-left c (leb-true m n q)))
     go false q = sym (lt-leb (c * m) (c * n) (mul-lt-mul-of-pos-left (leb-false m n q) p))
 
-pub row-face : (rows face : ℕ) → 63 < face → true ≡ ltb 63 face || leb 16 rows
-row-face rows face h = rw (lt-ltb 63 face h)
+pub row-face : (limits : Limits) (rows face : ℕ) → limits .face < face → true ≡ ltb (limits .face) face || leb (limits .rows) rows
+row-face limits rows face h = rw (lt-ltb (limits .face) face h)
 
-pub row-rows : (rows face : ℕ) → face ≤ 63 → leb 16 rows ≡ ltb 63 face || leb 16 rows
-row-rows rows face h = rw (le-ltb 63 face h)
+pub row-rows : (limits : Limits) (rows face : ℕ) → face ≤ limits .face → leb (limits .rows) rows ≡ ltb (limits .face) face || leb (limits .rows) rows
+row-rows limits rows face h = rw (le-ltb (limits .face) face h)
 
-module _ (rows vertices indices : ℕ) (k : Kind) (N : List ℕ) where
-  limit-as : (j : Kind) (b : Bool) → k ≡ j → Limit rows vertices indices j (take (countIn (form j)) N) b → Limit rows vertices indices k (take (countIn (form k)) N) b
-  limit-as j b e v = subst (λ (i : Kind). Limit rows vertices indices i (take (countIn (form i)) N) b) (sym e) v
+pub three-past : (limit indices : ℕ) → limit < 3 → true ≡ ltb limit (indices + 3)
+three-past limit indices h = sym (lt-ltb limit (indices + 3) (omega arith))
+
+pub three-more : (limit indices : ℕ) → 3 ≤ limit → ltb (limit - 3) indices ≡ ltb limit (indices + 3)
+three-more limit indices h = go (ltb (limit - 3) indices) refl
+  where
+    go : (b : Bool) → ltb (limit - 3) indices ≡ b → b ≡ ltb limit (indices + 3)
+    go true q = sym (lt-ltb limit (indices + 3) (omega (arith, ltb-true (limit - 3) indices q)))
+    go false q = sym (le-ltb limit (indices + 3) (omega (arith, ltb-false (limit - 3) indices q)))
+
+module _ (limits : Limits) (rows vertices indices : ℕ) (k : Kind) (N : List ℕ) where
+  limit-as : (j : Kind) (b : Bool) → k ≡ j → Limit limits rows vertices indices j (take (countIn (form j)) N) b → Limit limits rows vertices indices k (take (countIn (form k)) N) b
+  limit-as j b e v = subst (λ (i : Kind). Limit limits rows vertices indices i (take (countIn (form i)) N) b) (sym e) v
 
   -- a kind that has no limit
-  pub limit-none : (j : Kind) → ((ns : List ℕ) (x : Patterns) → false ≡ passesLimit j ns x) → k ≡ j → Limit rows vertices indices k (take (countIn (form k)) N) false
+  pub limit-none : (j : Kind) → ((ns : List ℕ) (x : Patterns) → false ≡ passesLimit limits j ns x) → k ≡ j → Limit limits rows vertices indices k (take (countIn (form k)) N) false
   limit-none j n e = limit-as j false e (record { is = λ x c. n (take (countIn (form j)) N) x })
 
-  pub limit-material : k ≡ Material → Limit rows vertices indices k (take (countIn (form k)) N) (ltb 63 (getD N 0 0))
+  pub limit-material : k ≡ Material → Limit limits rows vertices indices k (take (countIn (form k)) N) (ltb (limits .face) (getD N 0 0))
   unfolding passesLimit form numbers countIn
-  limit-material e = limit-as Material (ltb 63 (getD N 0 0)) e (record { is = λ x c. ap (ltb 63) (sym (getD-take 2 N 0 0 (omega arith))) })
+  limit-material e = limit-as Material (ltb (limits .face) (getD N 0 0)) e (record { is = λ x c. ap (ltb (limits .face)) (sym (getD-take 2 N 0 0 (omega arith))) })
 
   -- a kind that opens a row
-  pub limit-row : (j : Kind) → 1 < countIn (form j) → ((ns : List ℕ) (x : Patterns) → passesLimit j ns x ≡ ltb 63 (getD ns 1 0) || leb 80 (length (x .table)))
-      → (b : Bool) → k ≡ j → b ≡ ltb 63 (getD N 1 0) || leb 16 rows → Limit rows vertices indices k (take (countIn (form k)) N) b
+  pub limit-row : (j : Kind) → 1 < countIn (form j) → ((ns : List ℕ) (x : Patterns) → passesLimit limits j ns x ≡ ltb (limits .face) (getD ns 1 0) || leb (5 * limits .rows) (length (x .table)))
+      → (b : Bool) → k ≡ j → b ≡ ltb (limits .face) (getD N 1 0) || leb (limits .rows) rows → Limit limits rows vertices indices k (take (countIn (form k)) N) b
   limit-row j l is b e q =
       let ns : List ℕ = take (countIn (form j)) N in
       limit-as j b e
       (record {
         is = λ x c.
-            q ∙ ap (λ (n : ℕ). ltb 63 n || leb 16 rows) (sym (getD-take (countIn (form j)) N 1 0 l))
-            ∙ ap (λ (t : Bool). ltb 63 (getD ns 1 0) || t) (times 5 16 rows (omega arith) ∙ ap (leb 80) (sym (c .table)))
+            q ∙ ap (λ (n : ℕ). ltb (limits .face) n || leb (limits .rows) rows) (sym (getD-take (countIn (form j)) N 1 0 l))
+            ∙ ap (λ (t : Bool). ltb (limits .face) (getD ns 1 0) || t) (times 5 (limits .rows) rows (omega arith) ∙ ap (leb (5 * limits .rows)) (sym (c .table)))
             ∙ sym (is ns x);
       })
 
-  pub limit-vertex : k ≡ Vertex → Limit rows vertices indices k (take (countIn (form k)) N) (leb 96 vertices)
+  pub limit-vertex : k ≡ Vertex → Limit limits rows vertices indices k (take (countIn (form k)) N) (leb (limits .vertices) vertices)
   unfolding passesLimit
-  limit-vertex e = limit-as Vertex (leb 96 vertices) e (record { is = λ x c. times 3 96 vertices (omega arith) ∙ ap (leb 288) (sym (c .positions)) })
+  limit-vertex e = limit-as Vertex (leb (limits .vertices) vertices) e (record { is = λ x c. times 3 (limits .vertices) vertices (omega arith) ∙ ap (leb (3 * limits .vertices)) (sym (c .positions)) })
 
-  pub limit-triangle : k ≡ Triangle → Limit rows vertices indices k (take (countIn (form k)) N) (leb 96 indices)
+  pub limit-triangle : (b : Bool) → k ≡ Triangle → b ≡ ltb (limits .indices) (indices + 3) → Limit limits rows vertices indices k (take (countIn (form k)) N) b
   unfolding passesLimit
-  limit-triangle e = limit-as Triangle (leb 96 indices) e (record { is = λ x c. ap (leb 96) (sym (c .indices)) })
+  limit-triangle b e q = limit-as Triangle b e (record { is = λ x c. q ∙ ap (λ (n : ℕ). ltb (limits .indices) (n + 3)) (sym (c .indices)) })
 
 -- ---- the refusal
 
@@ -89,39 +100,39 @@ module _ (rows vertices indices : ℕ) (k : Kind) (N : List ℕ) where
 of-tests : Bool → Bool → Bool → ℕ
 of-tests order zero limit = cond (not order || zero) 51 (cond limit 52 0)
 
-refusal-is : (s : State) (k : Kind) (ns : List ℕ) (a b c : Bool) → a ≡ inOrder (s .place) k → b ≡ failsWithZero k ns → c ≡ passesLimit k ns (s .sheet)
+refusal-is : (s : State) (k : Kind) (ns : List ℕ) (a b c : Bool) → a ≡ inOrder (s .place) k → b ≡ failsWithZero k ns → c ≡ passesLimit (s .limits) k ns (s .sheet)
     → lineRefusal (record { kind = k; numbers = ns }) s ≡ of-tests a b c
 unfolding lineRefusal firstFailing of-tests
 refusal-is s k ns a b c p q r =
-    ap (λ (x : Bool). of-tests x (failsWithZero k ns) (passesLimit k ns (s .sheet))) (sym p)
-    ∙ ap (λ (x : Bool). of-tests a x (passesLimit k ns (s .sheet))) (sym q)
+    ap (λ (x : Bool). of-tests x (failsWithZero k ns) (passesLimit (s .limits) k ns (s .sheet))) (sym p)
+    ∙ ap (λ (x : Bool). of-tests a x (passesLimit (s .limits) k ns (s .sheet))) (sym q)
     ∙ ap (λ (x : Bool). of-tests a b x) (sym r)
 
-module _ (place rows vertices indices : ℕ) (k : Kind) (ns : List ℕ) (a : Bool) (p : a ≡ inOrder place k) where
-  pub refused-order : not a ≡ true → Refusal place rows vertices indices k ns 51
+module _ (limits : Limits) (place rows vertices indices : ℕ) (k : Kind) (ns : List ℕ) (a : Bool) (p : a ≡ inOrder place k) where
+  pub refused-order : not a ≡ true → Refusal limits place rows vertices indices k ns 51
   unfolding of-tests
   refused-order e =
       record {
         is = λ n x c.
-            let y : State = record { refusal = n; place = place; sheet = x } in
-            sym (refusal-is y k ns a (failsWithZero k ns) (passesLimit k ns x) p refl refl ∙ ap (λ (b : Bool). of-tests b (failsWithZero k ns) (passesLimit k ns x)) (not-true a e));
+            let y : State = record { limits = limits; refusal = n; place = place; sheet = x } in
+            sym (refusal-is y k ns a (failsWithZero k ns) (passesLimit limits k ns x) p refl refl ∙ ap (λ (b : Bool). of-tests b (failsWithZero k ns) (passesLimit limits k ns x)) (not-true a e));
       }
 
   module _ (o : not a ≡ false) (b : Bool) (q : b ≡ failsWithZero k ns) where
-    tests : (n : ℕ) (x : Patterns) (c : Bool) → c ≡ passesLimit k ns x → lineRefusal (record { kind = k; numbers = ns }) (record { refusal = n; place = place; sheet = x }) ≡ of-tests true b c
+    tests : (n : ℕ) (x : Patterns) (c : Bool) → c ≡ passesLimit limits k ns x → lineRefusal (record { kind = k; numbers = ns }) (record { limits = limits; refusal = n; place = place; sheet = x }) ≡ of-tests true b c
     tests n x c r =
-        let y : State = record { refusal = n; place = place; sheet = x } in
+        let y : State = record { limits = limits; refusal = n; place = place; sheet = x } in
         refusal-is y k ns a b c p q r ∙ ap (λ (z : Bool). of-tests z b c) (not-false a o)
 
-    pub refused-zero : b ≡ true → Refusal place rows vertices indices k ns 51
+    pub refused-zero : b ≡ true → Refusal limits place rows vertices indices k ns 51
     unfolding of-tests
-    refused-zero e = record { is = λ n x c. sym (tests n x (passesLimit k ns x) refl ∙ ap (λ (z : Bool). of-tests true z (passesLimit k ns x)) e) }
+    refused-zero e = record { is = λ n x c. sym (tests n x (passesLimit limits k ns x) refl ∙ ap (λ (z : Bool). of-tests true z (passesLimit limits k ns x)) e) }
 
-    module _ (z : b ≡ false) (c : Bool) (v : Limit rows vertices indices k ns c) where
-      pub refused-limit : c ≡ true → Refusal place rows vertices indices k ns 52
+    module _ (z : b ≡ false) (c : Bool) (v : Limit limits rows vertices indices k ns c) where
+      pub refused-limit : c ≡ true → Refusal limits place rows vertices indices k ns 52
       unfolding of-tests
       refused-limit e = record { is = λ n x h. sym (tests n x c (v .is x h) ∙ ap (λ (y : Bool). of-tests true y c) z ∙ ap (λ (y : Bool). of-tests true false y) e) }
 
-      pub not-refused : c ≡ false → Refusal place rows vertices indices k ns 0
+      pub not-refused : c ≡ false → Refusal limits place rows vertices indices k ns 0
       unfolding of-tests
       not-refused e = record { is = λ n x h. sym (tests n x c (v .is x h) ∙ ap (λ (y : Bool). of-tests true y c) z ∙ ap (λ (y : Bool). of-tests true false y) e) }

@@ -1,8 +1,9 @@
 // When a line of the sheet is refused: out of order, failing with 0, or past a limit.
 
+use sheet_line_order::Limits;
 use sheet_lines::Kind;
 ghost use mathlib.Core.Path.{_≡_};
-ghost use Prim.Native.Nat.{_<_};
+ghost use Prim.Native.Nat.{_+_, _<_};
 ghost use mathlib.Core.Bool.{_||_};
 ghost use lib.Dec.{leb, ltb};
 ghost use lib.ListN.{length, take};
@@ -74,35 +75,53 @@ fn fails_with_zero(k: Kind, numbers: &[u64]) -> bool
 }
 
 // Whether a row of this face passes a limit.
-fn row_passes(rows: usize, face: u64) -> bool
-    ensures { λ r. ⌜ r ≡ ltb 63 face || leb 16 rows ⌝ }
+fn row_passes(limits: Limits, rows: usize, face: u64) -> bool
+    ensures { λ r. ⌜ r ≡ ltb (limits .face) face || leb (limits .rows) rows ⌝ }
 {
-    if 63 < face {
+    if limits.face < face {
         return true;
     }
-    16 <= rows
+    limits.rows <= rows
+}
+
+// Whether three indices more pass the limit.
+fn triangle_passes(limit: usize, indices: usize) -> bool
+    ensures { λ r. ⌜ r ≡ ltb limit (indices + 3) ⌝ }
+{
+    if limit < 3 {
+        return true;
+    }
+    limit - 3 < indices
 }
 
 // Whether a line passes a program limit.
-fn passes_limit(rows: usize, vertices: usize, indices: usize, k: Kind, numbers: &[u64]) -> bool
+fn passes_limit(
+    limits: Limits,
+    rows: usize,
+    vertices: usize,
+    indices: usize,
+    k: Kind,
+    numbers: &[u64],
+) -> bool
     requires { ⌜ 6 < length (now numbers) ⌝ }
-    ensures { λ r. ⌜ Limit rows vertices indices k (take (countIn (form k)) (now (numbers .entry))) r ⌝ }
+    ensures { λ r. ⌜ Limit limits rows vertices indices k (take (countIn (form k)) (now (numbers .entry))) r ⌝ }
 {
     match k {
         Kind::Box => false,
         Kind::Sag => false,
         Kind::NoDefault => false,
         Kind::Default => false,
-        Kind::Material => 63 < numbers[0],
-        Kind::Face => row_passes(rows, numbers[1]),
-        Kind::Vertex => 96 <= vertices,
-        Kind::Triangle => 96 <= indices,
-        Kind::Fail => row_passes(rows, numbers[1]),
+        Kind::Material => limits.face < numbers[0],
+        Kind::Face => row_passes(limits, rows, numbers[1]),
+        Kind::Vertex => limits.vertices <= vertices,
+        Kind::Triangle => triangle_passes(limits.indices, indices),
+        Kind::Fail => row_passes(limits, rows, numbers[1]),
     }
 }
 
 // The refusal of a line that has a form, 0 if it is taken: 51 before 52.
 pub fn line_refusal(
+    limits: Limits,
     place: u32,
     rows: usize,
     vertices: usize,
@@ -111,7 +130,7 @@ pub fn line_refusal(
     numbers: &[u64],
 ) -> u32
     requires { ⌜ 6 < length (now numbers) ⌝ }
-    ensures { λ r. ⌜ Refusal place rows vertices indices k (take (countIn (form k)) (now (numbers .entry))) r ⌝ }
+    ensures { λ r. ⌜ Refusal limits place rows vertices indices k (take (countIn (form k)) (now (numbers .entry))) r ⌝ }
 {
     if !in_order(place, k) {
         return 51;
@@ -119,7 +138,7 @@ pub fn line_refusal(
     if fails_with_zero(k, numbers) {
         return 51;
     }
-    if passes_limit(rows, vertices, indices, k, numbers) {
+    if passes_limit(limits, rows, vertices, indices, k, numbers) {
         return 52;
     }
     0

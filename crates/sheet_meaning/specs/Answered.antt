@@ -16,7 +16,7 @@ answerIn l =
     let r = l .reader in
     elim (eqb (r .refusal) 0) [
       | true ↦ elim (inLimits r (length (l .table)) (length (l .positions)) (length (l .normals)) (length (l .indices)) (length (l .materials))) [
-        | true ↦ printed (finish (meant (patternsOf l)))
+        | true ↦ printed (finish (r .limits) (meant (patternsOf l)))
         | false ↦ refusalLine 52
       ]
       | false ↦ refusalLine (r .refusal)

@@ -6,9 +6,9 @@ use Rattle.sheet_answer_text.specs.Evaluation as Answer
 use Rattle.sheet_meaning.specs.Meaning.{boxOf, meant}
 use Rattle.sheet_meaning.specs.Printing.{meshLines, countLines}
 use Rattle.sheet_meaning.specs.Parts.{corner, stateNumbers}
-use Rattle.sheet_meaning.specs.Bench.{printed, bench}
+use Rattle.sheet_meaning.specs.Bench.{printed, said, program, bench}
 
 -- every definition that computes
 unfoldable pub evaluation : ℕ
-unfolding Finish.evaluation Reading.evaluation Answer.evaluation boxOf meant meshLines countLines corner stateNumbers printed bench
+unfolding Finish.evaluation Reading.evaluation Answer.evaluation boxOf meant meshLines countLines corner stateNumbers printed said program bench
 evaluation = 0

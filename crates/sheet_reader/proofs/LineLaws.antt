@@ -30,7 +30,7 @@ module _ (s : Reader) (T P N I M : List ℕ) where
   unfolding refuse
   over-refused n h = ap (refuseIn n) (over-same s T P N I M h)
 
-  module _ (k : Kind) (ns : List ℕ) (v : Fitting here k ns) (n : ℕ) (u : Refusal (s .place) (s .rows) (s .vertices) (s .indices) k (lineFrom k ns .numbers) n) where
+  module _ (k : Kind) (ns : List ℕ) (v : Fitting here k ns) (n : ℕ) (u : Refusal (s .limits) (s .place) (s .rows) (s .vertices) (s .indices) k (lineFrom k ns .numbers) n) where
     held : Held s T P N I M
     held = held-of s T P N I M (v .roomy .held)
 

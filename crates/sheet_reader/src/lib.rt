@@ -28,7 +28,8 @@ fn with_form(
         ≡ readForm (lent s (now (table .entry)) (now (positions .entry)) (now (normals .entry)) (now (indices .entry)) (now (materials .entry))) k
         (now (numbers .entry)) ⌝ }
 {
-    let n = line_refusal(s.place, s.rows, s.vertices, s.indices, k, numbers);
+    let limits = s.limits;
+    let n = line_refusal(limits, s.place, s.rows, s.vertices, s.indices, k, numbers);
     if n != 0 {
         return refuse(s, n);
     }

@@ -5,32 +5,31 @@ use mathlib.Core.Option.{Option, none, some}
 use mathlib.Core.Path.{_≡_, refl, sym, _∙_, ap, subst}
 use Prim.Native.Nat.{ℕ, zero, suc, _+_, _-_, _*_, _/_, _%_, _≤_, _<_}
 use native.Mathlib.Omega.{arith}
-use borrow.Author.Tests.{eq-eqb, ne-eqb, le-leb, leb-true, leb-false, eqb-true, lt-ltb}
+use borrow.Author.Tests.{eq-eqb, ne-eqb, le-leb, leb-true, leb-false, eqb-true, lt-ltb, ltb-false}
 use lib.Dec.{leb, ltb, eqb}
-use lib.ListN.{List·getD-append, length, take, drop, set, replicate, length-append, length-set, length-drop}
+use lib.ListN.{List·getD-append, length, take, drop, set, replicate, length-append, length-set, length-drop, length-replicate}
 use lib.Seq.{getD-append-add, length-take-le, take-at, getD-set-same, getD-set-other}
 use Rattle.sheet_lines.specs.Counted.{countIn, line-count}
 use Rattle.sheet_lines.specs.Forms.{Line, form, lineOf, numbers}
 use Rattle.sheet_lines.specs.declared.Kind.{Kind}
 use Rattle.sheet_lines.specs.declared.Kind.the-variants.{Box, Sag, NoDefault, Default, Material, Face, Vertex, Triangle, Fail}
 use Rattle.sheet_reader_state.specs.declared.Reader.{Reader}
+use Rattle.sheet_line_order.specs.declared.Limits.{Limits}
+use Rattle.sheet_line_order.specs.Laws.{line-limits}
 use Rattle.sheet_line_order.specs.Reading.{Patterns, State, at, finished, lineRefusal, orderOf, passesLimit, raised, readLine, refuse, start, takeUp, withForm, withLine}
 use Rattle.sheet_line_order.specs.Refusals.{Passed, passed}
-use Rattle.sheet_reader_state.specs.Slices.{Lent, ended, fits, fitsIn, inLimits, lastFits, lent, onto, over, readInto, readerOf, refused, stateOf}
+use Rattle.sheet_reader_state.specs.Slices.{Lent, ended, fits, fitsIn, inLimits, lastFits, lent, ofBodies, onto, over, readInto, readerOf, refused, stateOf}
+use Rattle.sheet_reader_state.specs.Limits.{SheetRoom, counts-hold, room-holds}
 use Rattle.lists.specs.Both.{and-left, or-right}
 
--- the slices have room for the program's limits
-pub record SheetRoom (l : Lent) : Type 0 where
-  pub table : 80 ≤ length (l .table)
-  pub positions : 288 ≤ length (l .positions)
-  pub normals : 288 ≤ length (l .normals)
-  pub indices : 96 ≤ length (l .indices)
-  pub materials : 64 ≤ length (l .materials)
+-- the slices have room for the limits
+abbrev pub RoomIn : Limits → Lent → Type 0
+RoomIn limits l = SheetRoom limits (length (l .table)) (length (l .positions)) (length (l .normals)) (length (l .indices)) (length (l .materials))
 
 -- a state of whole rows, vertices and triangles within the limits
 pub record Sized (s : State) : Type 0 where
   pub box : length (s .sheet .box) ≡ 6
-  pub materials : length (s .sheet .materials) ≡ 64
+  pub materials : length (s .sheet .materials) ≡ s .limits .face + 1
   pub rows : ℕ
   pub vertices : ℕ
   pub triangles : ℕ
@@ -38,21 +37,21 @@ pub record Sized (s : State) : Type 0 where
   pub positions : length (s .sheet .positions) ≡ 3 * vertices
   pub normals : length (s .sheet .normals) ≡ 3 * vertices
   pub indices : length (s .sheet .indices) ≡ 3 * triangles
-  pub few-rows : rows ≤ 16
-  pub few-vertices : vertices ≤ 96
-  pub few-triangles : triangles ≤ 32
+  pub few-rows : rows ≤ s .limits .rows
+  pub few-vertices : vertices ≤ s .limits .vertices
+  pub few-triangles : 3 * triangles ≤ s .limits .indices
   pub no-row : rows ≡ 0 → s .place < 4
   pub last-vertices : at (s .sheet .table) (5 * rows - 2) ≤ vertices
   pub last-indices : at (s .sheet .table) (5 * rows - 1) ≤ 3 * triangles
 
 -- ---- a line keeps the sizes
 
-pub sized-start : Sized start
+pub sized-start : (limits : Limits) → Sized (start limits)
 unfolding start
-sized-start =
+sized-start limits =
     record {
       box = refl;
-      materials = refl;
+      materials = length-replicate {A = ℕ} (limits .face + 1) 0;
       rows = 0;
       vertices = 0;
       triangles = 0;
@@ -96,9 +95,9 @@ module _ (T row : List ℕ) (rows : ℕ) (e : length T ≡ 5 * rows) where
 
 module _ (s : State) (v : Sized s) where
   -- a line before the faces
-  header : (k : Kind) (x : Patterns) → length (x .box) ≡ 6 → length (x .materials) ≡ 64 → x .table ≡ s .sheet .table → x .positions ≡ s .sheet .positions → x .normals ≡ s .sheet .normals
+  header : (k : Kind) (x : Patterns) → length (x .box) ≡ 6 → length (x .materials) ≡ s .limits .face + 1 → x .table ≡ s .sheet .table → x .positions ≡ s .sheet .positions → x .normals ≡ s .sheet .normals
       → x .indices ≡ s .sheet .indices → orderOf k .then < 4
-      → Sized (record { refusal = 0; place = orderOf k .then; sheet = x })
+      → Sized (record { limits = s .limits; refusal = 0; place = orderOf k .then; sheet = x })
   header k x b m t p n i l =
       record {
         box = b;
@@ -121,9 +120,9 @@ module _ (s : State) (v : Sized s) where
   -- a row more
   row-more : (x : Patterns) (place a b c : ℕ) → x .box ≡ s .sheet .box → x .materials ≡ s .sheet .materials → x .table ≡ s .sheet .table ++ a ∷ b ∷ c ∷ 0 ∷ 0 ∷ [] → x .positions ≡ s .sheet .positions
       → x .normals ≡ s .sheet .normals → x .indices ≡ s .sheet .indices
-      → (d : Bool) → d || leb 80 (length (s .sheet .table)) ≡ false → Sized (record { refusal = 0; place = place; sheet = x })
+      → (d : Bool) → d || leb (5 * s .limits .rows) (length (s .sheet .table)) ≡ false → Sized (record { limits = s .limits; refusal = 0; place = place; sheet = x })
   row-more x place a b c e m t p n i d l =
-      let few : length (s .sheet .table) < 80 = leb-false 80 (length (s .sheet .table)) (or-right d (leb 80 (length (s .sheet .table))) l) in
+      let few : length (s .sheet .table) < 5 * s .limits .rows = leb-false (5 * s .limits .rows) (length (s .sheet .table)) (or-right d (leb (5 * s .limits .rows) (length (s .sheet .table))) l) in
       let row : List ℕ = a ∷ b ∷ c ∷ 0 ∷ 0 ∷ [] in
       let three : 5 * (v .rows + 1) - 2 ≡ 5 * v .rows + 3 = omega arith in
       let four : 5 * (v .rows + 1) - 1 ≡ 5 * v .rows + 4 = omega arith in
@@ -175,11 +174,11 @@ module _ (s : State) (v : Sized s) where
         ap (λ (i : ℕ). at (set table (i - back) (at table (i - back) + n)) (5 * v .rows - other)) (v .table)
         ∙ getD-set-other table (5 * v .rows - back) (5 * v .rows - other) (at table (5 * v .rows - back) + n) 0 ne
 
-  vertex-more : (ns : List ℕ) → length ns ≡ 6 → 3 < s .place → leb 288 (length (s .sheet .positions)) ≡ false → Sized (record { refusal = 0; place = 4; sheet = withLine Vertex ns (s .sheet) })
+  vertex-more : (ns : List ℕ) → length ns ≡ 6 → 3 < s .place → leb (3 * s .limits .vertices) (length (s .sheet .positions)) ≡ false → Sized (record { limits = s .limits; refusal = 0; place = 4; sheet = withLine Vertex ns (s .sheet) })
   unfolding withLine
   vertex-more ns six far l =
       let row : 0 < v .rows = some-row far in
-      let few : length (s .sheet .positions) < 288 = leb-false 288 (length (s .sheet .positions)) l in
+      let few : length (s .sheet .positions) < 3 * s .limits .vertices = leb-false (3 * s .limits .vertices) (length (s .sheet .positions)) l in
       let front : length (take 3 ns) ≡ 3 = length-take-le 3 ns (omega arith) in
       let back : length (drop 3 ns) ≡ 3 = length-drop 3 ns ∙ omega arith in
       record {
@@ -200,11 +199,11 @@ module _ (s : State) (v : Sized s) where
         last-indices = omega (arith, raised-other row 2 1 1 (λ q. omega arith), v .last-indices);
       }
 
-  triangle-more : (ns : List ℕ) → length ns ≡ 3 → 3 < s .place → leb 96 (length (s .sheet .indices)) ≡ false → Sized (record { refusal = 0; place = 5; sheet = withLine Triangle ns (s .sheet) })
+  triangle-more : (ns : List ℕ) → length ns ≡ 3 → 3 < s .place → ltb (s .limits .indices) (length (s .sheet .indices) + 3) ≡ false → Sized (record { limits = s .limits; refusal = 0; place = 5; sheet = withLine Triangle ns (s .sheet) })
   unfolding withLine
   triangle-more ns three far l =
       let row : 0 < v .rows = some-row far in
-      let few : length (s .sheet .indices) < 96 = leb-false 96 (length (s .sheet .indices)) l in
+      let few : length (s .sheet .indices) + 3 ≤ s .limits .indices = ltb-false (s .limits .indices) (length (s .sheet .indices) + 3) l in
       record {
         box = v .box;
         materials = v .materials;
@@ -230,10 +229,10 @@ module _ (s : State) (v : Sized s) where
   sized-take NoDefault ns c p = header NoDefault (withLine NoDefault ns (s .sheet)) (v .box) (v .materials) refl refl refl refl (omega arith)
   sized-take Default ns c p = header Default (withLine Default ns (s .sheet)) (v .box) (v .materials) refl refl refl refl (omega arith)
   sized-take Material ns c p = header Material (withLine Material ns (s .sheet)) (v .box) (length-set (s .sheet .materials) (at ns 0) (at ns 1 + 1) ∙ v .materials) refl refl refl refl (omega arith)
-  sized-take Face ns c p = row-more (withLine Face ns (s .sheet)) 4 (at ns 0) (at ns 1) 0 refl refl refl refl refl refl (ltb 63 (at ns 1)) (p .limit)
+  sized-take Face ns c p = row-more (withLine Face ns (s .sheet)) 4 (at ns 0) (at ns 1) 0 refl refl refl refl refl refl (ltb (s .limits .face) (at ns 1)) (p .limit)
   sized-take Vertex ns c p = vertex-more ns c (omega (arith, leb-true 4 (s .place) (and-left (leb 4 (s .place)) (leb (s .place) 4) (p .order)))) (p .limit)
   sized-take Triangle ns c p = triangle-more ns c (omega (arith, leb-true 4 (s .place) (and-left (leb 4 (s .place)) (leb (s .place) 5) (p .order)))) (p .limit)
-  sized-take Fail ns c p = row-more (withLine Fail ns (s .sheet)) 6 (at ns 0) (at ns 1) (at ns 2) refl refl refl refl refl refl (ltb 63 (at ns 1)) (p .limit)
+  sized-take Fail ns c p = row-more (withLine Fail ns (s .sheet)) 6 (at ns 0) (at ns 1) (at ns 2) refl refl refl refl refl refl (ltb (s .limits .face) (at ns 1)) (p .limit)
 
   sized-form : (l : Line) → length (l .numbers) ≡ countIn (form (l .kind)) → Sized (withForm s l)
   unfolding withForm
@@ -280,7 +279,7 @@ same-patterns : {b b' m m' t t' p p' n n' i i' : List ℕ} (sag default : ℕ) �
     (record { box = b'; sag = sag; default = default; materials = m'; table = t'; positions = p'; normals = n'; indices = i' })
 same-patterns sag default eb em et ep en ei = cc
 
-module _ (l : Lent) (room : SheetRoom l) (s : State) (v : Sized s) where
+module _ (l : Lent) (s : State) (room : RoomIn (s .limits) l) (few : ofBodies (s .limits) ≡ true) (v : Sized s) where
   -- The slices hold the state.
   pub state-over : stateOf (over l s) ≡ s
   state-over =
@@ -288,62 +287,54 @@ module _ (l : Lent) (room : SheetRoom l) (s : State) (v : Sized s) where
       let rows : 5 * (length (x .table) / 5) ≡ length (x .table) = omega (arith, v .table) in
       let vertices : 3 * (length (x .positions) / 3) ≡ length (x .positions) = omega (arith, v .positions) in
       let as-many : 3 * (length (x .positions) / 3) ≡ length (x .normals) = omega (arith, v .positions, v .normals) in
-      ap (λ (y : Patterns). record { refusal = s .refusal; place = s .place; sheet = y })
-      (same-patterns (x .sag) (x .default) (six-of (x .box) (v .box)) (onto-front (x .materials) (l .materials) 64 (v .materials))
+      ap (λ (y : Patterns). record { limits = s .limits; refusal = s .refusal; place = s .place; sheet = y })
+      (same-patterns (x .sag) (x .default) (six-of (x .box) (v .box)) (onto-front (x .materials) (l .materials) (s .limits .face + 1) (v .materials))
       (onto-front (x .table) (l .table) (5 * (length (x .table) / 5)) (sym rows)) (onto-front (x .positions) (l .positions) (3 * (length (x .positions) / 3)) (sym vertices))
       (onto-front (x .normals) (l .normals) (3 * (length (x .positions) / 3)) (sym as-many)) (onto-front (x .indices) (l .indices) (length (x .indices)) refl))
 
-  last-over : (rows : ℕ) → rows ≡ v .rows → lastFits (s .place) rows (onto (s .sheet .table) (l .table)) ≡ true
+  last-over : (rows : ℕ) → rows ≡ v .rows → lastFits (s .limits) (s .place) rows (onto (s .sheet .table) (l .table)) ≡ true
   last-over zero e = lt-ltb (s .place) 4 (v .no-row (sym e))
   last-over (suc n) e =
       let T : List ℕ = s .sheet .table in
       let long : length T ≡ 5 * suc n = v .table ∙ ap (λ (k : ℕ). 5 * k) (sym e) in
-      let a : at (onto T (l .table)) (5 * suc n - 2) ≤ 96 = omega (arith, onto-at T (l .table) (5 * suc n - 2) (omega arith), v .last-vertices, v .few-vertices, ap (λ (k : ℕ). at T (5 * k - 2)) e) in
-      let b : at (onto T (l .table)) (5 * suc n - 1) ≤ 96 = omega (arith, onto-at T (l .table) (5 * suc n - 1) (omega arith), v .last-indices, v .few-triangles, ap (λ (k : ℕ). at T (5 * k - 1)) e) in
-      rw (ne-eqb (suc n) 0 (λ q. omega arith), le-leb (at (onto T (l .table)) (5 * suc n - 2)) 96 a, le-leb (at (onto T (l .table)) (5 * suc n - 1)) 96 b)
+      let a : at (onto T (l .table)) (5 * suc n - 2) ≤ s .limits .vertices = omega (arith, onto-at T (l .table) (5 * suc n - 2) (omega arith), v .last-vertices, v .few-vertices, ap (λ (k : ℕ). at T (5 * k - 2)) e) in
+      let b : at (onto T (l .table)) (5 * suc n - 1) ≤ s .limits .indices = omega (arith, onto-at T (l .table) (5 * suc n - 1) (omega arith), v .last-indices, v .few-triangles, ap (λ (k : ℕ). at T (5 * k - 1)) e) in
+      rw (ne-eqb (suc n) 0 (λ q. omega arith), le-leb (at (onto T (l .table)) (5 * suc n - 2)) (s .limits .vertices) a, le-leb (at (onto T (l .table)) (5 * suc n - 1)) (s .limits .indices) b)
+
+  room-over : RoomIn (s .limits) (over l s)
+  room-over =
+      let x : Patterns = s .sheet in
+      record {
+        table = onto-long (5 * s .limits .rows) (x .table) (l .table) (room .table);
+        positions = onto-long (3 * s .limits .vertices) (x .positions) (l .positions) (room .positions);
+        normals = onto-long (3 * s .limits .vertices) (x .normals) (l .normals) (room .normals);
+        indices = onto-long (s .limits .indices) (x .indices) (l .indices) (room .indices);
+        materials = onto-long (suc (s .limits .face)) (x .materials) (l .materials) (room .materials);
+      }
 
   -- They pass the test of room again.
   pub fits-over : fits (over l s) ≡ true
   unfolding fitsIn inLimits
   fits-over =
       let x : Patterns = s .sheet in
-      let rows : length (x .table) / 5 ≤ 16 = omega (arith, v .table, v .few-rows) in
-      let vertices : length (x .positions) / 3 ≤ 96 = omega (arith, v .positions, v .few-vertices) in
-      let indices : length (x .indices) ≤ 96 = omega (arith, v .indices, v .few-triangles) in
+      let rows : length (x .table) / 5 ≤ s .limits .rows = omega (arith, v .table, v .few-rows) in
+      let vertices : length (x .positions) / 3 ≤ s .limits .vertices = omega (arith, v .positions, v .few-vertices) in
+      let indices : length (x .indices) ≤ s .limits .indices = omega (arith, v .indices, v .few-triangles) in
       let whole : length (x .indices) % 3 ≡ 0 = omega (arith, v .indices) in
       rw (
-        le-leb 80 (length (onto (x .table) (l .table))) (onto-long 80 (x .table) (l .table) (room .table)),
-        le-leb 288 (length (onto (x .positions) (l .positions)))
-            (onto-long 288 (x .positions) (l .positions) (room .positions)),
-        le-leb 288 (length (onto (x .normals) (l .normals))) (onto-long 288 (x .normals) (l .normals) (room .normals)),
-        le-leb 96
-            (length (onto (x .indices) (l .indices))) (onto-long 96 (x .indices) (l .indices) (room .indices)),
-        le-leb 64 (length (onto (x .materials) (l .materials)))
-            (onto-long 64 (x .materials) (l .materials) (room .materials)),
-        le-leb (length (x .table) / 5) 16 rows,
-        le-leb (length (x .positions) / 3) 96 vertices,
-        le-leb
-            (length (x .indices)) 96 indices,
+        few,
+        room-holds (s .limits) _ _ _ _ _ room-over,
+        counts-hold (s .limits) (length (x .table) / 5) (length (x .positions) / 3) (length (x .indices)) rows vertices indices,
         eq-eqb (length (x .indices) % 3) 0 whole,
       )
       (last-over (length (x .table) / 5) (omega (arith, v .table)))
-
-  room-over : SheetRoom (over l s)
-  room-over =
-      let x : Patterns = s .sheet in
-      record {
-        table = onto-long 80 (x .table) (l .table) (room .table);
-        positions = onto-long 288 (x .positions) (l .positions) (room .positions);
-        normals = onto-long 288 (x .normals) (l .normals) (room .normals);
-        indices = onto-long 96 (x .indices) (l .indices) (room .indices);
-        materials = onto-long 64 (x .materials) (l .materials) (room .materials);
-      }
 
 -- ---- line by line
 
 -- the slices have room and hold a state of such sizes
 pub record Kept (l : Lent) (s : State) : Type 0 where
-  pub room : SheetRoom l
+  pub room : RoomIn (s .limits) l
+  pub few : ofBodies (s .limits) ≡ true
   pub sized : Sized s
   pub same : stateOf l ≡ s
   pub fit : fits l ≡ true
@@ -359,38 +350,35 @@ kept-line l s xs k = go (eqb (s .refusal) 0) refl
     go : (b : Bool) → eqb (s .refusal) 0 ≡ b → Kept (readInto l xs) (readLine s xs)
     go true q =
         let into : readInto l xs ≡ over l (readLine s xs) = rw (ap (λ (n : ℕ). eqb n 0) first ∙ q, k .fit, readInto) (ap (λ (t : State). over l (readLine t xs)) (k .same)) in
-        let sized : Sized (readLine s xs) = sized-line s (k .sized) xs in
-        subst (λ (m : Lent). Kept m (readLine s xs)) (sym into) (record
-        { room = room-over l (k .room) (readLine s xs) sized; sized = sized; same = state-over l (k .room) (readLine s xs) sized; fit = fits-over l (k .room) (readLine s xs) sized })
+        let next : State = readLine s xs in
+        let sized : Sized next = sized-line s (k .sized) xs in
+        let room : RoomIn (next .limits) l = subst (λ (m : Limits). RoomIn m l) (sym (line-limits s xs)) (k .room) in
+        let few : ofBodies (next .limits) ≡ true = ap ofBodies (line-limits s xs) ∙ k .few in
+        subst (λ (m : Lent). Kept m next) (sym into) (record
+        { room = room-over l next room few sized; few = few; sized = sized; same = state-over l next room few sized; fit = fits-over l next room few sized })
     go false q =
         let into : readInto l xs ≡ l = rw (ap (λ (n : ℕ). eqb n 0) first ∙ q, readInto) in
         let line : readLine s xs ≡ s = rw (q, readLine) in
         subst (λ (m : Lent). Kept m (readLine s xs)) (sym into) (subst (λ (t : State). Kept l t) (sym line) k)
 
-fits-begin : (T P N I M : List ℕ) → SheetRoom (lent (readerOf start) T P N I M) → fits (lent (readerOf start) T P N I M) ≡ true
-unfolding fitsIn inLimits start
-fits-begin T P N I M room =
-    rw (
-      le-leb 80 (length T) (room .table),
-      le-leb 288 (length P) (room .positions),
-      le-leb 288 (length N) (room .normals),
-      le-leb 96 (length I) (room .indices),
-      le-leb 64 (length M)
-          (room .materials),
-    )
+module _ (limits : Limits) (T P N I M : List ℕ) (room : SheetRoom limits (length T) (length P) (length N) (length I) (length M)) (few : ofBodies limits ≡ true) where
+  fits-begin : fits (lent (readerOf (start limits)) T P N I M) ≡ true
+  unfolding fitsIn inLimits start
+  fits-begin = rw (few, room-holds limits _ _ _ _ _ room, counts-hold limits 0 0 0 (omega arith) (omega arith) (omega arith))
 
--- The slices that `begin` leaves hold the state before the first line.
-pub kept-begin : (T P N I M : List ℕ) → SheetRoom (lent (readerOf start) T P N I M) → take 64 M ≡ replicate 64 0 → Kept (lent (readerOf start) T P N I M) start
-unfolding start
-kept-begin T P N I M room e =
-    let l : Lent = lent (readerOf start) T P N I M in
-    let same : stateOf l ≡ start = ap (λ (ms : List ℕ). record {
-      refusal = 0;
-      place = 0;
-      sheet = record
-          { box = replicate 6 0; sag = 0; default = 0; materials = ms; table = []; positions = []; normals = []; indices = [] };
-    }) e in
-    record { room = room; sized = sized-start; same = same; fit = fits-begin T P N I M room }
+  -- The slices that `begin` leaves hold the state before the first line.
+  pub kept-begin : take (limits .face + 1) M ≡ replicate (limits .face + 1) 0 → Kept (lent (readerOf (start limits)) T P N I M) (start limits)
+  unfolding start
+  kept-begin e =
+      let l : Lent = lent (readerOf (start limits)) T P N I M in
+      let same : stateOf l ≡ start limits = ap (λ (ms : List ℕ). record {
+        limits = limits;
+        refusal = 0;
+        place = 0;
+        sheet = record
+            { box = replicate 6 0; sag = 0; default = 0; materials = ms; table = []; positions = []; normals = []; indices = [] };
+      }) e in
+      record { room = room; few = few; sized = sized-start limits; same = same; fit = fits-begin }
 
 -- The end of the sheet is the definition's.
 pub ended-state : (r : Reader) (T P N I M rest : List ℕ) → stateOf (lent (ended r rest) T P N I M) ≡ finished (stateOf (lent r T P N I M)) rest

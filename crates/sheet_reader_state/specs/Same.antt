@@ -1,7 +1,7 @@
 -- A state as it is, in its slices. Assumes nothing.
 use mathlib.Core.List.{List, [], _∷_}
 use mathlib.Core.Path.{_≡_, refl, sym, _∙_, ap}
-use Prim.Native.Nat.{ℕ, zero, suc, _*_, _/_, _≤_}
+use Prim.Native.Nat.{ℕ, zero, suc, _+_, _*_, _/_, _≤_}
 use native.Mathlib.Omega.{arith}
 use lib.ListN.{length, take}
 use Rattle.sheet_reader_state.specs.declared.Reader.{Reader}
@@ -53,23 +53,23 @@ module _ (s : Reader) (T P N I M : List ℕ) where
     same-indices = sym (counts-of s T P N I M h .indices)
 
     pub rows-fit : 5 * s .rows ≤ length T
-    rows-fit = omega (arith, h .limits .table, h .limits .rows)
+    rows-fit = omega (arith, h .limits .room .table, h .limits .rows)
 
     pub vertices-fit : 3 * s .vertices ≤ length P
-    vertices-fit = omega (arith, h .limits .positions, h .limits .vertices)
+    vertices-fit = omega (arith, h .limits .room .positions, h .limits .vertices)
 
     pub normals-fit : 3 * s .vertices ≤ length N
-    normals-fit = omega (arith, h .limits .normals, h .limits .vertices)
+    normals-fit = omega (arith, h .limits .room .normals, h .limits .vertices)
 
     pub indices-fit : s .indices ≤ length I
-    indices-fit = omega (arith, h .limits .indices, h .limits .counted)
+    indices-fit = omega (arith, h .limits .room .indices, h .limits .counted)
 
   -- a line before the faces: only the reader changes
   pub header : (r : Reader) (s' : State) → r ≡ readerOf s' → s' .sheet .table ≡ take (5 * s .rows) T → s' .sheet .positions ≡ take (3 * s .vertices) P → s' .sheet .normals ≡ take (3 * s .vertices) N
-      → s' .sheet .indices ≡ take (s .indices) I → s' .sheet .materials ≡ take 64 M → lent r T P N I M ≡ over here s'
+      → s' .sheet .indices ≡ take (s .indices) I → s' .sheet .materials ≡ take (s .limits .face + 1) M → lent r T P N I M ≡ over here s'
   header r s' e a b c d f =
       same-lent e (kept (5 * s .rows) T ∙ ap (λ (xs : List ℕ). onto xs T) (sym a)) (kept (3 * s .vertices) P ∙ ap (λ (xs : List ℕ). onto xs P) (sym b))
-      (kept (3 * s .vertices) N ∙ ap (λ (xs : List ℕ). onto xs N) (sym c)) (kept (s .indices) I ∙ ap (λ (xs : List ℕ). onto xs I) (sym d)) (kept 64 M ∙ ap (λ (xs : List ℕ). onto xs M) (sym f))
+      (kept (3 * s .vertices) N ∙ ap (λ (xs : List ℕ). onto xs N) (sym c)) (kept (s .indices) I ∙ ap (λ (xs : List ℕ). onto xs I) (sym d)) (kept (s .limits .face + 1) M ∙ ap (λ (xs : List ℕ). onto xs M) (sym f))
 
   -- the state as it is, in its slices
   pub over-same : Held s T P N I M → here ≡ over here (stateOf here)

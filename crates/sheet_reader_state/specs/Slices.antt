@@ -2,13 +2,15 @@
 use mathlib.Core.Bool.{Bool, true, false, not, _&&_, cond}
 use mathlib.Core.List.{List, [], _∷_, _++_}
 use mathlib.Core.Path.{_≡_}
-use Prim.Native.Nat.{ℕ, _-_, _*_, _/_, _%_}
+use Prim.Native.Nat.{ℕ, _+_, _-_, _*_, _/_, _%_}
 use lib.ListN.{length, take, drop, replicate}
 use lib.Dec.{leb, ltb, eqb}
+use Rattle.body_refusals.specs.TableChecks.{mostRows, tooLarge}
 use Rattle.sheet_lines.specs.Counted.{countIn}
 use Rattle.sheet_lines.specs.Forms.{Line, form}
 use Rattle.sheet_lines.specs.declared.Kind.{Kind}
 use Rattle.sheet_reader_state.specs.declared.Reader.{Reader}
+use Rattle.sheet_line_order.specs.declared.Limits.{Limits}
 use Rattle.sheet_line_order.specs.Reading.{Patterns, State, at, patterns, readLine, start, takeUp, withForm}
 
 -- a reader and the lent slices
@@ -32,7 +34,7 @@ patternsOf l =
     (r .minx ∷ r .miny ∷ r .minz ∷ r .maxx ∷ r .maxy ∷ r .maxz ∷ [])
     (r .sag)
     (r .default)
-    (take 64 (l .materials))
+    (take (r .limits .face + 1) (l .materials))
     (take (5 * r .rows) (l .table))
     (take (3 * r .vertices) (l .positions))
     (take (3 * r .vertices) (l .normals))
@@ -40,13 +42,14 @@ patternsOf l =
 
 -- the state that the reader and its slices stand for
 abbrev pub stateOf : Lent → State
-stateOf l = record { refusal = l .reader .refusal; place = l .reader .place; sheet = patternsOf l }
+stateOf l = record { limits = l .reader .limits; refusal = l .reader .refusal; place = l .reader .place; sheet = patternsOf l }
 
 -- the reader of a state
 abbrev pub readerOf : State → Reader
 readerOf s =
     let x = s .sheet in
     record {
+      limits = s .limits;
       refusal = s .refusal;
       place = s .place;
       rows = length (x .table) / 5;
@@ -75,17 +78,31 @@ over l s =
 -- ---- room
 
 -- the last row's counts are within the limits; without a row no line of a face has been read
-abbrev pub lastFits : ℕ → ℕ → List ℕ → Bool
-lastFits place rows table = cond (eqb rows 0) (ltb place 4) (leb (at table (5 * rows - 2)) 96 && leb (at table (5 * rows - 1)) 96)
+abbrev pub lastFits : Limits → ℕ → ℕ → List ℕ → Bool
+lastFits limits place rows table =
+    cond (eqb rows 0) (ltb place 4) (leb (at table (5 * rows - 2)) (limits .vertices) && leb (at table (5 * rows - 1)) (limits .indices))
 
--- The reader counts no more than 16 rows, 96 vertices and 96 indices, and slices of these lengths have room for these and for 64 materials.
+-- A body may have so many rows, vertices and indices.
+unfoldable pub ofBodies : Limits → Bool
+ofBodies limits = leb (limits .rows) mostRows && not (tooLarge (limits .vertices) (limits .indices))
+
+-- Slices of these lengths have room for so many rows, vertices and indices, and for the material of each face number.
+unfoldable pub roomFor : Limits → ℕ → ℕ → ℕ → ℕ → ℕ → Bool
+roomFor limits table positions normals indices materials =
+    leb (5 * limits .rows) table && (leb (3 * limits .vertices) positions && (leb (3 * limits .vertices) normals && (leb (limits .indices) indices && ltb (limits .face) materials)))
+
+-- The reader counts no more rows, vertices and indices than the limits.
+unfoldable pub countsIn : Limits → ℕ → ℕ → ℕ → Bool
+countsIn limits rows vertices indices = leb rows (limits .rows) && (leb vertices (limits .vertices) && leb indices (limits .indices))
+
+-- The limits are a body's, slices of these lengths have room for them, and the reader counts no more.
 unfoldable pub inLimits : Reader → ℕ → ℕ → ℕ → ℕ → ℕ → Bool
 inLimits r table positions normals indices materials =
-    leb 80 table && (leb 288 positions && (leb 288 normals && (leb 96 indices && (leb 64 materials && (leb (r .rows) 16 && (leb (r .vertices) 96 && leb (r .indices) 96))))))
+    ofBodies (r .limits) && (roomFor (r .limits) table positions normals indices materials && countsIn (r .limits) (r .rows) (r .vertices) (r .indices))
 
 -- that, and the reader counts whole triangles and a last row within the limits
 unfoldable pub fitsIn : Reader → List ℕ → ℕ → ℕ → ℕ → ℕ → Bool
-fitsIn r table positions normals indices materials = inLimits r (length table) positions normals indices materials && (eqb (r .indices % 3) 0 && lastFits (r .place) (r .rows) table)
+fitsIn r table positions normals indices materials = inLimits r (length table) positions normals indices materials && (eqb (r .indices % 3) 0 && lastFits (r .limits) (r .place) (r .rows) table)
 
 -- the same of a reader and its slices
 abbrev pub fits : Lent → Bool
@@ -97,6 +114,7 @@ fits l = fitsIn (l .reader) (l .table) (length (l .positions)) (length (l .norma
 abbrev pub refused : ℕ → Reader → Reader
 refused n r =
     record {
+      limits = r .limits;
       refusal = n;
       place = r .place;
       rows = r .rows;
@@ -143,10 +161,10 @@ readInto l xs = elim (eqb (l .reader .refusal) 0) [
 unfoldable pub ended : Reader → List ℕ → Reader
 ended r rest = cond (eqb (r .refusal) 0 && not (eqb (length rest) 0 && leb 3 (r .place))) (refused 51 r) r
 
--- the reader before the first line, and the materials' slice: 64 zeros, as far as there is room
-pub record Begun (M : List ℕ) (r : Reader) (W : List ℕ) : Type 0 where
-  pub reader : r ≡ readerOf start
-  pub materials : W ≡ take (length M) (replicate 64 0) ++ drop 64 M
+-- the reader before the first line, and the materials' slice: a zero for each face number, as far as there is room
+pub record Begun (limits : Limits) (M : List ℕ) (r : Reader) (W : List ℕ) : Type 0 where
+  pub reader : r ≡ readerOf (start limits)
+  pub materials : W ≡ take (length M) (replicate (limits .face + 1) 0) ++ drop (limits .face + 1) M
 
 -- ---- the readers that lines leave
 
@@ -154,6 +172,7 @@ pub record Begun (M : List ℕ) (r : Reader) (W : List ℕ) : Type 0 where
 abbrev pub boxed : Reader → List ℕ → Reader
 boxed r N =
     record {
+      limits = r .limits;
       refusal = r .refusal;
       place = 1;
       rows = r .rows;
@@ -173,6 +192,7 @@ boxed r N =
 abbrev pub moved : Reader → ℕ → ℕ → ℕ → ℕ → ℕ → ℕ → Reader
 moved r place rows vertices indices default sag =
     record {
+      limits = r .limits;
       refusal = r .refusal;
       place = place;
       rows = rows;

@@ -1,10 +1,13 @@
 // What has been read of a sheet so far.
 //
-// Floats are kept as their bits. The table has five numbers a row, positions and normals three a vertex; 64 faces have a material each, 0 for none
-// and n + 1 for material n.
+// Floats are kept as their bits. The table has five numbers a row, positions and normals three a vertex; each face number within the limits has a
+// material, 0 for none and n + 1 for material n.
 
-// What has been read: the refusal or 0, the place in the order of lines, how much of the slices is written, and what stands in no slice.
+use sheet_line_order::Limits;
+
+// What has been read within a program's limits: the refusal or 0, the place in the order of lines, how much of the slices is written, and what stands in no slice.
 pub struct Reader {
+    pub limits: Limits,
     pub refusal: u32,
     pub place: u32,
     pub rows: usize,

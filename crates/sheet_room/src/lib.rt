@@ -1,27 +1,90 @@
-// Whether the lent slices have room for every sheet, and hold what the reader counts.
+// Whether the lent slices have room for every sheet within the limits, and hold what the reader counts.
 
+use body_table_checks::MOST_ROWS;
+use body_table_checks::too_many;
+use sheet_line_order::Limits;
 use sheet_reader_state::Reader;
 ghost use mathlib.Core.Path.{_≡_};
-ghost use Prim.Native.Nat.{_≤_};
+ghost use Prim.Native.Nat.{_*_, _≤_};
+ghost use lib.Dec.{leb};
 ghost use lib.ListN.{length};
-ghost use Rattle.sheet_reader_state.specs.Slices.{fitsIn, inLimits, lastFits};
+ghost use Rattle.body_refusals.specs.TableChecks.{mostRows};
+ghost use Rattle.sheet_reader_state.specs.Limits.{Small};
+ghost use Rattle.sheet_reader_state.specs.Slices.{countsIn, fitsIn, inLimits, lastFits, ofBodies, roomFor};
+
+// Whether a count is within its limit.
+fn within(count: u32, limit: usize) -> bool
+    ensures { λ r. ⌜ r ≡ leb count limit ⌝ }
+{
+    count as usize <= limit
+}
 
 // Whether the last row's counts are within the limits; without a row no line of a face has been read.
-fn last_fits(place: u32, rows: usize, table: &[u32]) -> bool
-    requires { ⌜ 80 ≤ length (now table) ⌝ }
-    requires { ⌜ rows ≤ 16 ⌝ }
-    ensures { λ r. ⌜ r ≡ lastFits place rows (now (table .entry)) ⌝ }
+fn last_fits(limits: Limits, place: u32, rows: usize, table: &[u32]) -> bool
+    requires { ⌜ 5 * rows ≤ length (now table) ⌝ }
+    requires { ⌜ rows ≤ mostRows ⌝ }
+    ensures { λ r. ⌜ r ≡ lastFits limits place rows (now (table .entry)) ⌝ }
 {
     if rows == 0 {
         return place < 4;
     }
-    if 96 < table[5 * rows - 2] {
+    if !within(table[5 * rows - 2], limits.vertices) {
         return false;
     }
-    table[5 * rows - 1] <= 96
+    within(table[5 * rows - 1], limits.indices)
 }
 
-// Whether the reader counts no more than the limits, and slices of these lengths have room for these.
+// Whether a body may have so many rows, vertices and indices.
+fn of_bodies(limits: Limits) -> bool
+    ensures { λ r. ⌜ r ≡ ofBodies limits ⌝ }
+{
+    if MOST_ROWS < limits.rows {
+        return false;
+    }
+    !too_many(limits.vertices, limits.indices)
+}
+
+// Whether slices of these lengths have room for the limits.
+fn room_for(
+    limits: Limits,
+    table: usize,
+    positions: usize,
+    normals: usize,
+    indices: usize,
+    materials: usize,
+) -> bool
+    requires { ⌜ Small limits ⌝ }
+    ensures { λ r. ⌜ r ≡ roomFor limits table positions normals indices materials ⌝ }
+{
+    if table < 5 * limits.rows {
+        return false;
+    }
+    if positions < 3 * limits.vertices {
+        return false;
+    }
+    if normals < 3 * limits.vertices {
+        return false;
+    }
+    if indices < limits.indices {
+        return false;
+    }
+    (limits.face as usize) < materials
+}
+
+// Whether a reader counts no more than the limits.
+fn counts_in(limits: Limits, rows: usize, vertices: usize, indices: usize) -> bool
+    ensures { λ r. ⌜ r ≡ countsIn limits rows vertices indices ⌝ }
+{
+    if limits.rows < rows {
+        return false;
+    }
+    if limits.vertices < vertices {
+        return false;
+    }
+    indices <= limits.indices
+}
+
+// Whether the limits are a body's, slices of these lengths have room for them, and the reader counts no more.
 pub fn in_limits(
     s: Reader,
     table: usize,
@@ -32,28 +95,14 @@ pub fn in_limits(
 ) -> bool
     ensures { λ r. ⌜ r ≡ inLimits s table positions normals indices materials ⌝ }
 {
-    if table < 80 {
+    let limits = s.limits;
+    if !of_bodies(limits) {
         return false;
     }
-    if positions < 288 {
+    if !room_for(limits, table, positions, normals, indices, materials) {
         return false;
     }
-    if normals < 288 {
-        return false;
-    }
-    if indices < 96 {
-        return false;
-    }
-    if materials < 64 {
-        return false;
-    }
-    if 16 < s.rows {
-        return false;
-    }
-    if 96 < s.vertices {
-        return false;
-    }
-    s.indices <= 96
+    counts_in(limits, s.rows, s.vertices, s.indices)
 }
 
 // Whether the slices, of these lengths, have room and hold what the reader counts.
@@ -73,5 +122,6 @@ pub fn fits(
     if s.indices % 3 != 0 {
         return false;
     }
-    last_fits(s.place, s.rows, table)
+    let limits = s.limits;
+    last_fits(limits, s.place, s.rows, table)
 }

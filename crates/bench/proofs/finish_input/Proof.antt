@@ -1,12 +1,13 @@
 -- `finish_input` writes what the program is to print of what was fed. Assumes nothing.
-use Prim.Native.Nat.{ℕ}
-use native.Mathlib.Omega.{arith}
-use lib.ListN.{replicate, length-replicate}
-use Rattle.bench_feed.specs.FeedingLaws.{fed-answered, fed-begin}
+use Rattle.bench_feed.specs.FeedingLaws.{fed-answered, fed-within}
 use Rattle.bench_finish.specs.Whole.{told-count}
+use Rattle.bench.proofs.BenchLaws.{bench-begins}
 use borrow.Author.Needs.{needs}
 use Rattle.bench.proofs.finish_input.Statement.{statement}
 use Rattle.bench.proofs.finish_input.Tie as tie
+
+limits-requires : tie.Need-limits-requires
+limits-requires c κs = search needs
 
 slice-aggregate-begin : tie.Need-slice-aggregate-begin
 slice-aggregate-begin c = search needs
@@ -57,34 +58,13 @@ slice-aggregate-answer-sheet-5 : tie.Need-slice-aggregate-answer-sheet-5
 slice-aggregate-answer-sheet-5 c = search needs
 
 answer-sheet-requires : tie.Need-answer-sheet-requires
-answer-sheet-requires c κs = search needs
+answer-sheet-requires c κs = fed-within _ _ _ _ _ _ _ _ _ _ _ _ _ _ _ _ (bench-begins _ _ _ (c .before .before .before .before .before .before .before .before .before .before .before .before .before .before .before .before .before .before .before .before .before .before .before .before .limits .ensures) (c .before .before .before .before .before .before .before .before .before .before .before .before .before .before .before .before .before .before .before .before .before .before .begin .ensures)) (c .before .before .before .before .before .before .before .before .before .before .before .before .before .before .read-all .ensures) (c .before .before .before .before .before .before .end-text .ensures)
 
 same-length : tie.Need-same-length
 same-length c = search needs
 
 returns : tie.Need-returns
-returns c = (fed-answered _ _ _ _ _ _ _ _ _ _ _ _ _ _ _ _ _ _ (fed-begin (replicate 108 0) (replicate 80 0) (replicate 288 0) (replicate 288 0) (replicate 96 0) (replicate 64 0) _ _ (c .before .before .before .before .before .before .before .before .before .before .before .before .before .before .before .before .before .before .before .before .before .before .before .before .before .begin .ensures) (omega (arith, length-replicate {A = ℕ} 108 0)) (omega (arith, length-replicate {A = ℕ} 80 0)) (omega (arith, length-replicate {A = ℕ} 288 0)) (omega (arith, length-replicate {A = ℕ} 288 0)) (omega (arith, length-replicate {A = ℕ} 96 0)) (omega (arith, length-replicate {A = ℕ} 64 0))) (c .before .before .before .before .before .before .before .before .before .before .before .before .before .before .before .before .before .read-all .ensures) (c .before .before .before .before .before .before .before .before .before .end-text .ensures) (c .before .before .answer-sheet .ensures), told-count _ _ _ _ (c .before .before .answer-sheet .ensures))
+returns c = (fed-answered _ _ _ _ _ _ _ _ _ _ _ _ _ _ _ _ (bench-begins _ _ _ (c .before .before .before .before .before .before .before .before .before .before .before .before .before .before .before .before .before .before .before .before .before .before .before .before .before .before .before .limits .ensures) (c .before .before .before .before .before .before .before .before .before .before .before .before .before .before .before .before .before .before .before .before .before .before .before .before .before .begin .ensures)) (c .before .before .before .before .before .before .before .before .before .before .before .before .before .before .before .before .before .read-all .ensures) (c .before .before .before .before .before .before .before .before .before .end-text .ensures) _ _ _ (c .before .before .answer-sheet .ensures), told-count _ _ _ _ (c .before .before .answer-sheet .ensures))
 
 pub finish-input-spec : {M : Type 1} → statement M
-finish-input-spec =
-    tie.close
-    (tie.spec
-    slice-aggregate-begin
-    begin-requires
-    slice-aggregate-read-all
-    slice-aggregate-read-all-2
-    slice-aggregate-read-all-3
-    slice-aggregate-read-all-4
-    slice-aggregate-read-all-5
-    slice-aggregate-read-all-6
-    read-all-requires
-    slice-aggregate-end-text
-    end-text-requires
-    slice-aggregate-answer-sheet
-    slice-aggregate-answer-sheet-2
-    slice-aggregate-answer-sheet-3
-    slice-aggregate-answer-sheet-4
-    slice-aggregate-answer-sheet-5
-    answer-sheet-requires
-    same-length
-    returns)
+finish-input-spec = tie.close (tie.spec limits-requires slice-aggregate-begin begin-requires slice-aggregate-read-all slice-aggregate-read-all-2 slice-aggregate-read-all-3 slice-aggregate-read-all-4 slice-aggregate-read-all-5 slice-aggregate-read-all-6 read-all-requires slice-aggregate-end-text end-text-requires slice-aggregate-answer-sheet slice-aggregate-answer-sheet-2 slice-aggregate-answer-sheet-3 slice-aggregate-answer-sheet-4 slice-aggregate-answer-sheet-5 answer-sheet-requires same-length returns)

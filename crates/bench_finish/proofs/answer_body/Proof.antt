@@ -58,8 +58,8 @@ sag-of-requires c κs = search needs
 box-of-requires : tie.Need-box-of-requires
 box-of-requires c κs = search needs
 
-front-long-requires : tie.Need-front-long-requires
-front-long-requires c κs = search needs
+materials-to-requires : tie.Need-materials-to-requires
+materials-to-requires c κs = search needs
 
 finish-fronts-requires : tie.Need-finish-fronts-requires
 finish-fronts-requires c κs = search needs
@@ -68,7 +68,7 @@ same-length : tie.Need-same-length
 same-length c = search needs
 
 returns : tie.Need-returns
-returns c = body-told _ _ _ _ _ (c .before .before .before .before .before .before .before .before .before .before .before .before .before .before .before .before .before .before .before .before .before .before .before .before .before .before .before .before .before .before .before .before .before .args .materials .now) (c .before .before .before .before .before .before .before .before .before .before .before .before .before .before .before .before .before .before .before .before .before .before .before .before .before .before .before .before .before .before .before .before .before .pre) _ _ _ _ _ (replicate 288 (f32 0)) (replicate 288 (f32 0)) _ _ (replicate 96 0) _ _ _ _ _ _ (c .before .before .before .before .before .before .before .before .before .before .before .before .before .before .before .before .before .before .before .before .before .before .before .before .front .ensures) (c .before .before .before .before .before .before .before .before .before .before .before .before .before .before .before .before .before .before .before .before .front2 .ensures) (c .before .before .before .before .before .before .before .before .before .before .before .before .before .before .before .before .front3 .ensures) (c .before .before .before .before .before .before .before .before .before .before .before .before .front4 .ensures) (c .before .before .before .before .before .before .front-long .ensures) (c .before .before .before .before .before .before .before .before .before .before .before .before .before .before .before .before .before .before .before .before .before .before .floats-of .ensures) (c .before .before .before .before .before .before .before .before .before .before .before .before .before .before .before .before .before .before .floats-of2 .ensures) (c .before .before .before .before .before .before .before .before .before .before .before .before .before .before .copy .ensures) (c .before .before .before .before .before .before .before .before .sag-of .ensures) (c .before .before .before .before .before .before .before .box-of .ensures) (c .before .before .before .before .finish-fronts .ensures) (length-replicate 288 (f32 0)) (length-replicate 288 (f32 0)) (length-replicate {A = ℕ} 96 0)
+returns c = body-told _ _ _ _ _ (c .before .before .before .before .before .before .before .before .before .before .before .before .before .before .before .before .before .before .before .before .before .before .before .before .before .before .before .before .before .before .before .before .before .args .materials .now) (c .before .before .before .before .before .before .before .before .before .before .before .before .before .before .before .before .before .before .before .before .before .before .before .before .before .before .before .before .before .before .before .before .before .pre .0) (c .before .before .before .before .before .before .before .before .before .before .before .before .before .before .before .before .before .before .before .before .before .before .before .before .before .before .before .before .before .before .before .before .before .pre .1) _ _ _ _ _ (replicate 288 (f32 0)) (replicate 288 (f32 0)) _ _ (replicate 96 0) _ _ _ _ _ _ (c .before .before .before .before .before .before .before .before .before .before .before .before .before .before .before .before .before .before .before .before .before .before .before .before .front .ensures) (c .before .before .before .before .before .before .before .before .before .before .before .before .before .before .before .before .before .before .before .before .front2 .ensures) (c .before .before .before .before .before .before .before .before .before .before .before .before .before .before .before .before .front3 .ensures) (c .before .before .before .before .before .before .before .before .before .before .before .before .front4 .ensures) (c .before .before .before .before .before .before .materials-to .ensures) (c .before .before .before .before .before .before .before .before .before .before .before .before .before .before .before .before .before .before .before .before .before .before .floats-of .ensures) (c .before .before .before .before .before .before .before .before .before .before .before .before .before .before .before .before .before .before .floats-of2 .ensures) (c .before .before .before .before .before .before .before .before .before .before .before .before .before .before .copy .ensures) (c .before .before .before .before .before .before .before .before .sag-of .ensures) (c .before .before .before .before .before .before .before .box-of .ensures) (c .before .before .before .before .finish-fronts .ensures) (length-replicate 288 (f32 0)) (length-replicate 288 (f32 0)) (length-replicate {A = ℕ} 96 0)
 
 pub answer-body-spec : {M : Type 1} → statement M
 answer-body-spec =
@@ -91,7 +91,7 @@ answer-body-spec =
     slice-aggregate-finish-fronts-3
     sag-of-requires
     box-of-requires
-    front-long-requires
+    materials-to-requires
     finish-fronts-requires
     same-length
     returns)

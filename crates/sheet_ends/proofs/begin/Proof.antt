@@ -16,6 +16,9 @@ same-length c = search needs
 returns : tie.Need-returns
 returns c = search (needs, begun-short)
 
+add-clear : tie.Need-add-clear
+add-clear c = search needs
+
 clear-requires-2 : tie.Need-clear-requires-2
 clear-requires-2 c κs = search needs
 
@@ -36,6 +39,7 @@ begin-spec =
     fresh-requires
     same-length
     returns
+    add-clear
     clear-requires-2
     fresh-requires-2
     same-length-2

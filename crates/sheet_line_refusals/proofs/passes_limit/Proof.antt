@@ -43,6 +43,9 @@ enum-told-7 c = search needs
 enum-told-8 : tie.Need-enum-told-8
 enum-told-8 c = search needs
 
+triangle-passes-requires : tie.Need-triangle-passes-requires
+triangle-passes-requires c κs = search needs
+
 enum-told-9 : tie.Need-enum-told-9
 enum-told-9 c = search needs
 
@@ -54,26 +57,26 @@ row-passes-requires-2 c κs = search needs
 
 returns : tie.Need-returns
 unfolding passesLimit
-returns c = limit-none _ _ _ _ _ Box (λ ns x. refl) (c .enum-told .given .1)
+returns c = limit-none _ _ _ _ _ _ Box (λ ns x. refl) (c .enum-told .given .1)
 
 returns-2 : tie.Need-returns-2
 unfolding passesLimit
-returns-2 c = limit-none _ _ _ _ _ Sag (λ ns x. refl) (c .enum-told2 .given .1)
+returns-2 c = limit-none _ _ _ _ _ _ Sag (λ ns x. refl) (c .enum-told2 .given .1)
 
 returns-3 : tie.Need-returns-3
 unfolding passesLimit
-returns-3 c = limit-none _ _ _ _ _ NoDefault (λ ns x. refl) (c .enum-told3 .given .1)
+returns-3 c = limit-none _ _ _ _ _ _ NoDefault (λ ns x. refl) (c .enum-told3 .given .1)
 
 returns-4 : tie.Need-returns-4
 unfolding passesLimit
-returns-4 c = limit-none _ _ _ _ _ Default (λ ns x. refl) (c .enum-told4 .given .1)
+returns-4 c = limit-none _ _ _ _ _ _ Default (λ ns x. refl) (c .enum-told4 .given .1)
 
 returns-5 : tie.Need-returns-5
 returns-5 c = search (needs, limit-material)
 
 returns-6 : tie.Need-returns-6
 unfolding passesLimit form numbers countIn
-returns-6 c = limit-row _ _ _ _ _ Face (omega arith) (λ ns x. refl) _ (c .before .before .enum-told6 .given .1) (c .row-passes .ensures)
+returns-6 c = limit-row _ _ _ _ _ _ Face (omega arith) (λ ns x. refl) _ (c .before .before .enum-told6 .given .1) (c .row-passes .ensures)
 
 returns-7 : tie.Need-returns-7
 returns-7 c = search (needs, limit-vertex)
@@ -83,7 +86,7 @@ returns-8 c = search (needs, limit-triangle)
 
 returns-9 : tie.Need-returns-9
 unfolding passesLimit form numbers countIn
-returns-9 c = limit-row _ _ _ _ _ Fail (omega arith) (λ ns x. refl) _ (c .before .before .enum-told9 .given .1) (c .row-passes2 .ensures)
+returns-9 c = limit-row _ _ _ _ _ _ Fail (omega arith) (λ ns x. refl) _ (c .before .before .enum-told9 .given .1) (c .row-passes2 .ensures)
 
 pub passes-limit-spec : {M : Type 1} → statement M
 passes-limit-spec =
@@ -100,6 +103,7 @@ passes-limit-spec =
     row-passes-requires
     enum-told-7
     enum-told-8
+    triangle-passes-requires
     enum-told-9
     shared-slice-read-row-passes-2
     row-passes-requires-2

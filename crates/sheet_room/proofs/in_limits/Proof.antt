@@ -1,34 +1,26 @@
 -- `in_limits` meets its contract. Assumes nothing.
-use Rattle.sheet_room.proofs.RoomLaws.{all-else, many-rows, many-vertices, short-indices, short-materials, short-normals, short-positions, short-table}
+use Rattle.sheet_room.proofs.RoomLaws.{counts-too, no-body, of-body, too-short}
 use borrow.Author.Needs.{needs}
 use Rattle.sheet_room.proofs.in_limits.Statement.{statement}
 use Rattle.sheet_room.proofs.in_limits.Tie as tie
 
+of-bodies-requires : tie.Need-of-bodies-requires
+of-bodies-requires c κs = search needs
+
 returns : tie.Need-returns
-returns c = search (needs, short-table)
+returns c = search (needs, no-body)
+
+room-for-requires : tie.Need-room-for-requires
+room-for-requires c κs = search (needs, of-body)
 
 returns-2 : tie.Need-returns-2
-returns-2 c = search (needs, short-positions)
+returns-2 c = search (needs, too-short)
+
+counts-in-requires : tie.Need-counts-in-requires
+counts-in-requires c κs = search needs
 
 returns-3 : tie.Need-returns-3
-returns-3 c = search (needs, short-normals)
-
-returns-4 : tie.Need-returns-4
-returns-4 c = search (needs, short-indices)
-
-returns-5 : tie.Need-returns-5
-returns-5 c = search (needs, short-materials)
-
-returns-6 : tie.Need-returns-6
-returns-6 c = search (needs, many-rows)
-
-returns-7 : tie.Need-returns-7
-returns-7 c = search (needs, many-vertices)
-
-returns-8 : tie.Need-returns-8
-returns-8 c = search (needs, all-else)
+returns-3 c = search (needs, counts-too)
 
 pub in-limits-spec : {M : Type 1} → statement M
-in-limits-spec =
-    tie.close
-    (tie.spec returns returns-2 returns-3 returns-4 returns-5 returns-6 returns-7 returns-8)
+in-limits-spec = tie.close (tie.spec of-bodies-requires returns room-for-requires returns-2 counts-in-requires returns-3)
