@@ -146,7 +146,8 @@ inner true false x y z e = let n : _≡_ {A = ℕ} 0 1 = cc in absurd (omega ari
 inner false false x y z e = refl
 
 -- what is printed of a reader and its slices is what is printed of a text that says the same
-answer-same : (limits : Limits) (l : Lent) (text : List ℕ) → stateOf l ≡ sheetOf limits text → inLimits (l .reader) (length (l .table)) (length (l .positions)) (length (l .normals)) (length (l .indices))
+answer-same : (limits : Limits) (l : Lent) (text : List ℕ) → stateOf l ≡ sheetOf limits text
+    → inLimits (l .reader) (length (l .table)) (length (l .positions)) (length (l .normals)) (length (l .indices))
     (length (l .materials)) ≡ true
     → answerIn l ≡ program limits text
 unfolding answerIn said program
@@ -182,7 +183,8 @@ module _ (f : Fed) (line table positions normals indices materials : List ℕ) w
   pub fed-byte : (c : ℕ) (front line' : List ℕ) (n : ℕ) → (c ≡ 10 → ⊥) → front ≡ take (f .length) line → Wrote line (length front) (c ∷ []) line' n
       → Fed-on (c ∷ []) f line table positions normals indices materials (record { reader = f .reader; length = n }) line' table positions normals indices materials
   fed-byte c front line' n q e p =
-      record { goes = λ limits text v. byte-fed limits text f line table positions normals indices materials v c line' n (ne-eqb c 10 q) (subst (λ (xs : List ℕ). Wrote line (length xs) (c ∷ []) line' n) e p) }
+      let w : Wrote line (length (take (f .length) line)) (c ∷ []) line' n = subst (λ (xs : List ℕ). Wrote line (length xs) (c ∷ []) line' n) e p in
+      record { goes = λ limits text v. byte-fed limits text f line table positions normals indices materials v c line' n (ne-eqb c 10 q) w }
 
   pub kept-within : (front : List ℕ) → front ≡ take (f .length) line → length front ≤ length line
   kept-within front e = omega (arith, ap length e, length-take (f .length) line)

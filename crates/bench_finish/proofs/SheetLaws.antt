@@ -83,7 +83,8 @@ module _ (s : Reader) (T P N I M : List ℕ) (l : s .limits ≡ benchLimits) (v 
       let long-normals : n ≤ length BN = omega (arith, ap length ns, length-map (take n N) f32, length-take-le n N (omega (arith, v .vertices, v .room .normals)), length-take n BN) in
       let long-indices : s .indices ≤ length BI = omega (arith, ap length is, length-take-le (s .indices) I (omega (arith, v .room .indices, v .counted)), length-take (s .indices) BI) in
       let same : finishedText FT (take n BP) (take n BN) (take (s .indices) BI) sag box FM (s .default) ≡ printed (finish (s .limits) (meant (patternsOf (lent s T P N I M)))) =
-      (λ j. finishedText (ft j) (ps j) (ns j) (is j) (es j) (eb j) (fm j) (s .default)) ∙ sym (printed-finish (meant (patternsOf (lent s T P N I M)))) ∙ ap (λ (x : Limits). printed (finish x (meant (patternsOf (lent s T P N I M))))) (sym l) in
+      (λ j. finishedText (ft j) (ps j) (ns j) (is j) (es j) (eb j) (fm j) (s .default)) ∙ sym (printed-finish (meant (patternsOf (lent s T P N I M))))
+      ∙ ap (λ (x : Limits). printed (finish x (meant (patternsOf (lent s T P N I M))))) (sym l) in
       subst (λ (x : List ℕ). Told E x W r) same (said .says long-normals long-indices)
 
 -- ---- the sheet

@@ -13,7 +13,8 @@ use Rattle.sheet_reader_state.specs.Slices.{Begun, ended, readerOf, refused}
 
 -- ---- the beginning
 pub fresh-is : (limits : Limits)
-    → record { limits = limits; refusal = 0; place = 0; rows = 0; vertices = 0; indices = 0; default = 0; sag = 0; minx = 0; miny = 0; minz = 0; maxx = 0; maxy = 0; maxz = 0 } ≡ readerOf (start limits)
+    → record { limits = limits; refusal = 0; place = 0; rows = 0; vertices = 0; indices = 0; default = 0; sag = 0; minx = 0; miny = 0; minz = 0; maxx = 0; maxy = 0; maxz = 0 }
+    ≡ readerOf (start limits)
 unfolding start
 fresh-is limits = refl
 

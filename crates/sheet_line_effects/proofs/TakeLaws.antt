@@ -139,14 +139,18 @@ module _ (s : Reader) (T P N I M : List ℕ) where
         (kept (s .limits .face + 1) M)
 
   few-rows : (x : Bool) → Held s T P N I M → x || leb (5 * s .limits .rows) (length (take (5 * s .rows) T)) ≡ false → s .rows < s .limits .rows
-  few-rows x h e = omega (arith, leb-false (5 * s .limits .rows) (length (take (5 * s .rows) T)) (or-right x (leb (5 * s .limits .rows) (length (take (5 * s .rows) T))) e), counts-of s T P N I M h .table)
+  few-rows x h e =
+      let n : ℕ = length (take (5 * s .rows) T) in
+      omega (arith, leb-false (5 * s .limits .rows) n (or-right x (leb (5 * s .limits .rows) n) e), counts-of s T P N I M h .table)
 
   -- a line that opens a row has room for it
-  row-room : (k : Kind) → ((ms : List ℕ) (x : Patterns) → passesLimit (s .limits) k ms x ≡ ltb (s .limits .face) (at ms 1) || leb (5 * s .limits .rows) (length (x .table))) → (ns : List ℕ) → Ready here k ns → RowRoom s T
+  row-room : (k : Kind)
+      → ((ms : List ℕ) (x : Patterns) → passesLimit (s .limits) k ms x ≡ ltb (s .limits .face) (at ms 1) || leb (5 * s .limits .rows) (length (x .table))) → (ns : List ℕ) → Ready here k ns → RowRoom s T
   row-room k is ns v =
       let h = held-of s T P N I M (v .fitting .roomy .held) in
       let ok : Passed (lineFrom k ns) (stateOf here) = passed _ _ (v .taken) in
-      let few : s .rows < s .limits .rows = few-rows (ltb (s .limits .face) (at (lineFrom k ns .numbers) 1)) h (sym (is (lineFrom k ns .numbers) (patternsOf here)) ∙ ok .limit) in
+      let few : s .rows < s .limits .rows =
+      few-rows (ltb (s .limits .face) (at (lineFrom k ns .numbers) 1)) h (sym (is (lineFrom k ns .numbers) (patternsOf here)) ∙ ok .limit) in
       record { rows = omega (arith, h .limits .few .rows); table = omega (arith, h .limits .room .table) }
 
   face-six : (r : Reader) (a b c d e f : ℕ) (rest W : List ℕ) → Ready here Face (a ∷ b ∷ c ∷ d ∷ e ∷ f ∷ rest) → RowAdded s T a b 0 4 r W
@@ -312,7 +316,8 @@ module _ (s : Reader) (T P N I M : List ℕ) where
         six (λ xs. Ready here Material xs → W ≡ set M (getD xs 0 0) (getD xs 1 0 % 2 ^ 32 + 1) → lent s T P N I W ≡ takenUp here Material xs) (λ a b c d e f rest. material-six s a b c d e f rest W) ns
         (v .fitting .long) (ready Material e) q ∙ back-to Material e
 
-    pub open-room : (j : Kind) → ((ms : List ℕ) (x : Patterns) → passesLimit (s .limits) j ms x ≡ ltb (s .limits .face) (at ms 1) || leb (5 * s .limits .rows) (length (x .table))) → k ≡ j → RowRoom s T
+    pub open-room : (j : Kind)
+        → ((ms : List ℕ) (x : Patterns) → passesLimit (s .limits) j ms x ≡ ltb (s .limits .face) (at ms 1) || leb (5 * s .limits .rows) (length (x .table))) → k ≡ j → RowRoom s T
     open-room j is e = row-room j is ns (ready j e)
 
     pub take-face : (r : Reader) (W : List ℕ) → k ≡ Face → RowAdded s T (getD ns 0 0) (getD ns 1 0) 0 4 r W → lent r W P N I M ≡ takenUp here k ns

@@ -119,7 +119,8 @@ module _ (limits : Limits) (place rows vertices indices : ℕ) (k : Kind) (ns : 
       }
 
   module _ (o : not a ≡ false) (b : Bool) (q : b ≡ failsWithZero k ns) where
-    tests : (n : ℕ) (x : Patterns) (c : Bool) → c ≡ passesLimit limits k ns x → lineRefusal (record { kind = k; numbers = ns }) (record { limits = limits; refusal = n; place = place; sheet = x }) ≡ of-tests true b c
+    tests : (n : ℕ) (x : Patterns) (c : Bool) → c ≡ passesLimit limits k ns x
+        → lineRefusal (record { kind = k; numbers = ns }) (record { limits = limits; refusal = n; place = place; sheet = x }) ≡ of-tests true b c
     tests n x c r =
         let y : State = record { limits = limits; refusal = n; place = place; sheet = x } in
         refusal-is y k ns a b c p q r ∙ ap (λ (z : Bool). of-tests z b c) (not-false a o)

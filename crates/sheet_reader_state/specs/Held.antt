@@ -51,7 +51,9 @@ module _ (s : Reader) (T P N I M : List ℕ) (h : Held s T P N I M) where
           ne-of q e = let t : true ≡ false = sym (eq-eqb (s .rows) 0 e) ∙ q in let z : _≡_ {A = ℕ} 0 1 = cc in omega arith
 
   both : 0 < s .rows → leb (at T (5 * s .rows - 2)) (s .limits .vertices) && leb (at T (5 * s .rows - 1)) (s .limits .indices) ≡ true
-  both l = sym (ap (λ (b : Bool). cond b (ltb (s .place) 4) (leb (at T (5 * s .rows - 2)) (s .limits .vertices) && leb (at T (5 * s .rows - 1)) (s .limits .indices))) (ne-eqb (s .rows) 0 (λ e. omega arith))) ∙ h .last
+  both l =
+      sym (ap (λ (b : Bool). cond b (ltb (s .place) 4) (leb (at T (5 * s .rows - 2)) (s .limits .vertices) && leb (at T (5 * s .rows - 1)) (s .limits .indices)))
+      (ne-eqb (s .rows) 0 (λ e. omega arith))) ∙ h .last
 
   pub last-vertex : 0 < s .rows → at T (5 * s .rows - 2) ≤ s .limits .vertices
   last-vertex l = leb-true (at T (5 * s .rows - 2)) (s .limits .vertices) (and-left (leb (at T (5 * s .rows - 2)) (s .limits .vertices)) (leb (at T (5 * s .rows - 1)) (s .limits .indices)) (both l))

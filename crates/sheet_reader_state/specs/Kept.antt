@@ -95,7 +95,8 @@ module _ (T row : List ℕ) (rows : ℕ) (e : length T ≡ 5 * rows) where
 
 module _ (s : State) (v : Sized s) where
   -- a line before the faces
-  header : (k : Kind) (x : Patterns) → length (x .box) ≡ 6 → length (x .materials) ≡ s .limits .face + 1 → x .table ≡ s .sheet .table → x .positions ≡ s .sheet .positions → x .normals ≡ s .sheet .normals
+  header : (k : Kind) (x : Patterns) → length (x .box) ≡ 6 → length (x .materials) ≡ s .limits .face + 1 → x .table ≡ s .sheet .table → x .positions ≡ s .sheet .positions
+      → x .normals ≡ s .sheet .normals
       → x .indices ≡ s .sheet .indices → orderOf k .then < 4
       → Sized (record { limits = s .limits; refusal = 0; place = orderOf k .then; sheet = x })
   header k x b m t p n i l =
@@ -174,7 +175,8 @@ module _ (s : State) (v : Sized s) where
         ap (λ (i : ℕ). at (set table (i - back) (at table (i - back) + n)) (5 * v .rows - other)) (v .table)
         ∙ getD-set-other table (5 * v .rows - back) (5 * v .rows - other) (at table (5 * v .rows - back) + n) 0 ne
 
-  vertex-more : (ns : List ℕ) → length ns ≡ 6 → 3 < s .place → leb (3 * s .limits .vertices) (length (s .sheet .positions)) ≡ false → Sized (record { limits = s .limits; refusal = 0; place = 4; sheet = withLine Vertex ns (s .sheet) })
+  vertex-more : (ns : List ℕ) → length ns ≡ 6 → 3 < s .place → leb (3 * s .limits .vertices) (length (s .sheet .positions)) ≡ false
+      → Sized (record { limits = s .limits; refusal = 0; place = 4; sheet = withLine Vertex ns (s .sheet) })
   unfolding withLine
   vertex-more ns six far l =
       let row : 0 < v .rows = some-row far in
@@ -199,7 +201,8 @@ module _ (s : State) (v : Sized s) where
         last-indices = omega (arith, raised-other row 2 1 1 (λ q. omega arith), v .last-indices);
       }
 
-  triangle-more : (ns : List ℕ) → length ns ≡ 3 → 3 < s .place → ltb (s .limits .indices) (length (s .sheet .indices) + 3) ≡ false → Sized (record { limits = s .limits; refusal = 0; place = 5; sheet = withLine Triangle ns (s .sheet) })
+  triangle-more : (ns : List ℕ) → length ns ≡ 3 → 3 < s .place → ltb (s .limits .indices) (length (s .sheet .indices) + 3) ≡ false
+      → Sized (record { limits = s .limits; refusal = 0; place = 5; sheet = withLine Triangle ns (s .sheet) })
   unfolding withLine
   triangle-more ns three far l =
       let row : 0 < v .rows = some-row far in
@@ -297,8 +300,10 @@ module _ (l : Lent) (s : State) (room : RoomIn (s .limits) l) (few : ofBodies (s
   last-over (suc n) e =
       let T : List ℕ = s .sheet .table in
       let long : length T ≡ 5 * suc n = v .table ∙ ap (λ (k : ℕ). 5 * k) (sym e) in
-      let a : at (onto T (l .table)) (5 * suc n - 2) ≤ s .limits .vertices = omega (arith, onto-at T (l .table) (5 * suc n - 2) (omega arith), v .last-vertices, v .few-vertices, ap (λ (k : ℕ). at T (5 * k - 2)) e) in
-      let b : at (onto T (l .table)) (5 * suc n - 1) ≤ s .limits .indices = omega (arith, onto-at T (l .table) (5 * suc n - 1) (omega arith), v .last-indices, v .few-triangles, ap (λ (k : ℕ). at T (5 * k - 1)) e) in
+      let a : at (onto T (l .table)) (5 * suc n - 2) ≤ s .limits .vertices =
+      omega (arith, onto-at T (l .table) (5 * suc n - 2) (omega arith), v .last-vertices, v .few-vertices, ap (λ (k : ℕ). at T (5 * k - 2)) e) in
+      let b : at (onto T (l .table)) (5 * suc n - 1) ≤ s .limits .indices =
+      omega (arith, onto-at T (l .table) (5 * suc n - 1) (omega arith), v .last-indices, v .few-triangles, ap (λ (k : ℕ). at T (5 * k - 1)) e) in
       rw (ne-eqb (suc n) 0 (λ q. omega arith), le-leb (at (onto T (l .table)) (5 * suc n - 2)) (s .limits .vertices) a, le-leb (at (onto T (l .table)) (5 * suc n - 1)) (s .limits .indices) b)
 
   room-over : RoomIn (s .limits) (over l s)

@@ -69,7 +69,8 @@ module _ (s : Reader) (T P N I M : List ℕ) where
       → s' .sheet .indices ≡ take (s .indices) I → s' .sheet .materials ≡ take (s .limits .face + 1) M → lent r T P N I M ≡ over here s'
   header r s' e a b c d f =
       same-lent e (kept (5 * s .rows) T ∙ ap (λ (xs : List ℕ). onto xs T) (sym a)) (kept (3 * s .vertices) P ∙ ap (λ (xs : List ℕ). onto xs P) (sym b))
-      (kept (3 * s .vertices) N ∙ ap (λ (xs : List ℕ). onto xs N) (sym c)) (kept (s .indices) I ∙ ap (λ (xs : List ℕ). onto xs I) (sym d)) (kept (s .limits .face + 1) M ∙ ap (λ (xs : List ℕ). onto xs M) (sym f))
+      (kept (3 * s .vertices) N ∙ ap (λ (xs : List ℕ). onto xs N) (sym c)) (kept (s .indices) I ∙ ap (λ (xs : List ℕ). onto xs I) (sym d))
+      (kept (s .limits .face + 1) M ∙ ap (λ (xs : List ℕ). onto xs M) (sym f))
 
   -- the state as it is, in its slices
   pub over-same : Held s T P N I M → here ≡ over here (stateOf here)
