@@ -1,4 +1,4 @@
-// The last of the three calls, in arrays for results to 16 rows, 192 vertices and 192 indices, and what is printed of its answer.
+// The last of the three calls, in lent slices, and what is printed of its answer.
 
 use mesh_assemble::assemble;
 use mesh_definition::Assembled;
@@ -10,9 +10,8 @@ use sheet_answer_text::Sizes;
 use sheet_answer_text::Tallies;
 use turn_definition::TurnCounts;
 ghost use mathlib.Core.Path.{_≡_};
-ghost use Rattle.sheet_answer_text.specs.Longest.{MeshInLimits};
 ghost use Rattle.bench_call_texts.specs.Told.{Told};
-ghost use Rattle.bench_call_texts.specs.Texts.{MeshSaid, assembledText, sizedFrom, talliedFrom};
+ghost use Rattle.bench_call_texts.specs.Texts.{MeshSaid, assembledText, bytesIn, meshIn, sizedFrom, talliedFrom};
 
 // How much assemble wrote.
 fn sizes_of(c: MeshCounts) -> Sizes
@@ -56,7 +55,6 @@ fn print_mesh(
     failures: &[u64],
     out: &mut [u8],
 ) -> usize
-    requires { ⌜ MeshInLimits (now positions) (now indices) (now parts) (now ranges) (now failures) ⌝ }
     ensures { λ r. ⌜ MeshSaid t splits given (now (positions .entry)) (now (normals .entry)) (now (indices .entry)) (now (parts .entry)) (now (ranges .entry))
         (now (failures .entry)) (now (out .entry)) (now (out .exit)) r ⌝ }
 {
@@ -87,18 +85,22 @@ pub fn assemble_next(
     default: u64,
     t: TurnCounts,
     splits: u64,
+    mesh_positions: &mut [f32],
+    mesh_normals: &mut [f32],
+    mesh_indices: &mut [u32],
+    parts: &mut [u32],
+    ranges: &mut [u32],
+    failures: &mut [u64],
+    work: &mut [u64],
     out: &mut [u8],
 ) -> usize
-    ensures { λ r. ⌜ Told (now (out .entry)) (assembledText (now (rows .entry)) (now (positions .entry)) (now (normals .entry)) (now (indices .entry)) reference
-        (now (materials .entry)) default t splits) (now (out .exit)) r ⌝ }
+    ensures { λ r. ⌜ Told (bytesIn
+        (meshIn (now («mesh_positions» .entry)) (now («mesh_normals» .entry)) (now («mesh_indices» .entry)) (now (parts .entry)) (now (ranges .entry))
+        (now (failures .entry)))) (now (out .entry))
+        (assembledText (now (rows .entry)) (now (positions .entry)) (now (normals .entry)) (now (indices .entry)) reference (now (materials .entry)) default
+        t splits ((meshIn (now («mesh_positions» .entry)) (now («mesh_normals» .entry)) (now («mesh_indices» .entry)) (now (parts .entry)) (now (ranges .entry))
+        (now (failures .entry))) (now (work .entry)))) (now (out .exit)) r ⌝ }
 {
-    let mut mesh_positions = [0.0f32; 576];
-    let mut mesh_normals = [0.0f32; 576];
-    let mut mesh_indices = [0u32; 192];
-    let mut parts = [0u32; 48];
-    let mut ranges = [0u32; 48];
-    let mut failures = [0u64; 64];
-    let mut work = [0u64; 4096];
     let given = assemble(
         rows,
         positions,
@@ -107,24 +109,24 @@ pub fn assemble_next(
         reference,
         materials,
         default,
-        &mut mesh_positions,
-        &mut mesh_normals,
-        &mut mesh_indices,
-        &mut parts,
-        &mut ranges,
-        &mut failures,
-        &mut work,
+        mesh_positions,
+        mesh_normals,
+        mesh_indices,
+        parts,
+        ranges,
+        failures,
+        work,
     );
     print_mesh(
         given,
         t,
         splits,
-        &mesh_positions,
-        &mesh_normals,
-        &mesh_indices,
-        &parts,
-        &ranges,
-        &failures,
+        mesh_positions,
+        mesh_normals,
+        mesh_indices,
+        parts,
+        ranges,
+        failures,
         out,
     )
 }

@@ -13,7 +13,7 @@ pub record Cases {X C : Type 0} (done : C → X) (refuse : ℕ → X) : Type 0 w
   pub result : (c d : C) → done c ≡ done d → c ≡ d
   pub number : (m n : ℕ) → refuse m ≡ refuse n → m ≡ n
 
-module _ {X C : Type 0} {done : C → X} {refuse : ℕ → X} (v : Cases done refuse) (m : C) (n : ℕ) (E W : List ℕ) (r : ℕ) (text : List ℕ) where
+module _ {X C : Type 0} {done : C → X} {refuse : ℕ → X} (v : Cases done refuse) (m : C) (n lines : ℕ) (E W : List ℕ) (r : ℕ) (text : List ℕ) where
   -- what the call answers, n being its refusal or 0
   abbrev answer : Bool → X
   answer b = elim b [ true ↦ done m | false ↦ refuse n ]
@@ -22,16 +22,16 @@ module _ {X C : Type 0} {done : C → X} {refuse : ℕ → X} (v : Cases done re
   abbrev said : Bool → List ℕ
   said b = elim b [ true ↦ text | false ↦ refusalLine n ]
 
-  pub told-done : (c : C) → done c ≡ answer (eqb n 0) → (c ≡ m → Told E text W r) → Told E (said (eqb n 0)) W r
+  pub told-done : (c : C) → done c ≡ answer (eqb n 0) → (c ≡ m → Told lines E text W r) → Told lines E (said (eqb n 0)) W r
   told-done c e t = go (eqb n 0) refl
     where
-      go : (b : Bool) → eqb n 0 ≡ b → Told E (said (eqb n 0)) W r
-      go true q = subst (λ (b : Bool). Told E (said b) W r) (sym q) (t (v .result c m (e ∙ ap answer q)))
+      go : (b : Bool) → eqb n 0 ≡ b → Told lines E (said (eqb n 0)) W r
+      go true q = subst (λ (b : Bool). Told lines E (said b) W r) (sym q) (t (v .result c m (e ∙ ap answer q)))
       go false q = absurd (v .apart c n (e ∙ ap answer q))
 
-  pub told-refused : (k : ℕ) → refuse k ≡ answer (eqb n 0) → Written E (refusalLine k) W r → Told E (said (eqb n 0)) W r
+  pub told-refused : (k : ℕ) → refuse k ≡ answer (eqb n 0) → Written E (refusalLine k) W r → Told lines E (said (eqb n 0)) W r
   told-refused k e w = go (eqb n 0) refl
     where
-      go : (b : Bool) → eqb n 0 ≡ b → Told E (said (eqb n 0)) W r
+      go : (b : Bool) → eqb n 0 ≡ b → Told lines E (said (eqb n 0)) W r
       go true q = absurd (v .apart m k (sym (e ∙ ap answer q)))
-      go false q = subst (λ (b : Bool). Told E (said b) W r) (sym q) (subst (λ (i : ℕ). Told E (refusalLine i) W r) (v .number k n (e ∙ ap answer q)) (told-refusal E k W r w))
+      go false q = subst (λ (b : Bool). Told lines E (said b) W r) (sym q) (subst (λ (i : ℕ). Told lines E (refusalLine i) W r) (v .number k n (e ∙ ap answer q)) (told-refusal lines E k W r w))

@@ -1,4 +1,4 @@
-// The three calls in a row, in arrays for results to 16 rows, 192 vertices and 192 indices, and what is printed of them.
+// The three calls in a row, in lent slices and one work area, and what is printed of them.
 
 use bench_stitch::stitch_next;
 use patch_geometry::Aabb;
@@ -6,7 +6,7 @@ use sheet_answer::write_refusal;
 use turn::turn;
 use turn_definition::Turned;
 ghost use Rattle.bench_call_texts.specs.Told.{Told};
-ghost use Rattle.bench_call_texts.specs.Texts.{TurnSaid, finishedText};
+ghost use Rattle.bench_call_texts.specs.Texts.{TurnSaid, bytesIn, finishedText, meshIn, stitchIn};
 
 // What is printed of turn's answer: the other two calls, on the turned body.
 fn print_turned(
@@ -19,10 +19,24 @@ fn print_turned(
     reference: Aabb,
     materials: &[u64],
     default: u64,
+    out_rows: &mut [u32],
+    out_positions: &mut [f32],
+    out_normals: &mut [f32],
+    out_indices: &mut [u32],
+    mesh_positions: &mut [f32],
+    mesh_normals: &mut [f32],
+    mesh_indices: &mut [u32],
+    parts: &mut [u32],
+    ranges: &mut [u32],
+    failures: &mut [u64],
+    work: &mut [u64],
     out: &mut [u8],
 ) -> usize
     ensures { λ r. ⌜ TurnSaid (now (rows .entry)) (now (positions .entry)) sag reference (now (materials .entry)) default given (now (normals .entry))
-        (now (indices .entry)) (now (out .entry)) (now (out .exit)) r ⌝ }
+        (now (indices .entry)) (now (work .entry))
+        (stitchIn (now («out_rows» .entry)) (now («out_positions» .entry)) (now («out_normals» .entry)) (now («out_indices» .entry)))
+        (meshIn (now («mesh_positions» .entry)) (now («mesh_normals» .entry)) (now («mesh_indices» .entry)) (now (parts .entry)) (now (ranges .entry))
+        (now (failures .entry))) (now (out .entry)) (now (out .exit)) r ⌝ }
 {
     match given {
         Turned::Done(t) => stitch_next(
@@ -35,6 +49,17 @@ fn print_turned(
             materials,
             default,
             t,
+            out_rows,
+            out_positions,
+            out_normals,
+            out_indices,
+            mesh_positions,
+            mesh_normals,
+            mesh_indices,
+            parts,
+            ranges,
+            failures,
+            work,
             out,
         ),
         Turned::Refused(n) => write_refusal(out, n),
@@ -51,13 +76,28 @@ pub fn finish_body(
     reference: Aabb,
     materials: &[u64],
     default: u64,
+    out_rows: &mut [u32],
+    out_positions: &mut [f32],
+    out_normals: &mut [f32],
+    out_indices: &mut [u32],
+    mesh_positions: &mut [f32],
+    mesh_normals: &mut [f32],
+    mesh_indices: &mut [u32],
+    parts: &mut [u32],
+    ranges: &mut [u32],
+    failures: &mut [u64],
+    work: &mut [u64],
     out: &mut [u8],
 ) -> usize
-    ensures { λ r. ⌜ Told (now (out .entry)) (finishedText (now (rows .entry)) (now (positions .entry)) (now (normals .entry))
-        (now (indices .entry)) sag reference (now (materials .entry)) default) (now (out .exit)) r ⌝ }
+    ensures { λ r. ⌜ Told (bytesIn
+        (meshIn (now («mesh_positions» .entry)) (now («mesh_normals» .entry)) (now («mesh_indices» .entry)) (now (parts .entry)) (now (ranges .entry))
+        (now (failures .entry)))) (now (out .entry))
+        (finishedText (now (rows .entry)) (now (positions .entry)) (now (normals .entry)) (now (indices .entry)) sag reference (now (materials .entry))
+        default (stitchIn (now («out_rows» .entry)) (now («out_positions» .entry)) (now («out_normals» .entry)) (now («out_indices» .entry)))
+        (meshIn (now («mesh_positions» .entry)) (now («mesh_normals» .entry)) (now («mesh_indices» .entry)) (now (parts .entry)) (now (ranges .entry))
+        (now (failures .entry))) (now (work .entry))) (now (out .exit)) r ⌝ }
 {
-    let mut work = [0u64; 4096];
-    let given = turn(rows, positions, normals, indices, &mut work);
+    let given = turn(rows, positions, normals, indices, work);
     print_turned(
         given,
         rows,
@@ -68,6 +108,17 @@ pub fn finish_body(
         reference,
         materials,
         default,
+        out_rows,
+        out_positions,
+        out_normals,
+        out_indices,
+        mesh_positions,
+        mesh_normals,
+        mesh_indices,
+        parts,
+        ranges,
+        failures,
+        work,
         out,
     )
 }

@@ -34,27 +34,27 @@ pub record Sheet : Type 0 where
 unfoldable pub area : Limits → List ℕ
 area l = replicate (16 * l .«result_indices» + 16 * l .rows + 4 * l .«result_vertices») 0
 
--- the slices that stitch is lent
-unfoldable pub stitchSlices : Limits → StitchSlices
-stitchSlices l =
+-- the slices that stitch is lent, and the work area as it stands
+unfoldable pub stitchSlices : Limits → List ℕ → StitchSlices
+stitchSlices l work =
     record {
       table = replicate (rowWidth * l .rows) 0;
       positions = replicate (3 * l .«result_vertices») zero64;
       normals = replicate (3 * l .«result_vertices») zero64;
       indices = replicate (l .«result_indices») 0;
-      work = area l;
+      work = work;
     }
 
--- the slices that assemble is lent
-unfoldable pub meshSlices : Limits → MeshSlices
-meshSlices l =
+-- the slices that assemble is lent, and the work area as it stands
+unfoldable pub meshSlices : Limits → List ℕ → MeshSlices
+meshSlices l work =
     record {
       vertices = record { positions = replicate (3 * l .«result_vertices») zero64; normals = replicate (3 * l .«result_vertices») zero64 };
       indices = replicate (l .«result_indices») 0;
       parts = replicate (partWidth * l .rows) 0;
       ranges = replicate (rangeWidth * l .rows) 0;
       failures = replicate (failureWidth * l .rows) 0;
-      work = area l;
+      work = work;
     }
 
 -- what the three calls give: the number of the first refusal, or their answers
@@ -75,13 +75,13 @@ assembleNext limits x t s =
     (x .box)
     (x .materials)
     (x .default)
-    (meshSlices limits) in
+    (meshSlices limits (out .work)) in
     elim (eqb (a .refusal) 0) [ true ↦ Finished t s a | false ↦ Refused (a .refusal) ]
 
 -- the second call, on the turned body, and then the last
 unfoldable pub stitchNext : Limits → Sheet → AfterTurn → Outcome
 stitchNext limits x t =
-    let s = stitchOf key (x .table) (map f32 (x .positions)) (t .normals) (t .indices) (x .sag) (stitchSlices limits) in
+    let s = stitchOf key (x .table) (map f32 (x .positions)) (t .normals) (t .indices) (x .sag) (stitchSlices limits (t .work)) in
     elim (eqb (s .refusal) 0) [ true ↦ assembleNext limits x t s | false ↦ Refused (s .refusal) ]
 
 -- The program turns, stitches and assembles.

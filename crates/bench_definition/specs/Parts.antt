@@ -79,7 +79,7 @@ allWithSplits (fs ∷ fss) (ns ∷ nss) = withSplits fs ns ∷ allWithSplits fss
 -- the rest of the program, given the turned body as a sheet, its counts and its splits
 unfoldable pub finishFrom : Limits → Sheet → ℕ → ℕ → List (List (List ℕ)) → Outcome
 finishFrom limits x turned against nss =
-    let s = stitchOrRefuse (stitchedBodyOf (sheetPatches x) (allWithSplits (sheetFacets x) nss)) (clearedSlices (rowsOf (x .table)) (stitchSlices limits)) in
+    let s = stitchOrRefuse (stitchedBodyOf (sheetPatches x) (allWithSplits (sheetFacets x) nss)) (clearedSlices (rowsOf (x .table)) (stitchSlices limits (area limits))) in
     elim (eqb (s .refusal) 0) [
       | true ↦ assembleNext limits x (record { refusal = 0; turned = turned; against = against; normals = []; indices = []; work = [] }) s
       | false ↦ Refused (s .refusal)

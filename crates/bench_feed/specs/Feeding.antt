@@ -13,7 +13,9 @@ use Rattle.sheet_reader_state.specs.Slices.{lent}
 use Rattle.sheet_meaning.specs.Bench.{program}
 use Rattle.sheet_meaning.specs.Answered.{answerIn}
 use Rattle.bench_feed.specs.declared.Fed.{Fed}
+use Rattle.bench_definition.specs.Finish.{meshSlices}
 use Rattle.bench_call_texts.specs.Told.{Told}
+use Rattle.bench_call_texts.specs.Texts.{bytesIn}
 
 -- A text was fed: the lines before its last LF were read, giving the state, and what stands after that LF, the tail, is in the buffer, as far as it has room. However the text goes on, the
 -- sheet is what the state and the tail then give.
@@ -50,4 +52,4 @@ pub record Ended (f : Fed) (line : List ℕ) (r : Reader) : Type 0 where
 -- what the program of these limits is to print of some text was written; which one, no contract of C's read could say
 pub record Answered (limits : Limits) (E W : List ℕ) (r : ℕ) : Type 0 where
   pub text : List ℕ
-  pub told : Told E (program limits text) W r
+  pub told : Told (bytesIn (meshSlices limits)) E (program limits text) W r

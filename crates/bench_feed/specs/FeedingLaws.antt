@@ -15,7 +15,9 @@ use Rattle.sheet_reader_state.specs.Slices.{Begun, lent, ofBodies, readerOf}
 use Rattle.sheet_meaning.specs.Answered.{answerIn}
 use Rattle.bench_feed.specs.declared.Fed.{Fed}
 use Rattle.bench_feed.specs.Feeding.{Answered, Ended, Fed-on, Fed-some, SoFar}
+use Rattle.bench_definition.specs.Finish.{meshSlices}
 use Rattle.bench_call_texts.specs.Told.{Told}
+use Rattle.bench_call_texts.specs.Texts.{bytesIn}
 
 -- ---- the beginning
 module _ (limits : Limits) (line table positions normals indices M W : List ℕ) (r : Reader) (b : Begun limits M r W) where
@@ -84,6 +86,7 @@ module _ (limits : Limits) (f g : Fed) (line table positions normals indices mat
   pub fed-within : t .limits ≡ limits
   fed-within = let v = w .fed .goes limits [] s in e .within ∙ ap (λ (x : State). x .limits) (v .kept .same) ∙ v .within
 
-  pub fed-answered : (E W : List ℕ) (r : ℕ) → Told E (answerIn (lent t table' positions' normals' indices' materials')) W r → Answered limits E W r
+  pub fed-answered : (E W : List ℕ) (r : ℕ) → Told (bytesIn (meshSlices limits)) E (answerIn (lent t table' positions' normals' indices' materials')) W r → Answered limits E W r
   fed-answered E W r v =
-      record { text = w .part; told = subst (λ (x : List ℕ). Told E x W r) (e .goes limits (w .part) table' positions' normals' indices' materials' (w .fed .goes limits [] s)) v }
+      let same = e .goes limits (w .part) table' positions' normals' indices' materials' (w .fed .goes limits [] s) in
+      record { text = w .part; told = subst (λ (x : List ℕ). Told (bytesIn (meshSlices limits)) E x W r) same v }

@@ -1,5 +1,4 @@
-// A sheet that was read, finished: its body turned, stitched and assembled in arrays of the program's limits, and what the program prints written into a
-// lent slice.
+// A sheet that was read, finished: its body turned, stitched and assembled in lent slices, and what the program prints written into one.
 
 use bench_calls::finish_body;
 use patch_geometry::Aabb;
@@ -16,14 +15,12 @@ use slice_front::front_long;
 ghost use mathlib.Core.Path.{_≡_};
 ghost use Prim.Native.Nat.{_+_};
 ghost use lib.ListN.{length, take};
-ghost use Rattle.bench_definition.specs.Finish.{finish};
-ghost use Rattle.sheet_line_order.specs.Limits.{benchLimits};
 ghost use Rattle.sheet_reader_state.specs.Limits.{Limited};
 ghost use Rattle.sheet_reader_state.specs.Slices.{lent, patternsOf};
-ghost use Rattle.sheet_meaning.specs.Bench.{printed};
 ghost use Rattle.sheet_meaning.specs.Meaning.{meant};
 ghost use Rattle.bench_call_texts.specs.Told.{Told};
-ghost use Rattle.sheet_meaning.specs.Answered.{answerIn};
+ghost use Rattle.bench_call_texts.specs.Texts.{bytesIn, meshIn, stitchIn};
+ghost use Rattle.bench_finish.specs.Answer.{BodyRoom, answerWith, bodyText};
 ghost use Rattle.bench_finish.specs.Fronts.{FrontsSaid};
 
 // A body in the first n coordinates and m indices of slices, finished; 52 where these are fewer.
@@ -38,10 +35,24 @@ fn finish_fronts(
     reference: Aabb,
     materials: &[u64],
     default: u64,
+    out_rows: &mut [u32],
+    out_positions: &mut [f32],
+    out_normals: &mut [f32],
+    out_indices: &mut [u32],
+    mesh_positions: &mut [f32],
+    mesh_normals: &mut [f32],
+    mesh_indices: &mut [u32],
+    parts: &mut [u32],
+    ranges: &mut [u32],
+    failures: &mut [u64],
+    work: &mut [u64],
     out: &mut [u8],
 ) -> usize
     ensures { λ r. ⌜ FrontsSaid (now (rows .entry)) (now (positions .entry)) (now (normals .entry)) (now (indices .entry)) n m sag reference
-        (now (materials .entry)) default (now (out .entry)) (now (out .exit)) r ⌝ }
+        (now (materials .entry)) default
+        (stitchIn (now («out_rows» .entry)) (now («out_positions» .entry)) (now («out_normals» .entry)) (now («out_indices» .entry)))
+        (meshIn (now («mesh_positions» .entry)) (now («mesh_normals» .entry)) (now («mesh_indices» .entry)) (now (parts .entry)) (now (ranges .entry))
+        (now (failures .entry))) (now (work .entry)) (now (out .entry)) (now (out .exit)) r ⌝ }
 {
     if normals.len() < n {
         return write_refusal(out, 52);
@@ -58,6 +69,17 @@ fn finish_fronts(
         reference,
         materials,
         default,
+        out_rows,
+        out_positions,
+        out_normals,
+        out_indices,
+        mesh_positions,
+        mesh_normals,
+        mesh_indices,
+        parts,
+        ranges,
+        failures,
+        work,
         out,
     )
 }
@@ -81,34 +103,61 @@ fn answer_body(
     normals: &[u32],
     indices: &[u32],
     materials: &[u64],
+    body_positions: &mut [f32],
+    body_normals: &mut [f32],
+    body_indices: &mut [u32],
+    out_rows: &mut [u32],
+    out_positions: &mut [f32],
+    out_normals: &mut [f32],
+    out_indices: &mut [u32],
+    mesh_positions: &mut [f32],
+    mesh_normals: &mut [f32],
+    mesh_indices: &mut [u32],
+    parts: &mut [u32],
+    ranges: &mut [u32],
+    failures: &mut [u64],
+    work: &mut [u64],
     out: &mut [u8],
 ) -> usize
-    requires { ⌜ s .limits ≡ benchLimits ⌝ }
+    requires { ⌜ BodyRoom (s .limits) (length (now «body_positions»)) (length (now «body_normals»)) (length (now «body_indices»)) ⌝ }
     requires { ⌜ Limited s (length (now table)) (length (now positions)) (length (now normals)) (length (now indices)) (length (now materials)) ⌝ }
-    ensures { λ r. ⌜ Told (now (out .entry)) (printed (finish (s .limits)
-        (meant (patternsOf (lent s (now (table .entry)) (now (positions .entry)) (now (normals .entry)) (now (indices .entry)) (now (materials .entry)))))))
+    ensures { λ r. ⌜ Told (bytesIn
+        (meshIn (now («mesh_positions» .entry)) (now («mesh_normals» .entry)) (now («mesh_indices» .entry)) (now (parts .entry)) (now (ranges .entry))
+        (now (failures .entry)))) (now (out .entry))
+        (bodyText (stitchIn (now («out_rows» .entry)) (now («out_positions» .entry)) (now («out_normals» .entry)) (now («out_indices» .entry)))
+        (meshIn (now («mesh_positions» .entry)) (now («mesh_normals» .entry)) (now («mesh_indices» .entry)) (now (parts .entry)) (now (ranges .entry))
+        (now (failures .entry))) (now (work .entry))
+        (meant (patternsOf (lent s (now (table .entry)) (now (positions .entry)) (now (normals .entry)) (now (indices .entry)) (now (materials .entry))))))
         (now (out .exit)) r ⌝ }
 {
     let n = 3 * s.vertices;
     let k = 5 * s.rows;
     let m = s.indices;
-    let mut body_positions = [0.0f32; 288];
-    let mut body_normals = [0.0f32; 288];
-    let mut body_indices = [0u32; 96];
-    floats_of(front(positions, n), &mut body_positions);
-    floats_of(front(normals, n), &mut body_normals);
-    copy(front(indices, m), &mut body_indices);
+    floats_of(front(positions, n), body_positions);
+    floats_of(front(normals, n), body_normals);
+    copy(front(indices, m), body_indices);
     finish_fronts(
         front(table, k),
-        &body_positions,
-        &mut body_normals,
-        &mut body_indices,
+        body_positions,
+        body_normals,
+        body_indices,
         n,
         m,
         sag_of(s),
         box_of(s),
         materials_to(materials, s.limits.face),
         s.default,
+        out_rows,
+        out_positions,
+        out_normals,
+        out_indices,
+        mesh_positions,
+        mesh_normals,
+        mesh_indices,
+        parts,
+        ranges,
+        failures,
+        work,
         out,
     )
 }
@@ -122,11 +171,30 @@ pub fn answer_sheet(
     normals: &[u32],
     indices: &[u32],
     materials: &[u64],
+    body_positions: &mut [f32],
+    body_normals: &mut [f32],
+    body_indices: &mut [u32],
+    out_rows: &mut [u32],
+    out_positions: &mut [f32],
+    out_normals: &mut [f32],
+    out_indices: &mut [u32],
+    mesh_positions: &mut [f32],
+    mesh_normals: &mut [f32],
+    mesh_indices: &mut [u32],
+    parts: &mut [u32],
+    ranges: &mut [u32],
+    failures: &mut [u64],
+    work: &mut [u64],
     out: &mut [u8],
 ) -> usize
-    requires { ⌜ s .limits ≡ benchLimits ⌝ }
-    ensures { λ r. ⌜ Told (now (out .entry)) (answerIn (lent s (now (table .entry)) (now (positions .entry)) (now (normals .entry)) (now (indices .entry))
-        (now (materials .entry)))) (now (out .exit)) r ⌝ }
+    requires { ⌜ BodyRoom (s .limits) (length (now «body_positions»)) (length (now «body_normals»)) (length (now «body_indices»)) ⌝ }
+    ensures { λ r. ⌜ Told (bytesIn
+        (meshIn (now («mesh_positions» .entry)) (now («mesh_normals» .entry)) (now («mesh_indices» .entry)) (now (parts .entry)) (now (ranges .entry))
+        (now (failures .entry)))) (now (out .entry))
+        (answerWith (stitchIn (now («out_rows» .entry)) (now («out_positions» .entry)) (now («out_normals» .entry)) (now («out_indices» .entry)))
+        (meshIn (now («mesh_positions» .entry)) (now («mesh_normals» .entry)) (now («mesh_indices» .entry)) (now (parts .entry)) (now (ranges .entry))
+        (now (failures .entry))) (now (work .entry))
+        (lent s (now (table .entry)) (now (positions .entry)) (now (normals .entry)) (now (indices .entry)) (now (materials .entry)))) (now (out .exit)) r ⌝ }
 {
     let refusal = s.refusal;
     if refusal != 0 {
@@ -142,5 +210,27 @@ pub fn answer_sheet(
     ) {
         return write_refusal(out, 52);
     }
-    answer_body(s, table, positions, normals, indices, materials, out)
+    answer_body(
+        s,
+        table,
+        positions,
+        normals,
+        indices,
+        materials,
+        body_positions,
+        body_normals,
+        body_indices,
+        out_rows,
+        out_positions,
+        out_normals,
+        out_indices,
+        mesh_positions,
+        mesh_normals,
+        mesh_indices,
+        parts,
+        ranges,
+        failures,
+        work,
+        out,
+    )
 }

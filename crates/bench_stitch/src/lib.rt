@@ -1,4 +1,4 @@
-// The second call, in arrays for results to 16 rows, 192 vertices and 192 indices, then the last, and what is printed of them.
+// The second call, in lent slices, then the last, and what is printed of them.
 
 use bench_assemble::assemble_next;
 use patch_geometry::Aabb;
@@ -9,7 +9,7 @@ use stitch::stitch;
 use stitch_definition::Stitched;
 use turn_definition::TurnCounts;
 ghost use Rattle.bench_call_texts.specs.Told.{Told};
-ghost use Rattle.bench_call_texts.specs.Texts.{StitchSaid, stitchedText};
+ghost use Rattle.bench_call_texts.specs.Texts.{StitchSaid, bytesIn, meshIn, stitchIn, stitchedText};
 
 // What is printed of stitch's answer: the last call, on the stitched body of as many rows.
 fn print_stitched(
@@ -23,10 +23,19 @@ fn print_stitched(
     materials: &[u64],
     default: u64,
     t: TurnCounts,
+    mesh_positions: &mut [f32],
+    mesh_normals: &mut [f32],
+    mesh_indices: &mut [u32],
+    parts: &mut [u32],
+    ranges: &mut [u32],
+    failures: &mut [u64],
+    work: &mut [u64],
     out: &mut [u8],
 ) -> usize
     ensures { λ r. ⌜ StitchSaid (now (rows .entry)) reference (now (materials .entry)) default t given (now («out_rows» .entry)) (now («out_positions» .entry))
-        (now («out_normals» .entry)) (now («out_indices» .entry)) (now (out .entry)) (now (out .exit)) r ⌝ }
+        (now («out_normals» .entry)) (now («out_indices» .entry)) (now (work .entry))
+        (meshIn (now («mesh_positions» .entry)) (now («mesh_normals» .entry)) (now («mesh_indices» .entry)) (now (parts .entry)) (now (ranges .entry))
+        (now (failures .entry))) (now (out .entry)) (now (out .exit)) r ⌝ }
 {
     match given {
         Stitched::Done(z) => assemble_next(
@@ -39,6 +48,13 @@ fn print_stitched(
             default,
             t,
             z.splits,
+            mesh_positions,
+            mesh_normals,
+            mesh_indices,
+            parts,
+            ranges,
+            failures,
+            work,
             out,
         ),
         Stitched::Refused(n) => write_refusal(out, n),
@@ -56,39 +72,57 @@ pub fn stitch_next(
     materials: &[u64],
     default: u64,
     t: TurnCounts,
+    out_rows: &mut [u32],
+    out_positions: &mut [f32],
+    out_normals: &mut [f32],
+    out_indices: &mut [u32],
+    mesh_positions: &mut [f32],
+    mesh_normals: &mut [f32],
+    mesh_indices: &mut [u32],
+    parts: &mut [u32],
+    ranges: &mut [u32],
+    failures: &mut [u64],
+    work: &mut [u64],
     out: &mut [u8],
 ) -> usize
-    ensures { λ r. ⌜ Told (now (out .entry)) (stitchedText (now (rows .entry)) (now (positions .entry)) (now (normals .entry))
-        (now (indices .entry)) sag reference (now (materials .entry)) default t) (now (out .exit)) r ⌝ }
+    ensures { λ r. ⌜ Told (bytesIn
+        (meshIn (now («mesh_positions» .entry)) (now («mesh_normals» .entry)) (now («mesh_indices» .entry)) (now (parts .entry)) (now (ranges .entry))
+        (now (failures .entry)))) (now (out .entry))
+        (stitchedText (now (rows .entry)) (now (positions .entry)) (now (normals .entry)) (now (indices .entry)) sag reference (now (materials .entry))
+        default t (stitchIn (now («out_rows» .entry)) (now («out_positions» .entry)) (now («out_normals» .entry)) (now («out_indices» .entry)))
+        (meshIn (now («mesh_positions» .entry)) (now («mesh_normals» .entry)) (now («mesh_indices» .entry)) (now (parts .entry)) (now (ranges .entry))
+        (now (failures .entry))) (now (work .entry))) (now (out .exit)) r ⌝ }
 {
-    let mut out_rows = [0u32; 80];
-    let mut out_positions = [0.0f32; 576];
-    let mut out_normals = [0.0f32; 576];
-    let mut out_indices = [0u32; 192];
-    let mut work = [0u64; 4096];
     let given = stitch(
         rows,
         positions,
         normals,
         indices,
         sag,
-        &mut out_rows,
-        &mut out_positions,
-        &mut out_normals,
-        &mut out_indices,
-        &mut work,
+        out_rows,
+        out_positions,
+        out_normals,
+        out_indices,
+        work,
     );
     print_stitched(
         given,
         rows,
-        &out_rows,
-        &out_positions,
-        &out_normals,
-        &out_indices,
+        out_rows,
+        out_positions,
+        out_normals,
+        out_indices,
         reference,
         materials,
         default,
         t,
+        mesh_positions,
+        mesh_normals,
+        mesh_indices,
+        parts,
+        ranges,
+        failures,
+        work,
         out,
     )
 }

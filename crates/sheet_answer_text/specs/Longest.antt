@@ -2,7 +2,7 @@
 use mathlib.Core.Bool.{Bool, true, false, cond}
 use mathlib.Core.List.{List, [], _∷_, _++_, map}
 use mathlib.Core.Path.{_≡_, refl, ap}
-use Prim.Native.Nat.{ℕ, zero, suc, _*_, _^_, _≤_}
+use Prim.Native.Nat.{ℕ, zero, suc, _+_, _*_, _^_, _≤_}
 use native.Mathlib.Omega.{arith}
 use lib.Dec.{ltb, eqb}
 use lib.Ieee.{Float}
@@ -109,13 +109,9 @@ failures-length (f ∷ n ∷ r ∷ s ∷ rest) = omega (arith, length-append (fa
 
 -- ---- the whole
 
--- the mesh's slices are no longer than the program's limits: 192 vertices, 192 indices, and 16 parts, ranges and failures
-pub record MeshInLimits (ps : List Float) (is p r f : List ℕ) : Type 0 where
-  pub positions : length ps ≤ 576
-  pub indices : length is ≤ 192
-  pub parts : length p ≤ 48
-  pub ranges : length r ≤ 48
-  pub failures : length f ≤ 64
+-- how many bytes the lines of a mesh in slices of these lengths take at the most
+unfoldable pub meshBytes : ℕ → ℕ → ℕ → ℕ → ℕ → ℕ
+meshBytes positions indices parts ranges failures = 22 * positions + 24 * (indices + parts + ranges) + 19 * failures
 
 count-length : (t : Tallies) → length (countText t) ≤ 240
 unfolding countText numbers
@@ -147,9 +143,10 @@ count-length t =
       line-length closedForm (cond (t .closed) 1 0 ∷ []),
     )
 
-mesh-length : (z : Sizes) (ps ns : List Float) (is parts ranges failures : List ℕ) → MeshInLimits ps is parts ranges failures → length (meshText z ps ns is parts ranges failures) ≤ 21000
-unfolding meshText numbers
-mesh-length z ps ns is parts ranges failures v =
+mesh-length : (z : Sizes) (ps ns : List Float) (is parts ranges failures : List ℕ)
+    → length (meshText z ps ns is parts ranges failures) ≤ meshBytes (length ps) (length is) (length parts) (length ranges) (length failures) + 264
+unfolding meshText numbers meshBytes
+mesh-length z ps ns is parts ranges failures =
     let n = 3 * z .vertices in
     let a = line meshForm (z .vertices ∷ z .indices ∷ []) in
     let b = vertexLines (map bits32 (take n ps)) (map bits32 (take n ns)) in
@@ -157,11 +154,11 @@ mesh-length z ps ns is parts ranges failures v =
     let d = threes triangleForm (take (z .indices) is) in
     let e = threes rangeForm (take (3 * z .ranges) ranges) in
     let f = failureLines (take (4 * z .failures) failures) in
-    let few-vertices : length b ≤ 12672 = omega (arith, vertices-length (map bits32 (take n ps)) (map bits32 (take n ns)), length-map (take n ps) bits32, length-take n ps, v .positions) in
-    let few-parts : length c ≤ 1136 = omega (arith, threes-length partForm (take (3 * z .parts) parts) (omega arith), length-take (3 * z .parts) parts, v .parts) in
-    let few-triangles : length d ≤ 4544 = omega (arith, threes-length triangleForm (take (z .indices) is) (omega arith), length-take (z .indices) is, v .indices) in
-    let few-ranges : length e ≤ 1136 = omega (arith, threes-length rangeForm (take (3 * z .ranges) ranges) (omega arith), length-take (3 * z .ranges) ranges, v .ranges) in
-    let few-failures : length f ≤ 1168 = omega (arith, failures-length (take (4 * z .failures) failures), length-take (4 * z .failures) failures, v .failures) in
+    let few-vertices : length b ≤ 22 * length ps = omega (arith, vertices-length (map bits32 (take n ps)) (map bits32 (take n ns)), length-map (take n ps) bits32, length-take n ps) in
+    let few-parts : length c ≤ 24 * length parts = omega (arith, threes-length partForm (take (3 * z .parts) parts) (omega arith), length-take (3 * z .parts) parts) in
+    let few-triangles : length d ≤ 24 * length is = omega (arith, threes-length triangleForm (take (z .indices) is) (omega arith), length-take (z .indices) is) in
+    let few-ranges : length e ≤ 24 * length ranges = omega (arith, threes-length rangeForm (take (3 * z .ranges) ranges) (omega arith), length-take (3 * z .ranges) ranges) in
+    let few-failures : length f ≤ 19 * length failures = omega (arith, failures-length (take (4 * z .failures) failures), length-take (4 * z .failures) failures) in
     omega (
       arith,
       length-append a b,
@@ -172,13 +169,13 @@ mesh-length z ps ns is parts ranges failures v =
       line-length meshForm (z .vertices ∷ z .indices ∷ []),
     )
 
--- A mesh within the program's limits and its counts are printed in at most 21,504 bytes.
-pub answer-length : (z : Sizes) (ps ns : List Float) (is parts ranges failures : List ℕ) (t : Tallies) → MeshInLimits ps is parts ranges failures
-    → length (meshText z ps ns is parts ranges failures ++ countText t) ≤ 21504
-answer-length z ps ns is parts ranges failures t v =
-    omega (arith, length-append (meshText z ps ns is parts ranges failures) (countText t), mesh-length z ps ns is parts ranges failures v, count-length t)
+-- A mesh and its counts take at most 504 bytes more than its lines.
+pub answer-length : (z : Sizes) (ps ns : List Float) (is parts ranges failures : List ℕ) (t : Tallies)
+    → length (meshText z ps ns is parts ranges failures ++ countText t) ≤ meshBytes (length ps) (length is) (length parts) (length ranges) (length failures) + 504
+answer-length z ps ns is parts ranges failures t =
+    omega (arith, length-append (meshText z ps ns is parts ranges failures) (countText t), mesh-length z ps ns is parts ranges failures, count-length t)
 
--- So is a refusal.
-pub refusal-length : (n : ℕ) → length (refusalLine n) ≤ 21504
+-- A refusal takes no more than 504.
+pub refusal-length : (n : ℕ) → length (refusalLine n) ≤ 504
 unfolding refusalLine numbers
 refusal-length n = omega (arith, line-length refusedForm (n ∷ []))

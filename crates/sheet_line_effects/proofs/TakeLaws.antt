@@ -145,7 +145,8 @@ module _ (s : Reader) (T P N I M : List ℕ) where
 
   -- a line that opens a row has room for it
   row-room : (k : Kind)
-      → ((ms : List ℕ) (x : Patterns) → passesLimit (s .limits) k ms x ≡ ltb (s .limits .face) (at ms 1) || leb (5 * s .limits .rows) (length (x .table))) → (ns : List ℕ) → Ready here k ns → RowRoom s T
+      → ((ms : List ℕ) (x : Patterns) → passesLimit (s .limits) k ms x ≡ ltb (s .limits .face) (at ms 1) || leb (5 * s .limits .rows) (length (x .table)))
+      → (ns : List ℕ) → Ready here k ns → RowRoom s T
   row-room k is ns v =
       let h = held-of s T P N I M (v .fitting .roomy .held) in
       let ok : Passed (lineFrom k ns) (stateOf here) = passed _ _ (v .taken) in

@@ -4,47 +4,8 @@ use borrow.Author.Needs.{needs}
 use Rattle.bench_assemble.proofs.assemble_next.Statement.{statement}
 use Rattle.bench_assemble.proofs.assemble_next.Tie as tie
 
-slice-aggregate-assemble : tie.Need-slice-aggregate-assemble
-slice-aggregate-assemble c = search needs
-
-slice-aggregate-assemble-2 : tie.Need-slice-aggregate-assemble-2
-slice-aggregate-assemble-2 c = search needs
-
-slice-aggregate-assemble-3 : tie.Need-slice-aggregate-assemble-3
-slice-aggregate-assemble-3 c = search needs
-
-slice-aggregate-assemble-4 : tie.Need-slice-aggregate-assemble-4
-slice-aggregate-assemble-4 c = search needs
-
-slice-aggregate-assemble-5 : tie.Need-slice-aggregate-assemble-5
-slice-aggregate-assemble-5 c = search needs
-
-slice-aggregate-assemble-6 : tie.Need-slice-aggregate-assemble-6
-slice-aggregate-assemble-6 c = search needs
-
-slice-aggregate-assemble-7 : tie.Need-slice-aggregate-assemble-7
-slice-aggregate-assemble-7 c = search needs
-
 assemble-requires : tie.Need-assemble-requires
 assemble-requires c κs = search needs
-
-slice-aggregate-print-mesh : tie.Need-slice-aggregate-print-mesh
-slice-aggregate-print-mesh c = search needs
-
-slice-aggregate-print-mesh-2 : tie.Need-slice-aggregate-print-mesh-2
-slice-aggregate-print-mesh-2 c = search needs
-
-slice-aggregate-print-mesh-3 : tie.Need-slice-aggregate-print-mesh-3
-slice-aggregate-print-mesh-3 c = search needs
-
-slice-aggregate-print-mesh-4 : tie.Need-slice-aggregate-print-mesh-4
-slice-aggregate-print-mesh-4 c = search needs
-
-slice-aggregate-print-mesh-5 : tie.Need-slice-aggregate-print-mesh-5
-slice-aggregate-print-mesh-5 c = search needs
-
-slice-aggregate-print-mesh-6 : tie.Need-slice-aggregate-print-mesh-6
-slice-aggregate-print-mesh-6 c = search needs
 
 print-mesh-requires : tie.Need-print-mesh-requires
 print-mesh-requires c κs = search needs
@@ -52,27 +13,29 @@ print-mesh-requires c κs = search needs
 same-length : tie.Need-same-length
 same-length c = search needs
 
+same-length-2 : tie.Need-same-length-2
+same-length-2 c = search needs
+
+same-length-3 : tie.Need-same-length-3
+same-length-3 c = search needs
+
+same-length-4 : tie.Need-same-length-4
+same-length-4 c = search needs
+
+same-length-5 : tie.Need-same-length-5
+same-length-5 c = search needs
+
+same-length-6 : tie.Need-same-length-6
+same-length-6 c = search needs
+
+same-length-7 : tie.Need-same-length-7
+same-length-7 c = search needs
+
+same-length-8 : tie.Need-same-length-8
+same-length-8 c = search needs
+
 returns : tie.Need-returns
-returns c = assembled-text _ _ _ _ _ _ _ _ _ _ _ _ _ _ _ _ _ _ _ _ (c .before .before .print-mesh .ensures) (c .before .before .before .before .before .before .before .before .before .before .before .before .before .before .before .before .before .assemble .ensures)
+returns c = assembled-text _ _ _ _ _ _ _ _ _ _ _ _ _ (c .before .before .before .before .before .before .before .before .before .before .before .before .before .before .before .before .before .before .before .before .before .before .before .before .assemble .kept .1 .1 .1 .1 .1 .1 .1 .0) (c .before .before .before .before .before .before .before .before .before .before .before .before .before .before .before .before .before .before .before .before .before .before .before .before .assemble .kept .1 .1 .1 .1 .1 .1 .1 .1 .1 .0) (c .before .before .before .before .before .before .before .before .before .before .before .before .before .before .before .before .before .before .before .before .before .before .before .before .assemble .kept .1 .1 .1 .1 .1 .1 .1 .1 .1 .1 .0) (c .before .before .before .before .before .before .before .before .before .before .before .before .before .before .before .before .before .before .before .before .before .before .before .before .assemble .kept .1 .1 .1 .1 .1 .1 .1 .1 .1 .1 .1 .0) (c .before .before .before .before .before .before .before .before .before .before .before .before .before .before .before .before .before .before .before .before .before .before .before .before .assemble .kept .1 .1 .1 .1 .1 .1 .1 .1 .1 .1 .1 .1 .0) _ _ _ _ _ _ _ _ _ _ _ _ _ _ (c .before .before .print-mesh .ensures) (c .before .before .before .before .before .before .before .before .before .before .before .before .before .before .before .before .before .before .before .before .before .before .before .before .assemble .ensures)
 
 pub assemble-next-spec : {M : Type 1} → statement M
-assemble-next-spec =
-    tie.close
-    (tie.spec
-    slice-aggregate-assemble
-    slice-aggregate-assemble-2
-    slice-aggregate-assemble-3
-    slice-aggregate-assemble-4
-    slice-aggregate-assemble-5
-    slice-aggregate-assemble-6
-    slice-aggregate-assemble-7
-    assemble-requires
-    slice-aggregate-print-mesh
-    slice-aggregate-print-mesh-2
-    slice-aggregate-print-mesh-3
-    slice-aggregate-print-mesh-4
-    slice-aggregate-print-mesh-5
-    slice-aggregate-print-mesh-6
-    print-mesh-requires
-    same-length
-    returns)
+assemble-next-spec = tie.close (tie.spec assemble-requires print-mesh-requires same-length same-length-2 same-length-3 same-length-4 same-length-5 same-length-6 same-length-7 same-length-8 returns)

@@ -26,7 +26,7 @@ same-length : tie.Need-same-length
 same-length c = search needs
 
 returns : tie.Need-returns
-returns c = mesh-said _ _ _ _ _ _ _ _ _ _ _ _ _ _ _ (c .before .before .before .before .before .before .before .given .given .1) (c .before .before .before .before .sizes-of .ensures) (c .before .before .before .tallies-of .ensures) (c .before .before .before .before .before .before .before .before .before .before .before .before .before .before .before .before .pre) (c .before .before .write-answer .ensures)
+returns c = mesh-said _ _ _ _ _ _ _ _ _ _ _ _ _ _ _ (c .before .before .before .before .before .before .before .given .given .1) (c .before .before .before .before .sizes-of .ensures) (c .before .before .before .tallies-of .ensures) (c .before .before .write-answer .ensures)
 
 same-length-2 : tie.Need-same-length-2
 same-length-2 c = search needs
@@ -35,16 +35,4 @@ returns-2 : tie.Need-returns-2
 returns-2 c = search (needs, mesh-said-refused)
 
 pub print-mesh-spec : {M : Type 1} → statement M
-print-mesh-spec =
-    tie.close
-    (tie.spec
-    enum-known-given
-    sizes-of-requires
-    tallies-of-requires
-    write-answer-requires
-    enum-known-given-2
-    write-refusal-requires
-    same-length
-    returns
-    same-length-2
-    returns-2)
+print-mesh-spec = tie.close (tie.spec enum-known-given sizes-of-requires tallies-of-requires write-answer-requires enum-known-given-2 write-refusal-requires same-length returns same-length-2 returns-2)
