@@ -35,6 +35,7 @@ const USAGE: &str = "usage: compare FIRST LAST [SIZE]
        compare --small FIRST LAST [SIZE]
        compare --large FIRST LAST [TRIANGLES]
        compare --worst POINTS
+       compare --sheets SHEET...
        compare --planted FIRST LAST
        compare --without-fences ...
 The bodies of every kind with the seeds FIRST to LAST, small ones and some of a size that goes with the seed, or only those of SIZE
@@ -42,6 +43,7 @@ pieces on each shape, 4096 at most. In the end, one body of every large kind wit
 With --small none of the large bodies and none of those made by hand.
 With --large only bodies of the large kinds, with TRIANGLES triangles, 262144 at most; 100000 if left out.
 With --worst the bodies that ask the most of stitching, one with POINTS loose points on one edge, and the time that this one takes.
+With --sheets only the bodies of these sheets.
 With --planted faults are planted behind the library's calls, and the seeds FIRST to LAST must find each of them.
 With --without-fences before any of these each lent slice is a block of memory of its own, for a tool that watches memory.";
 
@@ -142,6 +144,16 @@ fn compare_seeds(first: u64, last: u64, size: Option<usize>, tally: &mut Tally) 
     }
 }
 
+/// The body of a stored sheet, of any size.
+fn compare_sheet(name: &str, tally: &mut Tally) {
+    let text = std::fs::read(name).unwrap_or_else(|why| fail(&format!("compare: {name}: {why}")));
+    let sheet = parse(&text, None).ok().filter(|s| check(s).is_ok()).unwrap_or_else(|| fail(&format!("compare: {name} is refused")));
+    match compared(&sheet, 1) {
+        Ok(compared) => tally.add(&sheet, compared),
+        Err(what) => fail(&format!("compare: {name}: {what}")),
+    }
+}
+
 /// The bodies of a run without a word.
 fn compare_all(first: u64, last: u64, size: Option<usize>, tally: &mut Tally) {
     compare_worst(WORST_POINTS, tally);
@@ -213,6 +225,7 @@ fn main() {
                 tally.worst
             );
         }
+        Some((word, names)) if word == "--sheets" && !names.is_empty() => names.iter().for_each(|name| compare_sheet(name, tally)),
         Some((word, rest)) if word == "--planted" => {
             let (first, last, _) = numbers(rest, MOST_ROWS);
             return find_planted(first, last);
