@@ -2,20 +2,22 @@
 -- Assumes nothing.
 use mathlib.Core.Bool.{true, false}
 use mathlib.Core.List.{List, [], _∷_, _++_, map}
-use Prim.Native.Nat.{ℕ, _*_}
+use Prim.Native.Nat.{ℕ, _+_, _-_, _*_}
 use lib.ListN.{take, drop, replicate}
 use lib.Dec.{T}
 use lib.Ieee.{Float, nan, inf}
 use Rattle.lists.specs.Lists.{all}
 use Rattle.lists.specs.Table.{Case, case, agrees}
 use Rattle.point_rules.specs.Points.{key}
-use Rattle.body_rows.specs.Body.{firstFailing}
+use Rattle.body_rows.specs.Body.{rowWidth, firstFailing}
 use Rattle.patch_geometry.specs.declared.Aabb.{Aabb}
 use Rattle.patch_alone.specs.Alone.{volumeAlone}
 use Rattle.patch_geometry.specs.Geometry.{zero64, one64}
 use Rattle.turn_definition.specs.Orient.{turnOf}
 use Rattle.stitch_definition.specs.Slices.{StitchSlices, AfterStitch, stitchChecks}
 use Rattle.stitch_definition.specs.Stitch.{stitchOf}
+use Rattle.mesh_acceptance.specs.Acceptance.{failureWidth}
+use Rattle.mesh_layout.specs.Mesh.{partWidth, rangeWidth}
 use Rattle.mesh_room.specs.Slices.{MeshSlices}
 use Rattle.mesh_definition.specs.Assemble.{AfterAssemble, assembleOf}
 use Rattle.patch_alone.specs.Evaluation as Lone
@@ -72,6 +74,10 @@ mesh p i parts ranges failures words =
       work = replicate words 7;
     }
 
+-- the same with tables of one row
+meshOfOne : ℕ → ℕ → ℕ → MeshSlices
+meshOfOne p i words = mesh p i partWidth rangeWidth failureWidth words
+
 -- a box with a NaN
 noBox : Aabb
 noBox = record { min = record { x = nan; y = nan; z = nan }; max = record { x = zero64; y = zero64; z = zero64 } }
@@ -93,7 +99,7 @@ stitchedSize v i s = firstFailing (stitchChecks (record { shell = 0; face = 0; o
 -- what each check refuses, and what it lets pass
 pub refusals : List Case
 refusals =
-    case 11 (turnWith (0 ∷ 0 ∷ []) [] [] [] 0 ∷ turnWith (replicate (5 * 4096) 0) [] [] [] 65536 ∷ turnWith (replicate (5 * 4097) 0) [] [] [] 70000 ∷ turnWith [] [] [] [] 0 ∷ [])
+    case 11 (turnWith (0 ∷ 0 ∷ []) [] [] [] 0 ∷ turnWith (replicate (rowWidth * 4096) 0) [] [] [] 65536 ∷ turnWith (replicate (rowWidth * 4097) 0) [] [] [] 70000 ∷ turnWith [] [] [] [] 0 ∷ [])
     (11 ∷ 0 ∷ 11 ∷ 0 ∷ [])
     ∷ case 12 (turnWith (0 ∷ 0 ∷ 256 ∷ 0 ∷ 0 ∷ []) [] [] [] 99 ∷ turnWith (0 ∷ 0 ∷ 255 ∷ 0 ∷ 0 ∷ []) [] [] [] 99 ∷ turnWith (0 ∷ 0 ∷ 1 ∷ 1 ∷ 0 ∷ []) nine nine [] 99
     ∷ turnWith (0 ∷ 0 ∷ 1 ∷ 0 ∷ 3 ∷ []) [] [] corners 99 ∷ []) (12 ∷ 0 ∷ 12 ∷ 12 ∷ [])
@@ -109,24 +115,27 @@ refusals =
     ∷ turnWith (0 ∷ 0 ∷ 9 ∷ 0 ∷ 0 ∷ []) [] [] [] 16 ∷ []) (31 ∷ 0 ∷ 0 ∷ 31 ∷ 0 ∷ [])
     ∷ case 31 (take 1 (leaves 75) ++ take 1 (leaves 77) ++ drop 75 (leaves 77)) (7 ∷ 0 ∷ 0 ∷ 7 ∷ [])
     ∷ case 33 (stitchedSize 262145 0 (out 0 0 0 0 0) ∷ stitchedSize 0 786435 (out 0 0 0 0 0) ∷ stitchedSize 262144 786432 (out 0 0 0 0 0) ∷ []) (33 ∷ 33 ∷ 32 ∷ [])
-    ∷ case 32 (stitchWith zero64 (out 4 9 9 3 76) .refusal ∷ stitchWith zero64 (out 5 8 9 3 76) .refusal ∷ stitchWith zero64 (out 5 9 8 3 76) .refusal ∷ stitchWith zero64 (out 5 9 9 2 76) .refusal
-    ∷ stitchWith nan (out 5 9 9 3 76) .refusal ∷ stitchWith one64 (out 5 9 9 3 76) .refusal ∷ stitchWith one64 (out 5 12 12 6 76) .refusal ∷ []) (32 ∷ 32 ∷ 32 ∷ 32 ∷ 0 ∷ 32 ∷ 0 ∷ [])
-    ∷ case 32 (take 1 (stitchWith zero64 (out 5 9 9 2 77) .slices .work) ++ drop 75 (stitchWith zero64 (out 5 9 9 2 77) .slices .work) ++ stitchWith zero64 (out 5 9 9 2 77) .slices .table)
-    (0 ∷ 0 ∷ 7 ∷ 9 ∷ 9 ∷ 9 ∷ 9 ∷ 9 ∷ [])
-    ∷ case 32 (stitchWith zero64 (out 7 9 9 4 76) .slices .table ++ stitchWith zero64 (out 7 9 9 4 76) .slices .indices) (0 ∷ 5 ∷ 0 ∷ 3 ∷ 3 ∷ 9 ∷ 9 ∷ 0 ∷ 1 ∷ 2 ∷ 9 ∷ [])
-    ∷ case 42 (assembleWith (0 ∷ 4294967297 ∷ []) 0 (mesh 9 3 3 3 4 76) .refusal ∷ assembleWith [] 4294967297 (mesh 9 3 3 3 4 76) .refusal
-    ∷ assembleWith (4294967296 ∷ []) 4294967296 (mesh 9 3 3 3 4 76) .refusal ∷ []) (42 ∷ 42 ∷ 0 ∷ [])
-    ∷ case 41 (assembleWith [] 0 (mesh 8 3 3 3 4 76) .refusal ∷ assembleWith [] 0 (mesh 9 2 3 3 4 76) .refusal ∷ assembleWith [] 0 (mesh 9 3 2 3 4 76) .refusal
-    ∷ assembleWith [] 0 (mesh 9 3 3 2 4 76) .refusal ∷ assembleWith [] 0 (mesh 9 3 3 3 3 76) .refusal ∷ assembleWith [] 0 (mesh 9 3 3 3 4 76) .refusal ∷ []) (41 ∷ 41 ∷ 41 ∷ 41 ∷ 41 ∷ 0 ∷ [])
-    ∷ case 41 (take 1 (assembleWith [] 0 (mesh 8 3 3 3 4 77) .slices .work) ++ drop 75 (assembleWith [] 0 (mesh 8 3 3 3 4 77) .slices .work) ++ assembleWith [] 0 (mesh 8 3 3 3 4 77) .slices .ranges)
-    (0 ∷ 0 ∷ 7 ∷ 9 ∷ 9 ∷ 9 ∷ [])
+    ∷ case 32 (stitchWith zero64 (out (rowWidth - 1) 9 9 3 76) .refusal ∷ stitchWith zero64 (out rowWidth 8 9 3 76) .refusal ∷ stitchWith zero64 (out rowWidth 9 8 3 76) .refusal
+    ∷ stitchWith zero64 (out rowWidth 9 9 2 76) .refusal ∷ stitchWith nan (out rowWidth 9 9 3 76) .refusal ∷ stitchWith one64 (out rowWidth 9 9 3 76) .refusal
+    ∷ stitchWith one64 (out rowWidth 12 12 6 76) .refusal ∷ []) (32 ∷ 32 ∷ 32 ∷ 32 ∷ 0 ∷ 32 ∷ 0 ∷ [])
+    ∷ case 32 (take 1 (stitchWith zero64 (out rowWidth 9 9 2 77) .slices .work) ++ drop 75 (stitchWith zero64 (out rowWidth 9 9 2 77) .slices .work)
+    ++ stitchWith zero64 (out rowWidth 9 9 2 77) .slices .table) (0 ∷ 0 ∷ 7 ∷ replicate rowWidth 9)
+    ∷ case 32 (stitchWith zero64 (out (rowWidth + 2) 9 9 4 76) .slices .table ++ stitchWith zero64 (out (rowWidth + 2) 9 9 4 76) .slices .indices)
+    (0 ∷ 5 ∷ 0 ∷ 3 ∷ 3 ∷ 9 ∷ 9 ∷ 0 ∷ 1 ∷ 2 ∷ 9 ∷ [])
+    ∷ case 42 (assembleWith (0 ∷ 4294967297 ∷ []) 0 (meshOfOne 9 3 76) .refusal ∷ assembleWith [] 4294967297 (meshOfOne 9 3 76) .refusal
+    ∷ assembleWith (4294967296 ∷ []) 4294967296 (meshOfOne 9 3 76) .refusal ∷ []) (42 ∷ 42 ∷ 0 ∷ [])
+    ∷ case 41 (assembleWith [] 0 (meshOfOne 8 3 76) .refusal ∷ assembleWith [] 0 (meshOfOne 9 2 76) .refusal ∷ assembleWith [] 0 (mesh 9 3 (partWidth - 1) rangeWidth failureWidth 76) .refusal
+    ∷ assembleWith [] 0 (mesh 9 3 partWidth (rangeWidth - 1) failureWidth 76) .refusal ∷ assembleWith [] 0 (mesh 9 3 partWidth rangeWidth (failureWidth - 1) 76) .refusal
+    ∷ assembleWith [] 0 (meshOfOne 9 3 76) .refusal ∷ []) (41 ∷ 41 ∷ 41 ∷ 41 ∷ 41 ∷ 0 ∷ [])
+    ∷ case 41 (take 1 (assembleWith [] 0 (meshOfOne 8 3 77) .slices .work) ++ drop 75 (assembleWith [] 0 (meshOfOne 8 3 77) .slices .work) ++ assembleWith [] 0 (meshOfOne 8 3 77) .slices .ranges)
+    (0 ∷ 0 ∷ 7 ∷ replicate rangeWidth 9)
     ∷ case 14 (map (λ ps. volumeAlone ps nine corners false .refusal) (nine ∷ drop 1 nine ∷ []) ++ volumeAlone nine nine (0 ∷ 1 ∷ []) false .refusal
     ∷ volumeAlone nine nine (0 ∷ 1 ∷ 3 ∷ []) false .refusal ∷ volumeAlone nine withNan corners false .refusal ∷ []) (0 ∷ 14 ∷ 21 ∷ 22 ∷ 23 ∷ [])
     ∷ []
 
 -- The definitions give each of these numbers.
 pub refusals-agree : T (all agrees refusals)
-unfolding evaluation Lone.evaluation one nine withNan corners turnWith leaves out stitchWith stitchRefuses mesh noBox assembleWith assembleRefuses stitchedSize refusals
+unfolding evaluation Lone.evaluation one nine withNan corners turnWith leaves out stitchWith stitchRefuses mesh meshOfOne noBox assembleWith assembleRefuses stitchedSize refusals
 refusals-agree = tt
 
 -- ---- two checks at once
@@ -135,9 +144,9 @@ refusals-agree = tt
 pub pairs : List Case
 pairs =
     case 1112 (turnWith (0 ∷ 0 ∷ 256 ∷ 0 ∷ 0 ∷ 0 ∷ []) [] [] [] 99 ∷ []) (11 ∷ [])
-    ∷ case 1113 (turnWith (0 ∷ replicate (5 * 4097) 300000) [] [] [] 0 ∷ []) (11 ∷ [])
+    ∷ case 1113 (turnWith (0 ∷ replicate (rowWidth * 4097) 300000) [] [] [] 0 ∷ []) (11 ∷ [])
     ∷ case 1114 (turnWith (0 ∷ 0 ∷ 0 ∷ 0 ∷ 3 ∷ 3 ∷ []) [] [] [] 99 ∷ []) (11 ∷ [])
-    ∷ case 1131 (turnWith (replicate (5 * 4097) 0) [] [] [] 0 ∷ []) (11 ∷ [])
+    ∷ case 1131 (turnWith (replicate (rowWidth * 4097) 0) [] [] [] 0 ∷ []) (11 ∷ [])
     ∷ case 1213 (turnWith (0 ∷ 0 ∷ 256 ∷ 262145 ∷ 0 ∷ []) [] [] [] 99 ∷ []) (12 ∷ [])
     ∷ case 1214 (turnWith (0 ∷ 0 ∷ 1 ∷ 1 ∷ 0 ∷ []) [] [] [] 99 ∷ []) (12 ∷ [])
     ∷ case 1221 (turnWith (0 ∷ 0 ∷ 1 ∷ 0 ∷ 1 ∷ []) [] [] (0 ∷ []) 99 ∷ []) (12 ∷ [])
@@ -165,13 +174,13 @@ pairs =
     ∷ case 3332 (stitchedSize 262145 0 (out 0 0 0 0 0) ∷ []) (33 ∷ [])
     ∷ case 1242 (assembleRefuses (0 ∷ 0 ∷ 256 ∷ 0 ∷ 0 ∷ []) [] [] (4294967297 ∷ []) (mesh 0 0 0 0 0 99) ∷ []) (12 ∷ [])
     ∷ case 2241 (assembleRefuses one nine (0 ∷ 1 ∷ 3 ∷ []) [] (mesh 0 0 0 0 0 99) ∷ []) (22 ∷ [])
-    ∷ case 3142 (assembleRefuses one nine corners (4294967297 ∷ []) (mesh 9 3 3 3 4 75) ∷ []) (31 ∷ [])
+    ∷ case 3142 (assembleRefuses one nine corners (4294967297 ∷ []) (meshOfOne 9 3 75) ∷ []) (31 ∷ [])
     ∷ case 3141 (assembleRefuses one nine corners [] (mesh 0 0 0 0 0 75) ∷ []) (31 ∷ [])
     ∷ case 4241 (assembleRefuses one nine corners (4294967297 ∷ []) (mesh 0 0 0 0 0 76) ∷ []) (42 ∷ [])
-    ∷ case 2342 (assembleRefuses one withNan corners (4294967297 ∷ []) (mesh 9 3 3 3 4 99) ∷ []) (23 ∷ [])
+    ∷ case 2342 (assembleRefuses one withNan corners (4294967297 ∷ []) (meshOfOne 9 3 99) ∷ []) (23 ∷ [])
     ∷ []
 
 -- The first in table order is given.
 pub pairs-agree : T (all agrees pairs)
-unfolding evaluation Lone.evaluation one nine withNan corners turnWith leaves out stitchWith stitchRefuses mesh noBox assembleWith assembleRefuses stitchedSize pairs
+unfolding evaluation Lone.evaluation one nine withNan corners turnWith leaves out stitchWith stitchRefuses mesh meshOfOne noBox assembleWith assembleRefuses stitchedSize pairs
 pairs-agree = tt

@@ -8,6 +8,7 @@ use borrow.Author.Tests.{eq-eqb, ne-eqb, not-true, not-false}
 use lib.Ieee.{Float}
 use lib.ListN.{length, take, drop, length-append, length-drop, length-map, length-take}
 use lib.Seq.{length-take-le, take-all, take-at}
+use Rattle.body_rows.specs.Body.{rowWidth}
 use Rattle.sheet_answer_text.specs.Answer.{Written, refusalLine}
 use Rattle.float_steps.specs.Floats.{f32, f64}
 use Rattle.patch_geometry.specs.declared.Aabb.{Aabb}
@@ -60,7 +61,7 @@ module _ (s : Reader) (T P N I M : List ℕ) (v : Limited s (length T) (length P
       filled-front (map f32 fX) E (length fX) n count room F f ∙ ap (map f32) q
 
   pub body-told : (FT FP FN FI FM : List ℕ) (EP EN BP BN : List Float) (EI BI : List ℕ) (sag : Float) (box : Aabb) (E W : List ℕ) (r : ℕ) → BodyRoom (s .limits) (length EP) (length EN) (length EI)
-      → FP ≡ take n P → FN ≡ take n N → FI ≡ take (s .indices) I → FT ≡ take (5 * s .rows) T → FM ≡ take (s .limits .face + 1) M
+      → FP ≡ take n P → FN ≡ take n N → FI ≡ take (s .indices) I → FT ≡ take (rowWidth * s .rows) T → FM ≡ take (s .limits .face + 1) M
       → BP ≡ take (length EP) (map f32 FP) ++ drop (length FP) EP → BN ≡ take (length EN) (map f32 FN) ++ drop (length FN) EN → BI ≡ take (length EI) FI ++ drop (length FI) EI
       → sag ≡ f64 (s .sag) → box ≡ boxOf (s .minx ∷ s .miny ∷ s .minz ∷ s .maxx ∷ s .maxy ∷ s .maxz ∷ [])
       → FrontsSaid FT BP BN BI n (s .indices) sag box FM (s .default) into out work E W r

@@ -1,6 +1,7 @@
 // A sheet that was read, finished: its body turned, stitched and assembled in lent slices, and what the program prints written into one.
 
 use bench_calls::finish_body;
+use body_rows::ROW_WIDTH;
 use patch_geometry::Aabb;
 use sheet_answer::write_refusal;
 use sheet_meaning::box_of;
@@ -131,7 +132,7 @@ fn answer_body(
         (now (out .exit)) r ⌝ }
 {
     let n = 3 * s.vertices;
-    let k = 5 * s.rows;
+    let k = ROW_WIDTH * s.rows;
     let m = s.indices;
     floats_of(front(positions, n), body_positions);
     floats_of(front(normals, n), body_normals);

@@ -13,7 +13,7 @@ use borrow.Author.Tests.{ltb-false, leb-false, eqb-true, not-false, ne-eqb}
 use Rattle.float_steps.specs.Floats.{finite}
 use Rattle.lists.specs.Lists.{any, sumOf}
 use Rattle.lists.specs.Any.{any-none, any-one}
-use Rattle.body_rows.specs.Body.{Row, rowsOf, patchesOf, allVertices, allIndices, firstFailing, workNeeded}
+use Rattle.body_rows.specs.Body.{rowWidth, Row, rowsOf, patchesOf, allVertices, allIndices, firstFailing, workNeeded}
 use Rattle.body_refusals.specs.TableChecks.{badRow, tableChecks}
 use Rattle.body_refusals.specs.PatchChecks.{badIndices, patchChecks}
 use Rattle.body_refusals.specs.BodyChecks.{bodyChecks, loneTable, loneChecks}
@@ -53,7 +53,7 @@ clean table ps ns is words h =
 
 -- What a caller may go by in a body that was accepted: each fact of its rows, slices and work area.
 pub record Passed (table : List ℕ) (ps ns : List Float) (is : List ℕ) (words : ℕ) : Type 0 where
-  pub whole : length table ≡ 5 * length (rowsOf table)
+  pub whole : length table ≡ rowWidth * length (rowsOf table)
   pub rows : length (rowsOf table) ≤ 4096
   pub vertices : allVertices (rowsOf table) ≤ 262144
   pub indices : allIndices (rowsOf table) ≤ 786432

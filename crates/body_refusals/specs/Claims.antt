@@ -6,7 +6,7 @@ use lib.Dec.{T}
 use lib.Ieee.{Float, nan}
 use Rattle.lists.specs.Lists.{all}
 use Rattle.lists.specs.Table.{Case, case, agrees}
-use Rattle.body_rows.specs.Body.{firstFailing}
+use Rattle.body_rows.specs.Body.{rowWidth, firstFailing}
 use Rattle.body_refusals.specs.BodyChecks.{bodyChecks}
 use Rattle.body_rows.specs.Given.{Given, at, triangle, givenTable, givenPositions, givenIndices}
 use Rattle.body_refusals.specs.Evaluation.{evaluation}
@@ -26,7 +26,7 @@ refusalOf is words = refusal (0 ∷ 5 ∷ 0 ∷ 3 ∷ length is ∷ []) (givenPo
 -- what passes and what doesn't, check by check
 pub claims : List Case
 claims =
-    case 11 (refusal (replicate (5 * 4096) 0) [] [] [] 65536 ∷ refusal (replicate (5 * 4097) 0) [] [] [] 99999 ∷ refusal (0 ∷ []) [] [] [] 9 ∷ []) (0 ∷ 11 ∷ 11 ∷ [])
+    case 11 (refusal (replicate (rowWidth * 4096) 0) [] [] [] 65536 ∷ refusal (replicate (rowWidth * 4097) 0) [] [] [] 99999 ∷ refusal (0 ∷ []) [] [] [] 9 ∷ []) (0 ∷ 11 ∷ 11 ∷ [])
     ∷ case 12 (refusal (0 ∷ 0 ∷ 255 ∷ 0 ∷ 0 ∷ []) [] [] [] 16 ∷ refusal (0 ∷ 0 ∷ 256 ∷ 0 ∷ 0 ∷ []) [] [] [] 16 ∷ refusal (0 ∷ 0 ∷ 1 ∷ 0 ∷ 3 ∷ []) [] [] [] 99 ∷ []) (0 ∷ 12 ∷ 12 ∷ [])
     ∷ case 13 (refusal (0 ∷ 0 ∷ 0 ∷ 262144 ∷ 0 ∷ []) [] [] [] 16 ∷ refusal (0 ∷ 0 ∷ 0 ∷ 262145 ∷ 0 ∷ []) [] [] [] 16 ∷ []) (14 ∷ 13 ∷ [])
     ∷ case 21 (refusalOf (0 ∷ 1 ∷ 2 ∷ 3 ∷ []) 99 ∷ refusalOf (0 ∷ 1 ∷ 2 ∷ []) 99 ∷ []) (21 ∷ 0 ∷ [])

@@ -4,7 +4,7 @@ use mathlib.Core.List.{List, [], _∷_, map}
 use Prim.Native.Nat.{ℕ, _*_}
 use lib.ListN.{length, getD, length-map, List·getD-map}
 use Rattle.body_rows.specs.Body as Body
-use Rattle.body_rows.specs.Body.{rowsOf, tableOf}
+use Rattle.body_rows.specs.Body.{rowWidth, rowsOf, tableOf}
 use Rattle.body_rows.specs.Rows as Flat
 use Rattle.mesh_materials.specs.declared.FaceId.{FaceId}
 use Rattle.body_row_structs.specs.declared.Row.{Row}
@@ -40,8 +40,8 @@ pub flat-rows : (rows : List Row) → rowsOf (flat rows) ≡ map bodyRow rows
 flat-rows rows = table-rows (map bodyRow rows)
 
 -- it is whole rows, as many as the slice has,
-pub flat-length : (rows : List Row) → length (flat rows) ≡ 5 * length rows
-flat-length rows = Flat.table-length (map bodyRow rows) ∙ ap (λ (n : ℕ). 5 * n) (length-map rows bodyRow)
+pub flat-length : (rows : List Row) → length (flat rows) ≡ rowWidth * length rows
+flat-length rows = Flat.table-length (map bodyRow rows) ∙ ap (λ (n : ℕ). rowWidth * n) (length-map rows bodyRow)
 
 -- and its row k is row k of the slice, past the end too.
 pub flat-row : (rows : List Row) (k : ℕ) → Flat.rowAt (flat rows) k ≡ bodyRow (rowAt rows k)

@@ -10,6 +10,14 @@ use Rattle.lists.specs.Lists.{sumOf}
 abbrev pub rowWidth : ℕ
 rowWidth = 5
 
+-- how far before a row's end its vertex count stands
+abbrev pub verticesBack : ℕ
+verticesBack = 2
+
+-- how far before a row's end its index count stands
+abbrev pub indicesBack : ℕ
+indicesBack = 1
+
 -- A row has a shell number, a face number, an outcome (0 for a patch, 1 to 255 for an upstream failure), a vertex count and an index count.
 pub record Row : Type 0 where
   pub shell : ℕ

@@ -7,7 +7,7 @@ use native.Mathlib.Omega.{arith}
 use lib.ListN.{length, getD, take, drop}
 use lib.Seq.{drop-cons}
 use Rattle.lists.specs.Lists.{sumOf}
-use Rattle.body_rows.specs.Body.{Row, rowsOf, tableOf, allVertices, allIndices}
+use Rattle.body_rows.specs.Body.{rowWidth, Row, rowsOf, tableOf, allVertices, allIndices}
 
 -- a row of zeros: what lies past the end
 abbrev pub noRow : Row
@@ -22,8 +22,8 @@ pub rows-here : (table : List ℕ) (k : ℕ) → k < length (rowsOf table) → d
 unfolding rowAt
 rows-here table k h = let e : suc k ≡ k + 1 = omega arith in drop-cons (rowsOf table) k noRow h ∙ ap (λ (n : ℕ). getD (rowsOf table) k noRow ∷ drop n (rowsOf table)) e
 
--- the flat table of some rows has five numbers for each
-pub table-length : (rows : List Row) → length (tableOf rows) ≡ 5 * length rows
+-- the flat table of some rows has `rowWidth` numbers for each
+pub table-length : (rows : List Row) → length (tableOf rows) ≡ rowWidth * length rows
 unfolding tableOf
 table-length [] = refl
 table-length (r ∷ rs) = let e = table-length rs in omega arith
@@ -55,7 +55,7 @@ pub record Starts (before : List Row → ℕ → ℕ) (table old new : List ℕ)
 
 -- a table of whole rows, and not too many
 pub record WholeRows (table : List ℕ) : Type 0 where
-  pub whole : length table ≡ 5 * length (rowsOf table)
+  pub whole : length table ≡ rowWidth * length (rowsOf table)
   pub few : length (rowsOf table) ≤ 4096
 
 -- a word for each row
@@ -66,7 +66,7 @@ pub record WordsFit (table words : List ℕ) : Type 0 where
 -- a column of a table of whole rows
 pub record Column (table : List ℕ) (j : ℕ) : Type 0 where
   pub rows : WholeRows table
-  pub column : j < 5
+  pub column : j < rowWidth
 
 -- a column, and a word for each row
 pub record ColumnWords (table words : List ℕ) (j : ℕ) : Type 0 where
@@ -81,10 +81,10 @@ pub record Total (total r : ℕ) : Type 0 where
 -- number j of row k lies in the table
 pub record InTable (table : List ℕ) (k j : ℕ) : Type 0 where
   pub row : k < length (rowsOf table)
-  pub column : j < 5
+  pub column : j < rowWidth
 
--- a row is five numbers
-pub length-rows : (table : List ℕ) → length (rowsOf table) ≡ length table / 5
+-- a row is `rowWidth` numbers
+pub length-rows : (table : List ℕ) → length (rowsOf table) ≡ length table / rowWidth
 unfolding rowsOf
 length-rows [] = refl
 length-rows (s ∷ []) = refl
@@ -94,13 +94,19 @@ length-rows (s ∷ f ∷ o ∷ v ∷ []) = refl
 length-rows (s ∷ f ∷ o ∷ v ∷ i ∷ rest) = let e = length-rows rest in omega arith
 
 -- the numbers of row k lie in the table
-pub row-room : (table : List ℕ) (k : ℕ) → k < length (rowsOf table) → 5 * k + 4 < length table
+pub row-room : (table : List ℕ) (k : ℕ) → k < length (rowsOf table) → rowWidth * k + rowWidth ≤ length table
 row-room table k h = omega (arith, length-rows table)
 
 -- where they stand
 pub row-flat : (table : List ℕ) (k : ℕ) → k < length (rowsOf table)
     → rowAt table k
-    ≡ record { shell = getD table (5 * k) 0; face = getD table (5 * k + 1) 0; outcome = getD table (5 * k + 2) 0; vertices = getD table (5 * k + 3) 0; indices = getD table (5 * k + 4) 0 }
+    ≡ record {
+      shell = getD table (rowWidth * k) 0;
+      face = getD table (rowWidth * k + 1) 0;
+      outcome = getD table (rowWidth * k + 2) 0;
+      vertices = getD table (rowWidth * k + 3) 0;
+      indices = getD table (rowWidth * k + 4) 0;
+    }
 unfolding rowsOf rowAt
 row-flat [] k h = absurd (not-suc-le-zero h)
 row-flat (s ∷ []) k h = absurd (not-suc-le-zero h)
@@ -115,24 +121,24 @@ row-flat (s ∷ f ∷ o ∷ v ∷ i ∷ rest) (suc k) h =
     at : ℕ → ℕ → ℕ
     at d n = getD (s ∷ f ∷ o ∷ v ∷ i ∷ rest) n d
 
-    e0 : suc (suc (suc (suc (suc (5 * k))))) ≡ 5 * suc k
+    e0 : suc (suc (suc (suc (suc (rowWidth * k))))) ≡ rowWidth * suc k
     e0 = omega arith
 
-    e1 : suc (suc (suc (suc (suc (5 * k + 1))))) ≡ 5 * suc k + 1
+    e1 : suc (suc (suc (suc (suc (rowWidth * k + 1))))) ≡ rowWidth * suc k + 1
     e1 = omega arith
 
-    e2 : suc (suc (suc (suc (suc (5 * k + 2))))) ≡ 5 * suc k + 2
+    e2 : suc (suc (suc (suc (suc (rowWidth * k + 2))))) ≡ rowWidth * suc k + 2
     e2 = omega arith
 
-    e3 : suc (suc (suc (suc (suc (5 * k + 3))))) ≡ 5 * suc k + 3
+    e3 : suc (suc (suc (suc (suc (rowWidth * k + 3))))) ≡ rowWidth * suc k + 3
     e3 = omega arith
 
-    e4 : suc (suc (suc (suc (suc (5 * k + 4))))) ≡ 5 * suc k + 4
+    e4 : suc (suc (suc (suc (suc (rowWidth * k + 4))))) ≡ rowWidth * suc k + 4
     e4 = omega arith
 
--- number j of row k stands at 5 k + j
-pub row-column : (table : List ℕ) (k j : ℕ) → k < length (rowsOf table) → j < 5 → getD table (5 * k + j) 0 ≡ column j (rowAt table k)
-row-column table k zero h l = ap (λ (n : ℕ). getD table n 0) (add-zero (5 * k)) ∙ sym (ap (λ (r : Row). r .shell) (row-flat table k h))
+-- number j of row k stands at rowWidth * k + j
+pub row-column : (table : List ℕ) (k j : ℕ) → k < length (rowsOf table) → j < rowWidth → getD table (rowWidth * k + j) 0 ≡ column j (rowAt table k)
+row-column table k zero h l = ap (λ (n : ℕ). getD table n 0) (add-zero (rowWidth * k)) ∙ sym (ap (λ (r : Row). r .shell) (row-flat table k h))
 row-column table k (suc zero) h l = sym (ap (λ (r : Row). r .face) (row-flat table k h))
 row-column table k (suc (suc zero)) h l = sym (ap (λ (r : Row). r .outcome) (row-flat table k h))
 row-column table k (suc (suc (suc zero))) h l = sym (ap (λ (r : Row). r .vertices) (row-flat table k h))

@@ -6,7 +6,9 @@ mod totals;
 
 pub use bases::index_bases;
 pub use bases::vertex_bases;
+pub use rows::INDICES_BACK;
 pub use rows::ROW_WIDTH;
+pub use rows::VERTICES_BACK;
 pub use rows::face;
 pub use rows::indices;
 pub use rows::outcome;

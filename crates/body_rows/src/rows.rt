@@ -1,4 +1,4 @@
-// The rows of the flat table, five numbers each.
+// The rows of the flat table, `ROW_WIDTH` numbers each.
 
 ghost use mathlib.Core.Path.{_≡_};
 ghost use Prim.Native.Nat.{_<_};
@@ -8,6 +8,11 @@ ghost use Rattle.body_rows.specs.Rows.{InTable, column, rowAt};
 
 // How many numbers of the flat table make a row.
 pub const ROW_WIDTH: usize = 5;
+
+// How far before a row's end its vertex count stands, and its index count.
+pub const VERTICES_BACK: usize = 2;
+
+pub const INDICES_BACK: usize = 1;
 
 // How many whole rows the table has.
 pub fn row_count(rows: &[u32]) -> usize

@@ -6,19 +6,19 @@ use Prim.Native.Nat.{ℕ, _+_, _%_, _≤_, _<_}
 use lib.ListN.{length}
 use lib.Dec.{ltb, eqb}
 use borrow.Author.Tests.{eq-eqb, ne-eqb, lt-ltb, le-ltb}
-use Rattle.body_rows.specs.Body.{Row, rowsOf}
+use Rattle.body_rows.specs.Body.{rowWidth, Row, rowsOf}
 use Rattle.body_refusals.specs.TableChecks.{badRow, tooLarge}
 use Rattle.body_table_checks.specs.TableTests.{notWhole}
 use Rattle.body_rows.specs.Rows.{Total}
 
 -- ---- 11
 -- the table isn't whole rows
-pub whole-not : (table : List ℕ) → (length table % 5 ≡ 0 → ⊥) → true ≡ notWhole table
+pub whole-not : (table : List ℕ) → (length table % rowWidth ≡ 0 → ⊥) → true ≡ notWhole table
 whole-not table h = simp (ne-eqb _ _ h)
 
 -- it is: the rows may be too many
-pub whole-many : (table : List ℕ) {n : ℕ} → length table % 5 ≡ 0 → n ≡ length (rowsOf table) → ltb 4096 n ≡ notWhole table
-whole-many table {n} h e = simp (eq-eqb (length table % 5) 0 h) (ap (ltb 4096) e)
+pub whole-many : (table : List ℕ) {n : ℕ} → length table % rowWidth ≡ 0 → n ≡ length (rowsOf table) → ltb 4096 n ≡ notWhole table
+whole-many table {n} h e = simp (eq-eqb (length table % rowWidth) 0 h) (ap (ltb 4096) e)
 
 -- ---- 12
 module _ (r : Row) {o : ℕ} (e : o ≡ r .outcome) where

@@ -25,8 +25,8 @@ wrongLengths rows ps ns is = not (eqb (length ps) (3 * allVertices rows) && eqb 
 -- check 11 has passed
 pub whole-rows : {table : List ℕ} → notWhole table ≡ false → WholeRows table
 whole-rows {table} h =
-    let w = eqb-true (length table % 5) 0 (not-false (eqb (length table % 5) 0) (or-left (not (eqb (length table % 5) 0)) (ltb 4096 (length (rowsOf table))) h)) in
+    let w = eqb-true (length table % rowWidth) 0 (not-false (eqb (length table % rowWidth) 0) (or-left (not (eqb (length table % rowWidth) 0)) (ltb 4096 (length (rowsOf table))) h)) in
     record {
       whole = omega (arith, length-rows table);
-      few = ltb-false 4096 (length (rowsOf table)) (or-right (not (eqb (length table % 5) 0)) (ltb 4096 (length (rowsOf table))) h);
+      few = ltb-false 4096 (length (rowsOf table)) (or-right (not (eqb (length table % rowWidth) 0)) (ltb 4096 (length (rowsOf table))) h);
     }

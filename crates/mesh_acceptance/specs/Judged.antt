@@ -15,7 +15,7 @@ use Rattle.patch_geometry.specs.Geometry.{diagonal}
 use Rattle.mesh_verdicts.specs.declared.Failure.{Failure}
 use Rattle.mesh_verdicts.specs.Failures.{failureOf}
 use Rattle.mesh_materials.specs.Materials.{materialOf}
-use Rattle.mesh_acceptance.specs.Acceptance.{Accepted, Failed, failureNumbers}
+use Rattle.mesh_acceptance.specs.Acceptance.{failureWidth, Accepted, Failed, failureNumbers}
 use Rattle.mesh_materials.specs.Small.{SmallMaterials}
 
 -- ---- a decision for each row
@@ -82,11 +82,11 @@ failedOf box p = failedBy (failureOf box p) (p .row .face)
 pub record FailureReady (table : List ℕ) (ps : List Float) (is : List ℕ) (box : Aabb) (span : Float) (k base i d : ℕ) (F : List ℕ) (j : ℕ) : Type 0 where
   pub judgeable : RowJudgeable table ps is box span k base i
   pub other : (d ≡ 0 → ⊥) → failureOf box (patchFrom (rowAt table k) ps [] is base i) ≡ none
-  pub room : 4 * j + 4 ≤ length F
+  pub room : failureWidth * j + failureWidth ≤ length F
 
 -- what it leaves: the failure, if there is one, behind the j before it
 pub record FailureWritten (box : Aabb) (p : Patch) (j : ℕ) (F G : List ℕ) (r : ℕ) : Type 0 where
-  pub numbers : Appended (4 * j) (flatMap failureNumbers (failedOf box p)) F G
+  pub numbers : Appended (failureWidth * j) (flatMap failureNumbers (failedOf box p)) F G
   pub count : r ≡ j + length (failedOf box p)
 
 -- what writing all failures asks: the slices are as long as the rows say, a row whose decision isn't 0 is accepted, and there is room for every row
@@ -96,7 +96,7 @@ pub record FailuresReady (table : List ℕ) (ps : List Float) (is : List ℕ) (b
   pub all-indices : length is ≡ allIndices (rowsOf table)
   pub words : at + length (rowsOf table) ≤ length W
   pub others : (k : ℕ) → k < length (rowsOf table) → (getD W (at + k) 0 ≡ 0 → ⊥) → failureOf box (getD (shapes table ps is) k noPatch) ≡ none
-  pub room : 4 * length (rowsOf table) ≤ length F
+  pub room : failureWidth * length (rowsOf table) ≤ length F
 
 -- what it leaves: all failures in row order at the front of the table, and how many there are
 pub record FailuresWritten (table : List ℕ) (ps : List Float) (is : List ℕ) (box : Aabb) (F G : List ℕ) (r : ℕ) : Type 0 where

@@ -10,6 +10,8 @@ use Rattle.body_rows.specs.Given.{Given, at, below, row, triangle, givenTable, 
 use Rattle.patch_geometry.specs.declared.Aabb.{Aabb}
 use Rattle.patch_geometry.specs.Geometry.{zero64}
 use Rattle.patch_geometry.specs.Given.{box68, onePoint}
+use Rattle.mesh_acceptance.specs.Acceptance.{failureWidth}
+use Rattle.mesh_layout.specs.Mesh.{partWidth, rangeWidth}
 use Rattle.mesh_room.specs.Slices.{MeshSlices}
 use Rattle.mesh_definition.specs.Assemble.{AfterAssemble, assembleOf}
 use Rattle.mesh_definition.specs.Evaluation.{evaluation}
@@ -20,9 +22,9 @@ room n rows =
     record {
       vertices = record { positions = replicate n zero64; normals = replicate n zero64 };
       indices = replicate n 9;
-      parts = replicate (3 * rows) 9;
-      ranges = replicate (3 * rows) 9;
-      failures = replicate (4 * rows) 9;
+      parts = replicate (partWidth * rows) 9;
+      ranges = replicate (rangeWidth * rows) 9;
+      failures = replicate (failureWidth * rows) 9;
       work = replicate 999 7;
     }
 
@@ -32,8 +34,8 @@ needed =
     record {
       vertices = record { positions = replicate 27 zero64; normals = replicate 27 zero64 };
       indices = replicate 9 9;
-      parts = replicate 3 9;
-      ranges = replicate 9 9;
+      parts = replicate partWidth 9;
+      ranges = replicate (rangeWidth * 3) 9;
       failures = [];
       work = replicate 999 7;
     }
@@ -54,7 +56,7 @@ runs : List Given → List ℕ → ℕ → List ℕ
 runs gs materials default =
     let a = assembled gs onePoint materials default in
     let out = a .slices in
-    take (a .indices) (out .indices) ++ take (3 * a .parts) (out .parts) ++ take (3 * a .ranges) (out .ranges)
+    take (a .indices) (out .indices) ++ take (partWidth * a .parts) (out .parts) ++ take (rangeWidth * a .ranges) (out .ranges)
 
 -- three rows with faces 4, 5 and 4
 three : List Given
@@ -95,7 +97,7 @@ claims =
     ∷ case 4 (counts neighbours) (11 ∷ 0 ∷ 1 ∷ 0 ∷ [])
     ∷ case 5 (counts three) (9 ∷ 9 ∷ 0 ∷ 0 ∷ [])
     ∷ case 6 (failing .slices .failures) (3 ∷ 7 ∷ 0 ∷ 0 ∷ 2 ∷ 0 ∷ 0 ∷ 0 ∷ 1 ∷ 256 ∷ 0x403176D9090C79A8 ∷ 0x4024000000000000 ∷ 9 ∷ 9 ∷ 9 ∷ 9 ∷ [])
-    ∷ case 6 (failing .vertices ∷ failing .indices ∷ failing .ranges ∷ failing .failures ∷ take 6 (failing .slices .ranges)) (3 ∷ 3 ∷ 1 ∷ 3 ∷ 6 ∷ 0 ∷ 3 ∷ 9 ∷ 9 ∷ 9 ∷ [])
+    ∷ case 6 (failing .vertices ∷ failing .indices ∷ failing .ranges ∷ failing .failures ∷ take (rangeWidth * 2) (failing .slices .ranges)) (3 ∷ 3 ∷ 1 ∷ 3 ∷ 6 ∷ 0 ∷ 3 ∷ 9 ∷ 9 ∷ 9 ∷ [])
     ∷ case 42 (refusal (4294967297 ∷ []) (room 0 0) ∷ refusal [] (room 99 2) ∷ refusal [] (room 26 3) ∷ refusal [] (room 27 3) ∷ refusal [] needed ∷ []) (42 ∷ 41 ∷ 41 ∷ 0 ∷ 41 ∷ [])
     ∷ []
 

@@ -17,7 +17,7 @@ use Rattle.patch_geometry.specs.Geometry.{diagonal}
 use Rattle.mesh_verdicts.specs.declared.Failure.{Failure}
 use Rattle.mesh_verdicts.specs.declared.Failure.the-variants.{Empty, Upstream, Escape}
 use Rattle.mesh_verdicts.specs.Failures.{failureOf}
-use Rattle.mesh_acceptance.specs.Acceptance.{Failed, failureNumbers}
+use Rattle.mesh_acceptance.specs.Acceptance.{failureWidth, Failed, failureNumbers}
 use Rattle.mesh_acceptance.specs.Judged.{failedBy, failedOf, FailureReady, FailureWritten, FailuresReady, FailuresWritten}
 use Rattle.mesh_acceptance.specs.JudgedLaws.{failed-few}
 use Rattle.mesh_acceptance.specs.RestLaws.{restOf, rest-here}
@@ -44,14 +44,14 @@ module _ {o face : ℕ} {F G : List ℕ} {f : Failure} where
       (subst (λ (xs : List ℕ). Appended o xs F G) (λ j. face ∷ 256 ∷ p j ∷ q j ∷ []) a)
 
 -- four numbers for each
-four-numbers : (face : ℕ) (g : Failure) → length (failureNumbers (record { face = face; failure = g })) ≡ 4
+four-numbers : (face : ℕ) (g : Failure) → length (failureNumbers (record { face = face; failure = g })) ≡ failureWidth
 unfolding failureNumbers
 four-numbers face Empty = refl
 four-numbers face (Upstream n) = refl
 four-numbers face (Escape r s) = refl
 
 -- four for each of some
-pub failures-long : (fs : List Failed) → length (flatMap failureNumbers fs) ≡ 4 * length fs
+pub failures-long : (fs : List Failed) → length (flatMap failureNumbers fs) ≡ failureWidth * length fs
 unfolding flatMap
 failures-long [] = refl
 failures-long (f ∷ fs) = let e = failures-long fs in omega (arith, length-append (failureNumbers f) (flatMap failureNumbers fs), four-numbers (f .face) (f .failure))
@@ -65,19 +65,19 @@ module _ {box : Aabb} {p : Patch} {j : ℕ} {F : List ℕ} where
   failure-none e =
       let q : failedOf box p ≡ [] = ap (λ (o : Option Failure). failedBy o (p .row .face)) (sym e) in
       record {
-        numbers = subst (λ (fs : List Failed). Appended (4 * j) (flatMap failureNumbers fs) F F) (sym q) (appended-none (4 * j) F);
+        numbers = subst (λ (fs : List Failed). Appended (failureWidth * j) (flatMap failureNumbers fs) F F) (sym q) (appended-none (failureWidth * j) F);
         count = omega (arith, ap length q);
       }
 
   -- another has one
-  pub failure-one : {f : Failure} {face : ℕ} {G : List ℕ} → some f ≡ failureOf box p → face ≡ p .row .face → Appended (4 * j) (failureNumbers (record { face = face; failure = f })) F G
+  pub failure-one : {f : Failure} {face : ℕ} {G : List ℕ} → some f ≡ failureOf box p → face ≡ p .row .face → Appended (failureWidth * j) (failureNumbers (record { face = face; failure = f })) F G
       → FailureWritten box p j F G (j + 1)
   unfolding failedOf failedBy flatMap
   failure-one {f} {face} {G} e h a =
       let q : failedOf box p ≡ record { face = face; failure = f } ∷ [] = (λ j. failedBy (sym e j) (sym h j)) in
       record {
-        numbers = subst (λ (fs : List Failed). Appended (4 * j) (flatMap failureNumbers fs) F G) (sym q)
-            (subst (λ (xs : List ℕ). Appended (4 * j) xs F G) (sym (append-nil (failureNumbers (record { face = face; failure = f })))) a);
+        numbers = subst (λ (fs : List Failed). Appended (failureWidth * j) (flatMap failureNumbers fs) F G) (sym q)
+            (subst (λ (xs : List ℕ). Appended (failureWidth * j) xs F G) (sym (append-nil (failureNumbers (record { face = face; failure = f })))) a);
         count = omega (arith, ap length q);
       }
 
@@ -140,7 +140,7 @@ module _ {table : List ℕ} {ps : List Float} {is : List ℕ} {box : Aabb} {F : 
               ∙ c .are;
           many = omega (arith, length-append (c .done) fs, c .many, w .count);
           few = omega (arith, w .count, few, c .few);
-          put = subst (λ (xs : List ℕ). Appended 0 xs F H) (sym (numbers-both (c .done) fs)) (behind (c .put) (failures-long (c .done) ∙ ap (λ (x : ℕ). 4 * x) (c .many)) (w .numbers));
+          put = subst (λ (xs : List ℕ). Appended 0 xs F H) (sym (numbers-both (c .done) fs)) (behind (c .put) (failures-long (c .done) ∙ ap (λ (x : ℕ). failureWidth * x) (c .many)) (w .numbers));
           long = appended-long (w .numbers) (omega (arith, failures-long fs, few, g .room, c .few, c .long)) ∙ c .long;
         }
 

@@ -1,5 +1,6 @@
 // The failures of a body, in row order.
 
+use mesh_acceptance::FAILURE_WIDTH;
 use mesh_judge::row_verdict;
 use mesh_materials::FaceId;
 use mesh_verdicts::Failure;
@@ -11,16 +12,17 @@ ghost use Rattle.slice_append.specs.Appended.{Appended};
 ghost use mathlib.Core.List.{[]};
 ghost use Rattle.body_rows.specs.Rows.{rowAt};
 ghost use Rattle.body_rows.specs.Patches.{patchFrom};
-ghost use Rattle.mesh_acceptance.specs.Acceptance.{failureNumbers};
+ghost use Rattle.mesh_acceptance.specs.Acceptance.{failureWidth, failureNumbers};
 ghost use Rattle.mesh_acceptance.specs.Judged.{FailureReady, FailureWritten, FailuresReady, FailuresWritten};
 
 // A failure is written as row j of the table: face; case, 0 for empty, 1 to 255 for upstream, 256 for an escape; the bits of reach and span, else 0.
 fn put_failure(failures: &mut [u64], j: usize, face: FaceId, failure: Failure)
-    requires { ⌜ 4 * j + 4 ≤ length (now failures) ⌝ }
-    ensures { λ _. ⌜ Appended (4 * j) (failureNumbers (record { face = face .0; failure = failure })) (now (failures .entry)) (now (failures .exit)) ⌝ }
+    requires { ⌜ failureWidth * j + failureWidth ≤ length (now failures) ⌝ }
+    ensures { λ _. ⌜ Appended (failureWidth * j) (failureNumbers (record { face = face .0; failure = failure })) (now (failures .entry))
+        (now (failures .exit)) ⌝ }
 {
     let number = face.0 as u64;
-    let o = 4 * j;
+    let o = FAILURE_WIDTH * j;
     match failure {
         Failure::Empty => slice_append::put_four(failures, o, number, 0, 0, 0),
         Failure::Upstream(n) => slice_append::put_four(failures, o, number, n as u64, 0, 0),

@@ -6,7 +6,7 @@ use lib.ListN.{length, getD, take, drop}
 use Rattle.lists.specs.Lists.{sumOf, written}
 use Rattle.body_rows.specs.Body.{rowsOf, allVertices, allIndices}
 use Rattle.body_rows.specs.Rows.{WholeRows, rowAt, indicesBefore}
-use Rattle.mesh_layout.specs.Mesh.{Laid, materialsOf, runsOf, startOf, partOf}
+use Rattle.mesh_layout.specs.Mesh.{partWidth, Laid, materialsOf, runsOf, startOf, partOf}
 use Rattle.mesh_layout.specs.JudgedRows.{judgedIn, laidBy, indicesWith}
 
 -- the accepted rows of a body laid
@@ -28,7 +28,7 @@ pub record RunsWritable (table is W : List ℕ) (at starts : ℕ) (out parts : L
   pub body : Runnable table is W at starts
   pub small : (k : ℕ) → k < length (rowsOf table) → getD W (at + k) 0 ≤ 4294967296
   pub out-room : sumOf (λ l. length (l .indices)) (laidIn table W at is) ≤ length out
-  pub parts-room : 3 * length (rowsOf table) ≤ length parts
+  pub parts-room : partWidth * length (rowsOf table) ≤ length parts
 
 -- what it leaves: the runs and parts at the front of their slices, and where each accepted row's indices begin
 pub record RunsWritten (table is W E : List ℕ) (at starts : ℕ) (out new parts table' : List ℕ) (r : ℕ) : Type 0 where

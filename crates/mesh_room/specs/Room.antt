@@ -8,8 +8,9 @@ use lib.Dec.{ltb}
 use borrow.Author.Tests.{ltb-false}
 use Rattle.lists.specs.Both.{or-left, or-right}
 use Rattle.body_rows.specs.Body.{firstFailing}
-use Rattle.mesh_acceptance.specs.Acceptance.{Accepted, acceptedVertices, acceptedIndices}
+use Rattle.mesh_acceptance.specs.Acceptance.{failureWidth, Accepted, acceptedVertices, acceptedIndices}
 use Rattle.mesh_materials.specs.Materials.{badMaterials}
+use Rattle.mesh_layout.specs.Mesh.{partWidth, rangeWidth}
 use Rattle.mesh_room.specs.Slices.{MeshSlices, tooShort, meshTooShort, meshChecks}
 
 -- sizes whose needs can be counted
@@ -19,7 +20,7 @@ pub record RoomAsked (vertices m : ℕ) : Type 0 where
 
 -- slices of these lengths are too short for so many vertices and indices, or a table for m rows
 unfoldable pub shortBy : ℕ → ℕ → ℕ → ℕ → ℕ → ℕ → ℕ → ℕ → ℕ → Bool
-shortBy v i m p n is parts ranges failures = (ltb p (3 * v) || ltb n (3 * v)) || ltb is i || ltb parts (3 * m) || ltb ranges (3 * m) || ltb failures (4 * m)
+shortBy v i m p n is parts ranges failures = (ltb p (3 * v) || ltb n (3 * v)) || ltb is i || ltb parts (partWidth * m) || ltb ranges (rangeWidth * m) || ltb failures (failureWidth * m)
 
 -- that is check 41
 pub short-is : (m : ℕ) (accepted : List Accepted) (out : MeshSlices)
@@ -51,23 +52,24 @@ module _ (v i m p n is parts ranges failures : ℕ) where
     pub positions : 3 * v ≤ p
     pub normals : 3 * v ≤ n
     pub indices : i ≤ is
-    pub parts-fit : 3 * m ≤ parts
-    pub ranges-fit : 3 * m ≤ ranges
-    pub failures-fit : 4 * m ≤ failures
+    pub parts-fit : partWidth * m ≤ parts
+    pub ranges-fit : rangeWidth * m ≤ ranges
+    pub failures-fit : failureWidth * m ≤ failures
 
   -- if none is too short
   pub fits : shortBy v i m p n is parts ranges failures ≡ false → Fits
   unfolding shortBy
   fits h =
-      let a = or-left ((ltb p (3 * v) || ltb n (3 * v)) || ltb is i || ltb parts (3 * m) || ltb ranges (3 * m)) (ltb failures (4 * m)) h in
-      let b = or-left ((ltb p (3 * v) || ltb n (3 * v)) || ltb is i || ltb parts (3 * m)) (ltb ranges (3 * m)) a in
-      let c = or-left ((ltb p (3 * v) || ltb n (3 * v)) || ltb is i) (ltb parts (3 * m)) b in
+      let a = or-left ((ltb p (3 * v) || ltb n (3 * v)) || ltb is i || ltb parts (partWidth * m) || ltb ranges (rangeWidth * m)) (ltb failures (failureWidth * m)) h in
+      let b = or-left ((ltb p (3 * v) || ltb n (3 * v)) || ltb is i || ltb parts (partWidth * m)) (ltb ranges (rangeWidth * m)) a in
+      let c = or-left ((ltb p (3 * v) || ltb n (3 * v)) || ltb is i) (ltb parts (partWidth * m)) b in
       let d = or-left (ltb p (3 * v) || ltb n (3 * v)) (ltb is i) c in
       record {
         positions = ltb-false p (3 * v) (or-left (ltb p (3 * v)) (ltb n (3 * v)) d);
         normals = ltb-false n (3 * v) (or-right (ltb p (3 * v)) (ltb n (3 * v)) d);
         indices = ltb-false is i (or-right (ltb p (3 * v) || ltb n (3 * v)) (ltb is i) c);
-        parts-fit = ltb-false parts (3 * m) (or-right ((ltb p (3 * v) || ltb n (3 * v)) || ltb is i) (ltb parts (3 * m)) b);
-        ranges-fit = ltb-false ranges (3 * m) (or-right ((ltb p (3 * v) || ltb n (3 * v)) || ltb is i || ltb parts (3 * m)) (ltb ranges (3 * m)) a);
-        failures-fit = ltb-false failures (4 * m) (or-right ((ltb p (3 * v) || ltb n (3 * v)) || ltb is i || ltb parts (3 * m) || ltb ranges (3 * m)) (ltb failures (4 * m)) h);
+        parts-fit = ltb-false parts (partWidth * m) (or-right ((ltb p (3 * v) || ltb n (3 * v)) || ltb is i) (ltb parts (partWidth * m)) b);
+        ranges-fit = ltb-false ranges (rangeWidth * m) (or-right ((ltb p (3 * v) || ltb n (3 * v)) || ltb is i || ltb parts (partWidth * m)) (ltb ranges (rangeWidth * m)) a);
+        failures-fit = ltb-false failures (failureWidth * m)
+            (or-right ((ltb p (3 * v) || ltb n (3 * v)) || ltb is i || ltb parts (partWidth * m) || ltb ranges (rangeWidth * m)) (ltb failures (failureWidth * m)) h);
       }

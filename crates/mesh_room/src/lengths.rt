@@ -1,5 +1,8 @@
 // Check 41: room for the mesh and its tables.
 
+use mesh_acceptance::FAILURE_WIDTH;
+use mesh_layout::PART_WIDTH;
+use mesh_layout::RANGE_WIDTH;
 ghost use mathlib.Core.Path.{_≡_};
 ghost use lib.ListN.{length};
 ghost use Rattle.mesh_room.specs.Room.{RoomAsked, shortBy};
@@ -30,11 +33,11 @@ pub fn too_short(
     if mesh_indices.len() < indices {
         return true;
     }
-    if parts.len() < 3 * m {
+    if parts.len() < PART_WIDTH * m {
         return true;
     }
-    if ranges.len() < 3 * m {
+    if ranges.len() < RANGE_WIDTH * m {
         return true;
     }
-    failures.len() < 4 * m
+    failures.len() < FAILURE_WIDTH * m
 }

@@ -15,6 +15,7 @@ use Rattle.mesh_acceptance.specs.RestLaws.{decisions-here, rows-no, rows-yes, r
 use Rattle.mesh_layout.specs.JudgedRows.{judgedIn, baseAfter, keptIf, rangesWith}
 use Rattle.mesh_layout.specs.RowLaws.{judged-here, judged-long}
 use Rattle.mesh_layout.specs.Ranges.{RowRangeable, RowRanged, RangesWritable, RangesWritten}
+use Rattle.mesh_layout.specs.Mesh.{rangeWidth}
 
 -- ---- one row
 
@@ -24,7 +25,7 @@ unfolding keptIf baseAfter
 range-no {table} {W} {at} {starts} {k} {out} {r} g e =
     let x = rowAt table k .face ∷ getD W (starts + k) 0 ∷ (getD W (starts + k) 0 + rowAt table k .indices) ∷ [] in
     record {
-      numbers = subst (λ (d : ℕ). Appended (3 * r) (keptIf d x) out out) (sym e) (appended-none (3 * r) out);
+      numbers = subst (λ (d : ℕ). Appended (rangeWidth * r) (keptIf d x) out out) (sym e) (appended-none (rangeWidth * r) out);
       end = ap (λ (d : ℕ). baseAfter r 1 d) (sym e);
     }
 
@@ -42,11 +43,11 @@ after-is (suc m) r n = refl
 
 -- an accepted row has one
 pub range-yes : {table W : List ℕ} {at starts k : ℕ} {out : List ℕ} {r : ℕ} {new : List ℕ} {face first end : ℕ} → RowRangeable table W at starts k out r → (getD W (at + k) 0 ≡ 0 → ⊥)
-    → face ≡ rowAt table k .face → first ≡ getD W (starts + k) 0 → end ≡ getD W (starts + k) 0 + rowAt table k .indices → Appended (3 * r) (face ∷ first ∷ end ∷ []) out new
+    → face ≡ rowAt table k .face → first ≡ getD W (starts + k) 0 → end ≡ getD W (starts + k) 0 + rowAt table k .indices → Appended (rangeWidth * r) (face ∷ first ∷ end ∷ []) out new
     → RowRanged table W at starts k out new r (r + 1)
 range-yes {table} {W} {at} {starts} {k} {out} {r} {new} g n a b e t =
     record {
-      numbers = subst (λ (xs : List ℕ). Appended (3 * r) xs out new) ((λ j. a j ∷ b j ∷ e j ∷ [])
+      numbers = subst (λ (xs : List ℕ). Appended (rangeWidth * r) xs out new) ((λ j. a j ∷ b j ∷ e j ∷ [])
           ∙ kept-is (getD W (at + k) 0) (rowAt table k .face ∷ getD W (starts + k) 0 ∷ (getD W (starts + k) 0 + rowAt table k .indices) ∷ []) n) t;
       end = after-is (getD W (at + k) 0) r n;
     }
@@ -62,14 +63,14 @@ pub record Ranging (table W : List ℕ) (at starts : ℕ) (out : List ℕ) (r k 
   pub low : k ≤ length (rowsOf table)
   pub done : List ℕ
   pub are : done ++ rangesWith (drop k (firstsIn table W starts)) (drop k (judgedIn table W at)) ≡ rangesWith (firstsIn table W starts) (judgedIn table W at)
-  pub many : length done ≡ 3 * r
+  pub many : length done ≡ rangeWidth * r
   pub count : r + length (acceptedRows (drop k (decisionsIn table W at)) (drop k (rowsOf table))) ≡ length (acceptedRows (decisionsIn table W at) (rowsOf table))
   pub few : r ≤ k
   pub put : Appended 0 done out new
   pub long : length new ≡ length out
 
 -- a row adds three numbers or none
-kept-three : (d r a b c : ℕ) → 3 * r + length (keptIf d (a ∷ b ∷ c ∷ [])) ≡ 3 * baseAfter r 1 d
+kept-three : (d r a b c : ℕ) → rangeWidth * r + length (keptIf d (a ∷ b ∷ c ∷ [])) ≡ rangeWidth * baseAfter r 1 d
 unfolding keptIf baseAfter
 kept-three zero r a b c = omega arith
 kept-three (suc m) r a b c = omega arith

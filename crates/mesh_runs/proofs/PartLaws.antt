@@ -14,7 +14,7 @@ use Rattle.lists.specs.Stretches.{stretch-kept, stretch-at, front-at, rest-at, 
 use Rattle.body_rows.specs.Body.{rowsOf}
 use Rattle.slice_append.specs.Appended.{Appended, appended-none, appended-written, appended-long, behind}
 use Rattle.mesh_acceptance.specs.Judged.{decisionsIn}
-use Rattle.mesh_layout.specs.Mesh.{Laid, materialsOf, runOf, runsOf, startOf, partOf}
+use Rattle.mesh_layout.specs.Mesh.{partWidth, Laid, materialsOf, runOf, runsOf, startOf, partOf}
 use Rattle.mesh_layout.specs.JudgedRows.{JudgedRow, judgedRows, judgedIn, laidBy, runBy, indicesWith}
 use Rattle.mesh_layout.specs.RowLaws.{judged-long}
 use Rattle.mesh_layout.specs.LaidLaws.{run-by, run-long, judged-indices, laid-low, laid-few, laid-has, has-laid}
@@ -65,7 +65,7 @@ both f [] x = append-nil (f x)
 both f (y ∷ ys) x = ap (λ l. f y ++ l) (both f ys x) ∙ sym (append-assoc (f y) (flatMap f ys) (f x))
 
 -- three numbers for each part
-parts-three : (ls : List Laid) (ms : List ℕ) → length (flatMap (partOf ls) ms) ≡ 3 * length ms
+parts-three : (ls : List Laid) (ms : List ℕ) → length (flatMap (partOf ls) ms) ≡ partWidth * length ms
 unfolding flatMap partOf
 parts-three ls [] = refl
 parts-three ls (m ∷ ms) = let e = parts-three ls ms in omega arith
@@ -373,7 +373,7 @@ module _ {table is W : List ℕ} {at starts order m : ℕ} {out parts : List ℕ
           }
 
       -- there is room for its part
-      pub part-room : 3 * p + 3 ≤ length qs
+      pub part-room : partWidth * p + partWidth ≤ length qs
       part-room =
           omega (
             arith,
@@ -416,10 +416,11 @@ module _ {table is W : List ℕ} {at starts order m : ℕ} {out parts : List ℕ
             same : c .last < getD W (at + k) 0 → getD W (at + k) 0 ≡ next
             same a = let y = least (getD W (at + k) 0) a (decision-has k h) in omega arith
 
-        module _ {qs' : List ℕ} {material first count : ℕ} (t : Appended (3 * p) (material ∷ first ∷ count ∷ []) qs qs') (em : material ≡ next - 1) (ef : first ≡ o) (ec : count ≡ run .end - o) where
-          part-is : Appended (3 * p) (partOf rs x) qs qs'
+        module _ {qs' : List ℕ} {material first count : ℕ} (t : Appended (partWidth * p) (material ∷ first ∷ count ∷ []) qs qs')
+            (em : material ≡ next - 1) (ef : first ≡ o) (ec : count ≡ run .end - o) where
+          part-is : Appended (partWidth * p) (partOf rs x) qs qs'
           unfolding partOf
-          part-is = subst (λ (ys : List ℕ). Appended (3 * p) ys qs qs') (λ j. em j ∷ (ef ∙ start-here) j ∷ counted j ∷ []) t
+          part-is = subst (λ (ys : List ℕ). Appended (partWidth * p) ys qs qs') (λ j. em j ∷ (ef ∙ start-here) j ∷ counted j ∷ []) t
             where
               counted : count ≡ length (runOf rs x)
               counted = let e = run-end in let r = run-size in omega arith
@@ -440,7 +441,7 @@ module _ {table is W : List ℕ} {at starts order m : ℕ} {out parts : List ℕ
                 indices-put = subst (λ (ys : List ℕ). Appended 0 ys out new') (sym (both (runOf rs) (c .done) x)) (behind (c .indices-put) (c .indices-many) run-is);
                 indices-many = ap length (both (runOf rs) (c .done) x) ∙ length-append (flatMap (runOf rs) (c .done)) (runOf rs x) ∙ (λ j. c .indices-many j + run-size j) ∙ sym run-end;
                 parts-put = subst (λ (ys : List ℕ). Appended 0 ys parts qs') (sym (both (partOf rs) (c .done) x))
-                    (behind (c .parts-put) (parts-three rs (c .done) ∙ ap (λ (y : ℕ). 3 * y) (c .many)) part-is);
+                    (behind (c .parts-put) (parts-three rs (c .done) ∙ ap (λ (y : ℕ). partWidth * y) (c .many)) part-is);
                 firsts = λ k h z b. first-is k h z b (ℕ-discrete (getD W (at + k) 0) next);
                 later = λ k h b. w .others k (λ e. absurd (other k h b e)) ∙ c .later k h (omega (arith, above));
                 front = w .front ∙ c .front;

@@ -1,6 +1,7 @@
 // The parts of the mesh: one run of indices for each material, ascending.
 
 use crate::runs::write_run;
+use mesh_layout::PART_WIDTH;
 use mesh_material_order::ROWS;
 use mesh_material_order::first_accepted;
 use mesh_material_order::order_rows;
@@ -10,13 +11,14 @@ ghost use Prim.Native.Nat.{_+_, _*_, _≤_};
 ghost use lib.ListN.{length};
 ghost use Rattle.slice_append.specs.Appended.{Appended};
 ghost use Rattle.mesh_layout.specs.Parts.{RunsWritable, RunsWritten};
+ghost use Rattle.mesh_layout.specs.Mesh.{partWidth};
 
 // Part p of the table: material, start, count.
 fn put_part(parts: &mut [u32], p: usize, material: MaterialId, start: u32, count: u32)
-    requires { ⌜ 3 * p + 3 ≤ length (now parts) ⌝ }
-    ensures { λ _. ⌜ Appended (3 * p) (material .0 ∷ start ∷ count ∷ []) (now (parts .entry)) (now (parts .exit)) ⌝ }
+    requires { ⌜ partWidth * p + partWidth ≤ length (now parts) ⌝ }
+    ensures { λ _. ⌜ Appended (partWidth * p) (material .0 ∷ start ∷ count ∷ []) (now (parts .entry)) (now (parts .exit)) ⌝ }
 {
-    slice_append::put_three(parts, 3 * p, material.0, start, count);
+    slice_append::put_three(parts, PART_WIDTH * p, material.0, start, count);
 }
 
 // The runs of all materials are written to the front of `out`, their parts to the front of the table, and where each row's indices begin from `starts` on.

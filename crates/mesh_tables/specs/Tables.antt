@@ -11,9 +11,9 @@ use Rattle.body_checks.specs.Accepted.{Passed}
 use Rattle.body_rows.specs.Patches.{noPatch, shapes}
 use Rattle.patch_geometry.specs.declared.Aabb.{Aabb}
 use Rattle.mesh_verdicts.specs.Failures.{failureOf}
-use Rattle.mesh_acceptance.specs.Acceptance.{failureNumbers}
+use Rattle.mesh_acceptance.specs.Acceptance.{failureWidth, failureNumbers}
 use Rattle.mesh_acceptance.specs.Judged.{acceptedRows, decisionsIn, failedOf}
-use Rattle.mesh_layout.specs.Mesh.{materialsOf, runsOf, partOf, rangesFrom}
+use Rattle.mesh_layout.specs.Mesh.{partWidth, rangeWidth, materialsOf, runsOf, partOf, rangesFrom}
 use Rattle.mesh_layout.specs.Parts.{laidIn}
 use Rattle.mesh_tables.specs.declared.Tables.{Tables}
 
@@ -29,9 +29,9 @@ pub record TablesReady (table : List ℕ) (ps : List Float) (is : List ℕ) (box
   pub ns : List Float
   pub decided : Decided table ps ns is box W m
   pub indices-room : sumOf (λ l. length (l .indices)) (laidIn table W 0 is) ≤ length I
-  pub parts-room : 3 * m ≤ length parts
-  pub ranges-room : 3 * m ≤ length ranges
-  pub failures-room : 4 * m ≤ length failures
+  pub parts-room : partWidth * m ≤ length parts
+  pub ranges-room : rangeWidth * m ≤ length ranges
+  pub failures-room : failureWidth * m ≤ length failures
 
 -- what it leaves: each at the front of its slice, how many there are, and the work area behind the words kept as it was
 pub record TablesWritten (table : List ℕ) (ps : List Float) (is : List ℕ) (box : Aabb) (W E : List ℕ) (m : ℕ) (I I' parts parts' ranges ranges' failures failures' : List ℕ) (r : Tables) : Type 0 where

@@ -10,10 +10,10 @@ use Rattle.body_rows.specs.Body.{rowsOf}
 use Rattle.body_rows.specs.Patches.{shapes}
 use Rattle.patch_geometry.specs.declared.Aabb.{Aabb}
 use Rattle.mesh_judge.specs.declared.totals.Totals.{Totals}
-use Rattle.mesh_acceptance.specs.Acceptance.{failureNumbers}
+use Rattle.mesh_acceptance.specs.Acceptance.{failureWidth, failureNumbers}
 use Rattle.mesh_acceptance.specs.Judged.{acceptedRows, decisionsIn, failedOf}
 use Rattle.mesh_judge.specs.Totals.{Totalled}
-use Rattle.mesh_layout.specs.Mesh.{materialsOf, runsOf, partOf, rangesFrom}
+use Rattle.mesh_layout.specs.Mesh.{partWidth, rangeWidth, materialsOf, runsOf, partOf, rangesFrom}
 use Rattle.mesh_layout.specs.JudgedRows.{judgedIn, numbersBy}
 use Rattle.mesh_layout.specs.Parts.{laidIn}
 use Rattle.mesh_tally.specs.declared.EdgeCounts.{EdgeCounts}
@@ -41,9 +41,9 @@ pub record WriteReady (table : List ℕ) (ps ns : List Float) (is : List ℕ) (b
   pub positions-room : 3 * t .vertices ≤ length P
   pub normals-room : 3 * t .vertices ≤ length N
   pub indices-room : t .indices ≤ length I
-  pub parts-room : 3 * m ≤ length parts
-  pub ranges-room : 3 * m ≤ length ranges
-  pub failures-room : 4 * m ≤ length failures
+  pub parts-room : partWidth * m ≤ length parts
+  pub ranges-room : rangeWidth * m ≤ length ranges
+  pub failures-room : failureWidth * m ≤ length failures
 
 -- the counts in the answer
 abbrev pub countsOfMesh : MeshCounts → Counts

@@ -5,6 +5,8 @@ use Prim.Native.Nat.{ℕ, _*_}
 use lib.Ieee.{Float}
 use lib.ListN.{take}
 use Rattle.float_steps.specs.Floats.{bits32}
+use Rattle.mesh_acceptance.specs.Acceptance.{failureWidth}
+use Rattle.mesh_layout.specs.Mesh.{partWidth, rangeWidth}
 use Rattle.sheet_digits.specs.Bytes.{bytes}
 use Rattle.sheet_digit_writing.specs.Writing.{Wrote}
 use Rattle.sheet_digit_writing.specs.Wrote.{wrote-then}
@@ -17,8 +19,8 @@ use Rattle.sheet_answer_rows.specs.FormLaws.{as-form, as-threes}
 
 pub mesh-written : {E W1 W2 W3 W4 W5 W6 : List ℕ} {at r1 r2 r3 r4 r5 r6 : ℕ} (z : Sizes) (ps ns : List Float)
     (is parts ranges failures : List ℕ) {ps' ns' : List Float} {is' parts' ranges' failures' : List ℕ}
-    → ps' ≡ take (3 * z .vertices) ps → ns' ≡ take (3 * z .vertices) ns → parts' ≡ take (3 * z .parts) parts → is' ≡ take (z .indices) is → ranges' ≡ take (3 * z .ranges) ranges
-    → failures' ≡ take (4 * z .failures) failures
+    → ps' ≡ take (3 * z .vertices) ps → ns' ≡ take (3 * z .vertices) ns → parts' ≡ take (partWidth * z .parts) parts → is' ≡ take (z .indices) is → ranges' ≡ take (rangeWidth * z .ranges) ranges
+    → failures' ≡ take (failureWidth * z .failures) failures
     → Wrote E at (line (pieces (bytes "(mesh##)")) (z .vertices ∷ z .indices ∷ [])) W1 r1
     → Wrote W1 r1 (vertexLines (map bits32 ps') (map bits32 ns')) W2 r2
     → Wrote W2 r2 (threes (pieces (bytes "(part###)")) parts') W3 r3
@@ -35,7 +37,7 @@ mesh-written {E} {W1} {W2} {W3} {W4} {W5} {W6} {at} {r1} {r2} {r3} {r4} {r5} {r6
     (wrote-then (as-form meshForm (bytes "(mesh##)") refl (z .vertices ∷ z .indices ∷ []) a)
     (subst (λ (xs : List Float). Wrote W1 r1 (vertexLines (map bits32 xs) (map bits32 (take (3 * z .vertices) ns))) W2 r2) ep
     (subst (λ (xs : List Float). Wrote W1 r1 (vertexLines (map bits32 ps') (map bits32 xs)) W2 r2) en b)))
-    (as-threes partForm (bytes "(part###)") refl (take (3 * z .parts) parts) (subst (λ (xs : List ℕ). Wrote W2 r2 (threes (pieces (bytes "(part###)")) xs) W3 r3) ea c)))
+    (as-threes partForm (bytes "(part###)") refl (take (partWidth * z .parts) parts) (subst (λ (xs : List ℕ). Wrote W2 r2 (threes (pieces (bytes "(part###)")) xs) W3 r3) ea c)))
     (as-threes triangleForm (bytes "(t###)") refl (take (z .indices) is) (subst (λ (xs : List ℕ). Wrote W3 r3 (threes (pieces (bytes "(t###)")) xs) W4 r4) ei d)))
-    (as-threes rangeForm (bytes "(range###)") refl (take (3 * z .ranges) ranges) (subst (λ (xs : List ℕ). Wrote W4 r4 (threes (pieces (bytes "(range###)")) xs) W5 r5) er e)))
+    (as-threes rangeForm (bytes "(range###)") refl (take (rangeWidth * z .ranges) ranges) (subst (λ (xs : List ℕ). Wrote W4 r4 (threes (pieces (bytes "(range###)")) xs) W5 r5) er e)))
     (subst (λ (xs : List ℕ). Wrote W5 r5 (failureLines xs) W6 r6) ef f)

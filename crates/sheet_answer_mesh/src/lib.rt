@@ -1,5 +1,8 @@
 // The mesh as text, written at a place of a slice.
 
+use mesh_acceptance::FAILURE_WIDTH;
+use mesh_layout::PART_WIDTH;
+use mesh_layout::RANGE_WIDTH;
 use sheet_answer_rows::put_failures;
 use sheet_answer_rows::put_threes;
 use sheet_answer_rows::put_vertices;
@@ -32,8 +35,22 @@ pub fn put_mesh(
     let n = 3 * z.vertices as usize;
     let a = put_line(out, at, b"(mesh##)", &[z.vertices as u64, z.indices as u64]);
     let b = put_vertices(out, a, front_floats(positions, n), front_floats(normals, n));
-    let c = put_threes(out, b, b"(part###)", front(parts, 3 * z.parts as usize));
+    let c = put_threes(
+        out,
+        b,
+        b"(part###)",
+        front(parts, PART_WIDTH * z.parts as usize),
+    );
     let d = put_threes(out, c, b"(t###)", front(indices, z.indices as usize));
-    let e = put_threes(out, d, b"(range###)", front(ranges, 3 * z.ranges as usize));
-    put_failures(out, e, front_long(failures, 4 * z.failures as usize))
+    let e = put_threes(
+        out,
+        d,
+        b"(range###)",
+        front(ranges, RANGE_WIDTH * z.ranges as usize),
+    );
+    put_failures(
+        out,
+        e,
+        front_long(failures, FAILURE_WIDTH * z.failures as usize),
+    )
 }

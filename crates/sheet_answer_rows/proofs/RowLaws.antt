@@ -7,6 +7,7 @@ use borrow.Author.Tests.{eq-eqb, ne-eqb}
 use lib.Ieee.{Float, nan}
 use lib.ListN.{length, getD, drop, length-drop, length-map}
 use Rattle.float_steps.specs.Floats.{bits32}
+use Rattle.mesh_acceptance.specs.Acceptance.{failureWidth}
 use Rattle.sheet_digit_writing.specs.Writing.{Wrote}
 use Rattle.sheet_digits.specs.Next.{next}
 use Rattle.sheet_digit_writing.specs.Wrote.{wrote-none, wrote-then}
@@ -187,7 +188,7 @@ pub record Failures (E : List ℕ) (at : ℕ) (values W : List ℕ) (place i : �
   pub long : length W ≡ length E
   pub going : Going E at (failureLines values) W place (failureLines (drop i values))
 
-failures-few : (xs : List ℕ) → length xs < 4 → failureLines xs ≡ []
+failures-few : (xs : List ℕ) → length xs < failureWidth → failureLines xs ≡ []
 unfolding failureLines
 failures-few [] h = refl
 failures-few (a ∷ []) h = refl
@@ -205,17 +206,18 @@ module _ (E : List ℕ) (at : ℕ) (values W : List ℕ) (place i : ℕ) (v : Fa
   pub failures-room : place ≤ length W
   failures-room = going-room E at (failureLines values) W place (failureLines (drop i values)) (v .going)
 
-  pub failures-more : (U : List ℕ) (r : ℕ) → 4 ≤ length values - i → Wrote W place (failureLine (getD values i 0) (getD values (i + 1) 0) (getD values (i + 2) 0) (getD values (i + 3) 0)) U r
-      → Failures E at values U r (i + 4)
+  pub failures-more : (U : List ℕ) (r : ℕ) → failureWidth ≤ length values - i
+      → Wrote W place (failureLine (getD values i 0) (getD values (i + 1) 0) (getD values (i + 2) 0) (getD values (i + 3) 0)) U r
+      → Failures E at values U r (i + failureWidth)
   unfolding failureLines
   failures-more U r h w = record {
     inside = omega arith;
     long = w .long ∙ v .long;
     going =
         going-more E at (failureLines values) W place (failureLines (drop i values)) (failureLine (getD values i 0) (getD values (i + 1) 0) (getD values (i + 2) 0) (getD values (i + 3) 0))
-        (failureLines (drop (i + 4) values)) U r
+        (failureLines (drop (i + failureWidth) values)) U r
         (v .going) (ap failureLines (four-more 0 values i (omega (arith, v .inside)))) w;
   }
 
-  pub failures-all : length values - i < 4 → Wrote E at (failureLines values) W place
+  pub failures-all : length values - i < failureWidth → Wrote E at (failureLines values) W place
   failures-all h = going-all E at (failureLines values) W place (failureLines (drop i values)) (v .going) (failures-few (drop i values) (simp length-drop h))

@@ -1,6 +1,7 @@
 // A line for every row of a slice that is printed: vertices, three numbers a line, failures; what passes the end of the slice is left off.
 
 use float_steps::bits_of_f32;
+use mesh_acceptance::FAILURE_WIDTH;
 use sheet_lines::put_line;
 ghost use mathlib.Core.Path.{_≡_};
 ghost use mathlib.Core.List.{map};
@@ -99,7 +100,7 @@ pub fn put_failures(out: &mut [u8], at: usize, failures: &[u64]) -> usize
 {
     let mut next: usize = at;
     let mut i: usize = 0;
-    while 4 <= failures.len() - i {
+    while FAILURE_WIDTH <= failures.len() - i {
         next = put_failure(
             out,
             next,
@@ -108,7 +109,7 @@ pub fn put_failures(out: &mut [u8], at: usize, failures: &[u64]) -> usize
             failures[i + 2],
             failures[i + 3],
         );
-        i += 4;
+        i += FAILURE_WIDTH;
     }
     next
 }

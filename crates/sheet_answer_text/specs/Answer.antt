@@ -6,6 +6,8 @@ use Prim.Native.Nat.{ℕ, _*_}
 use lib.ListN.{length, take, drop}
 use lib.Ieee.{Float}
 use Rattle.float_steps.specs.Floats.{bits32}
+use Rattle.mesh_acceptance.specs.Acceptance.{failureWidth}
+use Rattle.mesh_layout.specs.Mesh.{partWidth, rangeWidth}
 use Rattle.sheet_digits.specs.Bytes.{bytes}
 use Rattle.sheet_lines.specs.Forms.{Piece, Word, line, numbers, triangleForm}
 use Rattle.sheet_answer_rows.specs.Rows.{failureLines, threes, vertexLines}
@@ -67,10 +69,10 @@ unfoldable pub meshText : Sizes → List Float → List Float → List ℕ → L
 meshText z ps ns is parts ranges failures =
     line meshForm (z .vertices ∷ z .indices ∷ [])
     ++ vertexLines (map bits32 (take (3 * z .vertices) ps)) (map bits32 (take (3 * z .vertices) ns))
-    ++ threes partForm (take (3 * z .parts) parts)
+    ++ threes partForm (take (partWidth * z .parts) parts)
     ++ threes triangleForm (take (z .indices) is)
-    ++ threes rangeForm (take (3 * z .ranges) ranges)
-    ++ failureLines (take (4 * z .failures) failures)
+    ++ threes rangeForm (take (rangeWidth * z .ranges) ranges)
+    ++ failureLines (take (failureWidth * z .failures) failures)
 
 -- the counts, in the order of the paper's example
 unfoldable pub countText : Tallies → List ℕ

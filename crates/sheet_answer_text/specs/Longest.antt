@@ -7,6 +7,8 @@ use native.Mathlib.Omega.{arith}
 use lib.Dec.{ltb, eqb}
 use lib.Ieee.{Float}
 use lib.ListN.{length, take, length-append, length-map, length-take}
+use Rattle.mesh_acceptance.specs.Acceptance.{failureWidth}
+use Rattle.mesh_layout.specs.Mesh.{partWidth, rangeWidth}
 use Rattle.sheet_digits.specs.Digits.{digits, decimalTo, decimal, hex}
 use Rattle.float_steps.specs.Floats.{bits32}
 use Rattle.sheet_lines.specs.Forms.{Piece, Word, Bits, Number, print, line, numbers, vertexForm, triangleForm}
@@ -99,7 +101,7 @@ failure-length face n reach span = go (eqb n 0) (eqb n 256)
     go false true = omega (arith, line-length escapeForm (face ∷ reach ∷ span ∷ []))
     go false false = omega (arith, line-length upstreamForm (face ∷ n ∷ []))
 
-failures-length : (ns : List ℕ) → 4 * length (failureLines ns) ≤ 73 * length ns
+failures-length : (ns : List ℕ) → failureWidth * length (failureLines ns) ≤ 73 * length ns
 unfolding failureLines
 failures-length [] = omega arith
 failures-length (f ∷ []) = omega arith
@@ -150,15 +152,15 @@ mesh-length z ps ns is parts ranges failures =
     let n = 3 * z .vertices in
     let a = line meshForm (z .vertices ∷ z .indices ∷ []) in
     let b = vertexLines (map bits32 (take n ps)) (map bits32 (take n ns)) in
-    let c = threes partForm (take (3 * z .parts) parts) in
+    let c = threes partForm (take (partWidth * z .parts) parts) in
     let d = threes triangleForm (take (z .indices) is) in
-    let e = threes rangeForm (take (3 * z .ranges) ranges) in
-    let f = failureLines (take (4 * z .failures) failures) in
+    let e = threes rangeForm (take (rangeWidth * z .ranges) ranges) in
+    let f = failureLines (take (failureWidth * z .failures) failures) in
     let few-vertices : length b ≤ 22 * length ps = omega (arith, vertices-length (map bits32 (take n ps)) (map bits32 (take n ns)), length-map (take n ps) bits32, length-take n ps) in
-    let few-parts : length c ≤ 24 * length parts = omega (arith, threes-length partForm (take (3 * z .parts) parts) (omega arith), length-take (3 * z .parts) parts) in
+    let few-parts : length c ≤ 24 * length parts = omega (arith, threes-length partForm (take (partWidth * z .parts) parts) (omega arith), length-take (partWidth * z .parts) parts) in
     let few-triangles : length d ≤ 24 * length is = omega (arith, threes-length triangleForm (take (z .indices) is) (omega arith), length-take (z .indices) is) in
-    let few-ranges : length e ≤ 24 * length ranges = omega (arith, threes-length rangeForm (take (3 * z .ranges) ranges) (omega arith), length-take (3 * z .ranges) ranges) in
-    let few-failures : length f ≤ 19 * length failures = omega (arith, failures-length (take (4 * z .failures) failures), length-take (4 * z .failures) failures) in
+    let few-ranges : length e ≤ 24 * length ranges = omega (arith, threes-length rangeForm (take (rangeWidth * z .ranges) ranges) (omega arith), length-take (rangeWidth * z .ranges) ranges) in
+    let few-failures : length f ≤ 19 * length failures = omega (arith, failures-length (take (failureWidth * z .failures) failures), length-take (failureWidth * z .failures) failures) in
     omega (
       arith,
       length-append a b,

@@ -11,6 +11,7 @@ use lib.Ieee.Fits.{and-l, and-r}
 use lib.Dec.{leb, ltb, ltb→lt}
 use lib.ListN.{length, getD, take, set, length-append, length-set}
 use lib.Seq.{getD-take}
+use Rattle.body_rows.specs.Body.{rowWidth, verticesBack, indicesBack}
 use Rattle.sheet_lines.specs.Counted.{countIn}
 use Rattle.sheet_lines.specs.Forms.{form, numbers}
 use Rattle.sheet_lines.specs.declared.Kind.{Kind}
@@ -101,7 +102,7 @@ module _ (s : Reader) (T P N I M : List ℕ) where
         same-lent
         (same-reader s (s .refusal) 0 (s .place) 3 (s .rows) _ (s .vertices) _ (s .indices) _ (s .default) (s .default) (s .sag) (v .fitting .roomy .clean) place (same-rows s T P N I M h)
         (same-vertices s T P N I M h) (same-indices s T P N I M h) refl)
-        (kept (5 * s .rows) T)
+        (kept (rowWidth * s .rows) T)
         (kept (3 * s .vertices) P)
         (kept (3 * s .vertices) N)
         (kept (s .indices) I)
@@ -109,7 +110,7 @@ module _ (s : Reader) (T P N I M : List ℕ) where
 
     -- ---- a row
     row-more : (place x y z : ℕ) (W : List ℕ) → Held s T P N I M → s .refusal ≡ 0 → r ≡ moved s place (s .rows + 1) (s .vertices) (s .indices) (s .default) (s .sag)
-        → W ≡ placed T (5 * s .rows) (x ∷ y ∷ z ∷ 0 ∷ 0 ∷ [])
+        → W ≡ placed T (rowWidth * s .rows) (x ∷ y ∷ z ∷ 0 ∷ 0 ∷ [])
         → lent r W P N I M ≡ over here (record {
           limits = s .limits;
           refusal = 0;
@@ -119,7 +120,7 @@ module _ (s : Reader) (T P N I M : List ℕ) where
             sag = s .sag;
             default = s .default;
             materials = take (s .limits .face + 1) M;
-            table = take (5 * s .rows) T ++ x ∷ y ∷ z ∷ 0 ∷ 0
+            table = take (rowWidth * s .rows) T ++ x ∷ y ∷ z ∷ 0 ∷ 0
                 ∷ [];
             positions = take (3 * s .vertices) P;
             normals = take (3 * s .vertices) N;
@@ -127,25 +128,26 @@ module _ (s : Reader) (T P N I M : List ℕ) where
           };
         })
     row-more place x y z W h clean q e =
-        let long : length (take (5 * s .rows) T ++ x ∷ y ∷ z ∷ 0 ∷ 0 ∷ []) ≡ length (take (5 * s .rows) T) + 5 = length-append (take (5 * s .rows) T) (x ∷ y ∷ z ∷ 0 ∷ 0 ∷ []) in
-        let rows : s .rows + 1 ≡ length (take (5 * s .rows) T ++ x ∷ y ∷ z ∷ 0 ∷ 0 ∷ []) / 5 = omega (arith, counts-of s T P N I M h .table) in
+        let long : length (take (rowWidth * s .rows) T ++ x ∷ y ∷ z ∷ 0 ∷ 0 ∷ []) ≡ length (take (rowWidth * s .rows) T) + rowWidth =
+        length-append (take (rowWidth * s .rows) T) (x ∷ y ∷ z ∷ 0 ∷ 0 ∷ []) in
+        let rows : s .rows + 1 ≡ length (take (rowWidth * s .rows) T ++ x ∷ y ∷ z ∷ 0 ∷ 0 ∷ []) / rowWidth = omega (arith, counts-of s T P N I M h .table) in
         same-lent
         (q ∙ same-reader s (s .refusal) 0 place place (s .rows + 1) _ (s .vertices) _ (s .indices) _ (s .default) (s .default) (s .sag) clean refl rows (same-vertices s T P N I M h)
         (same-indices s T P N I M h) refl)
-        (e ∙ grown (5 * s .rows) T (x ∷ y ∷ z ∷ 0 ∷ 0 ∷ []) (rows-fit s T P N I M h))
+        (e ∙ grown (rowWidth * s .rows) T (x ∷ y ∷ z ∷ 0 ∷ 0 ∷ []) (rows-fit s T P N I M h))
         (kept (3 * s .vertices) P)
         (kept (3 * s .vertices) N)
         (kept (s .indices) I)
         (kept (s .limits .face + 1) M)
 
-  few-rows : (x : Bool) → Held s T P N I M → x || leb (5 * s .limits .rows) (length (take (5 * s .rows) T)) ≡ false → s .rows < s .limits .rows
+  few-rows : (x : Bool) → Held s T P N I M → x || leb (rowWidth * s .limits .rows) (length (take (rowWidth * s .rows) T)) ≡ false → s .rows < s .limits .rows
   few-rows x h e =
-      let n : ℕ = length (take (5 * s .rows) T) in
-      omega (arith, leb-false (5 * s .limits .rows) n (or-right x (leb (5 * s .limits .rows) n) e), counts-of s T P N I M h .table)
+      let n : ℕ = length (take (rowWidth * s .rows) T) in
+      omega (arith, leb-false (rowWidth * s .limits .rows) n (or-right x (leb (rowWidth * s .limits .rows) n) e), counts-of s T P N I M h .table)
 
   -- a line that opens a row has room for it
   row-room : (k : Kind)
-      → ((ms : List ℕ) (x : Patterns) → passesLimit (s .limits) k ms x ≡ ltb (s .limits .face) (at ms 1) || leb (5 * s .limits .rows) (length (x .table)))
+      → ((ms : List ℕ) (x : Patterns) → passesLimit (s .limits) k ms x ≡ ltb (s .limits .face) (at ms 1) || leb (rowWidth * s .limits .rows) (length (x .table)))
       → (ns : List ℕ) → Ready here k ns → RowRoom s T
   row-room k is ns v =
       let h = held-of s T P N I M (v .fitting .roomy .held) in
@@ -162,7 +164,7 @@ module _ (s : Reader) (T P N I M : List ℕ) where
       let t0 : Dec.T (ltb a (2 ^ 32)) = and-l (ltb a (2 ^ 32)) (ltb b (2 ^ 32) && true) (v .fitting .small) in
       let t1 : Dec.T (ltb b (2 ^ 32)) = and-l (ltb b (2 ^ 32)) true (and-r (ltb a (2 ^ 32)) (ltb b (2 ^ 32) && true) (v .fitting .small)) in
       row-more r 4 a b 0 W h (v .fitting .roomy .clean) (q .reader)
-      (three-same T (5 * s .rows) (0 ∷ 0 ∷ []) (low a t0) (low b t1) refl (q .table))
+      (three-same T (rowWidth * s .rows) (0 ∷ 0 ∷ []) (low a t0) (low b t1) refl (q .table))
 
   fail-six : (r : Reader) (a b c d e f : ℕ) (rest W : List ℕ) → Ready here Fail (a ∷ b ∷ c ∷ d ∷ e ∷ f ∷ rest) → RowAdded s T a b c 6 r W
       → lent r W P N I M ≡ takenUp here Fail (a ∷ b ∷ c ∷ d ∷ e ∷ f ∷ rest)
@@ -174,7 +176,7 @@ module _ (s : Reader) (T P N I M : List ℕ) where
       let t1 : Dec.T (ltb b (2 ^ 32)) = and-l (ltb b (2 ^ 32)) (ltb c (2 ^ 32) && true) w1 in
       let t2 : Dec.T (ltb c (2 ^ 32)) = and-l (ltb c (2 ^ 32)) true (and-r (ltb b (2 ^ 32)) (ltb c (2 ^ 32) && true) w1) in
       row-more r 6 a b c W h (v .fitting .roomy .clean) (q .reader)
-      (three-same T (5 * s .rows) (0 ∷ 0 ∷ []) (low a t0) (low b t1) (low c t2) (q .table))
+      (three-same T (rowWidth * s .rows) (0 ∷ 0 ∷ []) (low a t0) (low b t1) (low c t2) (q .table))
 
   material-below : (a b c d e f : ℕ) (rest : List ℕ) → Ready here Material (a ∷ b ∷ c ∷ d ∷ e ∷ f ∷ rest) → a < length M
   unfolding form numbers countIn passesLimit
@@ -184,19 +186,19 @@ module _ (s : Reader) (T P N I M : List ℕ) where
       omega (arith, ltb-false (s .limits .face) a (ok .limit), h .limits .room .materials)
 
   -- ---- the last row's counts
-  module _ (back n : ℕ) (h : Held s T P N I M) (some-back : 0 < back) (few : back ≤ 5 * s .rows) where
-    raised-is : raised back n (take (5 * s .rows) T) ≡ set (take (5 * s .rows) T) (5 * s .rows - back) (at T (5 * s .rows - back) + n)
+  module _ (back n : ℕ) (h : Held s T P N I M) (some-back : 0 < back) (few : back ≤ rowWidth * s .rows) where
+    raised-is : raised back n (take (rowWidth * s .rows) T) ≡ set (take (rowWidth * s .rows) T) (rowWidth * s .rows - back) (at T (rowWidth * s .rows - back) + n)
     unfolding raised
     raised-is =
-        ap (λ (i : ℕ). set (take (5 * s .rows) T) (i - back) (at (take (5 * s .rows) T) (i - back) + n)) (counts-of s T P N I M h .table)
-        ∙ ap (λ (v : ℕ). set (take (5 * s .rows) T) (5 * s .rows - back) (v + n)) (getD-take (5 * s .rows) T (5 * s .rows - back) 0 (omega arith))
+        ap (λ (i : ℕ). set (take (rowWidth * s .rows) T) (i - back) (at (take (rowWidth * s .rows) T) (i - back) + n)) (counts-of s T P N I M h .table)
+        ∙ ap (λ (v : ℕ). set (take (rowWidth * s .rows) T) (rowWidth * s .rows - back) (v + n)) (getD-take (rowWidth * s .rows) T (rowWidth * s .rows - back) 0 (omega arith))
 
-    raised-in : (W : List ℕ) → W ≡ set T (5 * s .rows - back) (at T (5 * s .rows - back) + n) → W ≡ onto (raised back n (take (5 * s .rows) T)) T
+    raised-in : (W : List ℕ) → W ≡ set T (rowWidth * s .rows - back) (at T (rowWidth * s .rows - back) + n) → W ≡ onto (raised back n (take (rowWidth * s .rows) T)) T
     raised-in W e =
-        e ∙ changed (5 * s .rows) T (5 * s .rows - back) (at T (5 * s .rows - back) + n) (omega arith) (rows-fit s T P N I M h) ∙ ap (λ (xs : List ℕ). onto xs T) (sym raised-is)
+        e ∙ changed (rowWidth * s .rows) T (rowWidth * s .rows - back) (at T (rowWidth * s .rows - back) + n) (omega arith) (rows-fit s T P N I M h) ∙ ap (λ (xs : List ℕ). onto xs T) (sym raised-is)
 
-    raised-rows : s .rows ≡ length (raised back n (take (5 * s .rows) T)) / 5
-    raised-rows = omega (arith, counts-of s T P N I M h .table, ap length raised-is ∙ length-set (take (5 * s .rows) T) (5 * s .rows - back) (at T (5 * s .rows - back) + n))
+    raised-rows : s .rows ≡ length (raised back n (take (rowWidth * s .rows) T)) / rowWidth
+    raised-rows = omega (arith, counts-of s T P N I M h .table, ap length raised-is ∙ length-set (take (rowWidth * s .rows) T) (rowWidth * s .rows - back) (at T (rowWidth * s .rows - back) + n))
 
   -- ---- a vertex
   vertex-six-room : (a b c d e f : ℕ) (rest : List ℕ) → Ready here Vertex (a ∷ b ∷ c ∷ d ∷ e ∷ f ∷ rest) → VertexRoom s T P N (a ∷ b ∷ c ∷ d ∷ e ∷ f ∷ rest)
@@ -233,13 +235,13 @@ module _ (s : Reader) (T P N I M : List ℕ) where
       let w3 = and-r (short c) (short d && (short e && (short f && true))) w2 in
       let w4 = and-r (short d) (short e && (short f && true)) w3 in
       let w5 = and-r (short e) (short f && true) w4 in
-      let back : 2 ≤ 5 * s .rows = omega (arith, room .some-row) in
+      let back : verticesBack ≤ rowWidth * s .rows = omega (arith, room .some-row) in
       let long : length (take (3 * s .vertices) P ++ a ∷ b ∷ c ∷ []) ≡ length (take (3 * s .vertices) P) + 3 = length-append (take (3 * s .vertices) P) (a ∷ b ∷ c ∷ []) in
       let vertices : s .vertices + 1 ≡ length (take (3 * s .vertices) P ++ a ∷ b ∷ c ∷ []) / 3 = omega (arith, counts-of s T P N I M h .positions) in
       same-lent
       (q .reader ∙ same-reader s (s .refusal) 0 4 4 (s .rows) _ (s .vertices + 1) _ (s .indices) _ (s .default) (s .default) (s .sag) (v .fitting .roomy .clean) refl
-      (raised-rows 2 1 h (omega arith) back) vertices (same-indices s T P N I M h) refl)
-      (raised-in 2 1 h (omega arith) back T' (q .table))
+      (raised-rows verticesBack 1 h (omega arith) back) vertices (same-indices s T P N I M h) refl)
+      (raised-in verticesBack 1 h (omega arith) back T' (q .table))
       (three-same P (3 * s .vertices) [] (low a (and-l (short a) (short b && (short c && (short d && (short e && (short f && true))))) w0))
       (low b (and-l (short b) (short c && (short d && (short e && (short f && true)))) w1)) (low c (and-l (short c) (short d && (short e && (short f && true))) w2)) (q .positions)
       ∙ grown (3 * s .vertices) P (a ∷ b ∷ c ∷ []) (vertices-fit s T P N I M h))
@@ -274,13 +276,13 @@ module _ (s : Reader) (T P N I M : List ℕ) where
       let w0 : Dec.T (ltb a (2 ^ 32) && (ltb b (2 ^ 32) && (ltb c (2 ^ 32) && true))) = v .fitting .small in
       let w1 = and-r (ltb a (2 ^ 32)) (ltb b (2 ^ 32) && (ltb c (2 ^ 32) && true)) w0 in
       let w2 = and-r (ltb b (2 ^ 32)) (ltb c (2 ^ 32) && true) w1 in
-      let back : 1 ≤ 5 * s .rows = omega (arith, room .some-row) in
+      let back : indicesBack ≤ rowWidth * s .rows = omega (arith, room .some-row) in
       let long : length (take (s .indices) I ++ a ∷ b ∷ c ∷ []) ≡ length (take (s .indices) I) + 3 = length-append (take (s .indices) I) (a ∷ b ∷ c ∷ []) in
       let indices : s .indices + 3 ≡ length (take (s .indices) I ++ a ∷ b ∷ c ∷ []) = omega (arith, counts-of s T P N I M h .indices) in
       same-lent
       (q .reader ∙ same-reader s (s .refusal) 0 5 5 (s .rows) _ (s .vertices) _ (s .indices + 3) _ (s .default) (s .default) (s .sag) (v .fitting .roomy .clean) refl
-      (raised-rows 1 3 h (omega arith) back) (same-vertices s T P N I M h) indices refl)
-      (raised-in 1 3 h (omega arith) back T' (q .table))
+      (raised-rows indicesBack 3 h (omega arith) back) (same-vertices s T P N I M h) indices refl)
+      (raised-in indicesBack 3 h (omega arith) back T' (q .table))
       (kept (3 * s .vertices) P)
       (kept (3 * s .vertices) N)
       (three-same I (s .indices) [] (low a (and-l (ltb a (2 ^ 32)) (ltb b (2 ^ 32) && (ltb c (2 ^ 32) && true)) w0)) (low b (and-l (ltb b (2 ^ 32)) (ltb c (2 ^ 32) && true) w1))
@@ -318,7 +320,7 @@ module _ (s : Reader) (T P N I M : List ℕ) where
         (v .fitting .long) (ready Material e) q ∙ back-to Material e
 
     pub open-room : (j : Kind)
-        → ((ms : List ℕ) (x : Patterns) → passesLimit (s .limits) j ms x ≡ ltb (s .limits .face) (at ms 1) || leb (5 * s .limits .rows) (length (x .table))) → k ≡ j → RowRoom s T
+        → ((ms : List ℕ) (x : Patterns) → passesLimit (s .limits) j ms x ≡ ltb (s .limits .face) (at ms 1) || leb (rowWidth * s .limits .rows) (length (x .table))) → k ≡ j → RowRoom s T
     open-room j is e = row-room j is ns (ready j e)
 
     pub take-face : (r : Reader) (W : List ℕ) → k ≡ Face → RowAdded s T (getD ns 0 0) (getD ns 1 0) 0 4 r W → lent r W P N I M ≡ takenUp here k ns
@@ -351,7 +353,7 @@ module _ (s : Reader) (T P N I M : List ℕ) where
 pub material-set : (M : List ℕ) (face material x : ℕ) → x ≡ material % 2 ^ 32 + 1 → set M face x ≡ set M face (material % 2 ^ 32 + 1)
 material-set M face material x e = ap (set M face) e
 
-pub row-added : (s : Reader) (T W : List ℕ) (shell face outcome place a b c : ℕ) → a ≡ shell % 2 ^ 32 → b ≡ face % 2 ^ 32 → c ≡ outcome % 2 ^ 32 → W ≡ placed T (5 * s .rows) (a ∷ b ∷ c ∷ 0 ∷ 0 ∷ [])
-    → RowAdded s T shell face outcome place (moved s place (s .rows + 1) (s .vertices) (s .indices) (s .default) (s .sag)) W
+pub row-added : (s : Reader) (T W : List ℕ) (shell face outcome place a b c : ℕ) → a ≡ shell % 2 ^ 32 → b ≡ face % 2 ^ 32 → c ≡ outcome % 2 ^ 32
+    → W ≡ placed T (rowWidth * s .rows) (a ∷ b ∷ c ∷ 0 ∷ 0 ∷ []) → RowAdded s T shell face outcome place (moved s place (s .rows + 1) (s .vertices) (s .indices) (s .default) (s .sag)) W
 row-added s T W shell face outcome place a b c p q r e =
-    record { reader = refl; table = three-same T (5 * s .rows) (0 ∷ 0 ∷ []) p q r e }
+    record { reader = refl; table = three-same T (rowWidth * s .rows) (0 ∷ 0 ∷ []) p q r e }

@@ -5,6 +5,7 @@ use mathlib.Core.Path.{_≡_}
 use Prim.Native.Nat.{ℕ, _+_, _-_, _*_, _%_, _^_, _≤_, _<_}
 use lib.ListN.{length, set}
 use lib.Dec.{T}
+use Rattle.body_rows.specs.Body.{rowWidth, verticesBack, indicesBack}
 use Rattle.body_refusals.specs.TableChecks.{mostIndices, mostRows, mostVertices}
 use Rattle.sheet_lines.specs.ReadBack.{fits}
 use Rattle.sheet_lines.specs.Forms.{form}
@@ -34,28 +35,28 @@ pub record Ready (l : Lent) (k : Kind) (N : List ℕ) : Type 0 where
 -- room for a row more
 pub record RowRoom (r : Reader) (T : List ℕ) : Type 0 where
   pub rows : r .rows < mostRows
-  pub table : 5 * r .rows + 5 ≤ length T
+  pub table : rowWidth * r .rows + rowWidth ≤ length T
 
 -- a row was added
 pub record RowAdded (r : Reader) (T : List ℕ) (shell face outcome place : ℕ) (s : Reader) (W : List ℕ) : Type 0 where
   pub reader : s ≡ moved r place (r .rows + 1) (r .vertices) (r .indices) (r .default) (r .sag)
-  pub table : W ≡ placed T (5 * r .rows) (shell % 2 ^ 32 ∷ face % 2 ^ 32 ∷ outcome % 2 ^ 32 ∷ 0 ∷ 0 ∷ [])
+  pub table : W ≡ placed T (rowWidth * r .rows) (shell % 2 ^ 32 ∷ face % 2 ^ 32 ∷ outcome % 2 ^ 32 ∷ 0 ∷ 0 ∷ [])
 
 -- room for a vertex more
 pub record VertexRoom (r : Reader) (T P N numbers : List ℕ) : Type 0 where
   pub some-row : 0 < r .rows
   pub rows : r .rows ≤ mostRows
   pub vertices : r .vertices < mostVertices
-  pub table : 5 * r .rows ≤ length T
+  pub table : rowWidth * r .rows ≤ length T
   pub positions : 3 * r .vertices + 3 ≤ length P
   pub normals : 3 * r .vertices + 3 ≤ length N
-  pub count : at T (5 * r .rows - 2) ≤ mostVertices
+  pub count : at T (rowWidth * r .rows - verticesBack) ≤ mostVertices
   pub long : 6 < length numbers
 
 -- a vertex was added
 pub record VertexAdded (r : Reader) (T P N ns : List ℕ) (s : Reader) (T' P' N' : List ℕ) : Type 0 where
   pub reader : s ≡ moved r 4 (r .rows) (r .vertices + 1) (r .indices) (r .default) (r .sag)
-  pub table : T' ≡ set T (5 * r .rows - 2) (at T (5 * r .rows - 2) + 1)
+  pub table : T' ≡ set T (rowWidth * r .rows - verticesBack) (at T (rowWidth * r .rows - verticesBack) + 1)
   pub positions : P' ≡ placed P (3 * r .vertices) (lowThree ns 0)
   pub normals : N' ≡ placed N (3 * r .vertices) (lowThree ns 3)
 
@@ -64,12 +65,12 @@ pub record TriangleRoom (r : Reader) (T I numbers : List ℕ) : Type 0 where
   pub some-row : 0 < r .rows
   pub rows : r .rows ≤ mostRows
   pub indices : r .indices + 3 ≤ length I
-  pub table : 5 * r .rows ≤ length T
-  pub count : at T (5 * r .rows - 1) ≤ mostIndices
+  pub table : rowWidth * r .rows ≤ length T
+  pub count : at T (rowWidth * r .rows - indicesBack) ≤ mostIndices
   pub long : 6 < length numbers
 
 -- a triangle was added
 pub record TriangleAdded (r : Reader) (T I ns : List ℕ) (s : Reader) (T' I' : List ℕ) : Type 0 where
   pub reader : s ≡ moved r 5 (r .rows) (r .vertices) (r .indices + 3) (r .default) (r .sag)
-  pub table : T' ≡ set T (5 * r .rows - 1) (at T (5 * r .rows - 1) + 3)
+  pub table : T' ≡ set T (rowWidth * r .rows - indicesBack) (at T (rowWidth * r .rows - indicesBack) + 3)
   pub indices : I' ≡ placed I (r .indices) (lowThree ns 0)

@@ -1,5 +1,8 @@
 // What each kind of line adds.
 
+use body_rows::INDICES_BACK;
+use body_rows::ROW_WIDTH;
+use body_rows::VERTICES_BACK;
 use sheet_lines::Kind;
 use sheet_reader_state::Reader;
 use sheet_storing::low;
@@ -69,7 +72,7 @@ fn add_row(s: Reader, table: &mut [u32], shell: u64, face: u64, outcome: u64, pl
     ensures { λ r. ⌜ RowAdded s (now (table .entry)) shell face outcome place r (now (table .exit)) ⌝ }
 {
     let rows = s.rows;
-    store_row(table, 5 * rows, low(shell), low(face), low(outcome));
+    store_row(table, ROW_WIDTH * rows, low(shell), low(face), low(outcome));
     let mut t = s;
     t.rows = rows + 1;
     t.place = place;
@@ -92,7 +95,7 @@ fn add_vertex(
     let at = 3 * s.vertices;
     store_low(positions, at, numbers, 0);
     store_low(normals, at, numbers, 3);
-    raise(table, 5 * rows - 2, 1);
+    raise(table, ROW_WIDTH * rows - VERTICES_BACK, 1);
     let mut t = s;
     t.vertices = s.vertices + 1;
     t.place = 4;
@@ -106,7 +109,7 @@ fn add_triangle(s: Reader, table: &mut [u32], indices: &mut [u32], numbers: &[u6
 {
     let rows = s.rows;
     store_low(indices, s.indices, numbers, 0);
-    raise(table, 5 * rows - 1, 3);
+    raise(table, ROW_WIDTH * rows - INDICES_BACK, 3);
     let mut t = s;
     t.indices = s.indices + 3;
     t.place = 5;

@@ -5,7 +5,7 @@ use mathlib.Core.Option.{none, some}
 use Prim.Native.Nat.{ℕ, _+_, _-_, _*_}
 use lib.ListN.{length, getD, take, drop, set, replicate}
 use lib.Dec.{leb, ltb, eqb}
-use Rattle.body_rows.specs.Body.{rowWidth, check, firstFailing}
+use Rattle.body_rows.specs.Body.{rowWidth, verticesBack, indicesBack, check, firstFailing}
 use Rattle.sheet_lines.specs.Forms.{Line, lineOf}
 use Rattle.sheet_lines.specs.declared.Kind.{Kind}
 use Rattle.sheet_lines.specs.declared.Kind.the-variants.{Box, Sag, NoDefault, Default, Material, Face, Vertex, Triangle, Fail}
@@ -77,9 +77,9 @@ withLine Material ns x =
 withLine Face ns x =
     patterns (x .box) (x .sag) (x .default) (x .materials) (x .table ++ at ns 0 ∷ at ns 1 ∷ 0 ∷ 0 ∷ 0 ∷ []) (x .positions) (x .normals) (x .indices)
 withLine Vertex ns x =
-    patterns (x .box) (x .sag) (x .default) (x .materials) (raised 2 1 (x .table)) (x .positions ++ take 3 ns) (x .normals ++ drop 3 ns) (x .indices)
+    patterns (x .box) (x .sag) (x .default) (x .materials) (raised verticesBack 1 (x .table)) (x .positions ++ take 3 ns) (x .normals ++ drop 3 ns) (x .indices)
 withLine Triangle ns x =
-    patterns (x .box) (x .sag) (x .default) (x .materials) (raised 1 3 (x .table)) (x .positions) (x .normals) (x .indices ++ ns)
+    patterns (x .box) (x .sag) (x .default) (x .materials) (raised indicesBack 3 (x .table)) (x .positions) (x .normals) (x .indices ++ ns)
 withLine Fail ns x =
     patterns (x .box) (x .sag) (x .default) (x .materials) (x .table ++ at ns 0 ∷ at ns 1 ∷ at ns 2 ∷ 0 ∷ 0 ∷ []) (x .positions) (x .normals) (x .indices)
 

@@ -5,7 +5,7 @@ use mathlib.Core.Path.{_≡_, refl}
 use Prim.Native.Nat.{ℕ, _*_}
 use native.Mathlib.Omega.{arith}
 use lib.ListN.{length}
-use Rattle.body_rows.specs.Body.{firstFailing}
+use Rattle.body_rows.specs.Body.{rowWidth, firstFailing}
 use Rattle.sheet_lines.specs.Forms.{Line}
 use Rattle.sheet_lines.specs.declared.Kind.{Kind}
 use Rattle.sheet_line_order.specs.declared.Limits.{Limits}
@@ -13,7 +13,7 @@ use Rattle.sheet_line_order.specs.Reading.{Patterns, State, failsWithZer
 
 -- a sheet of so many rows, vertices and indices
 pub record SheetCounts (rows vertices corners : ℕ) (x : Patterns) : Type 0 where
-  pub table : length (x .table) ≡ 5 * rows
+  pub table : length (x .table) ≡ rowWidth * rows
   pub positions : length (x .positions) ≡ 3 * vertices
   pub indices : length (x .indices) ≡ corners
 

@@ -9,7 +9,7 @@ use borrow.Author.Tests.{le-leb, lt-leb, le-ltb, lt-ltb, leb-true, leb-false, lt
 use lib.Dec.{leb, ltb, eqb}
 use lib.ListN.{getD, length, take}
 use lib.Seq.{getD-take}
-use Rattle.body_rows.specs.Body.{firstFailing}
+use Rattle.body_rows.specs.Body.{rowWidth, firstFailing}
 use Rattle.sheet_lines.specs.Counted.{countIn}
 use Rattle.sheet_lines.specs.Forms.{form, numbers}
 use Rattle.sheet_lines.specs.declared.Kind.{Kind}
@@ -74,7 +74,7 @@ module _ (limits : Limits) (rows vertices indices : ℕ) (k : Kind) (N : List �
   limit-material e = limit-as Material (ltb (limits .face) (getD N 0 0)) e (record { is = λ x c. ap (ltb (limits .face)) (sym (getD-take 2 N 0 0 (omega arith))) })
 
   -- a kind that opens a row
-  pub limit-row : (j : Kind) → 1 < countIn (form j) → ((ns : List ℕ) (x : Patterns) → passesLimit limits j ns x ≡ ltb (limits .face) (getD ns 1 0) || leb (5 * limits .rows) (length (x .table)))
+  pub limit-row : (j : Kind) → 1 < countIn (form j) → ((ns : List ℕ) (x : Patterns) → passesLimit limits j ns x ≡ ltb (limits .face) (getD ns 1 0) || leb (rowWidth * limits .rows) (length (x .table)))
       → (b : Bool) → k ≡ j → b ≡ ltb (limits .face) (getD N 1 0) || leb (limits .rows) rows → Limit limits rows vertices indices k (take (countIn (form k)) N) b
   limit-row j l is b e q =
       let ns : List ℕ = take (countIn (form j)) N in
@@ -82,7 +82,7 @@ module _ (limits : Limits) (rows vertices indices : ℕ) (k : Kind) (N : List �
       (record {
         is = λ x c.
             q ∙ ap (λ (n : ℕ). ltb (limits .face) n || leb (limits .rows) rows) (sym (getD-take (countIn (form j)) N 1 0 l))
-            ∙ ap (λ (t : Bool). ltb (limits .face) (getD ns 1 0) || t) (times 5 (limits .rows) rows (omega arith) ∙ ap (leb (5 * limits .rows)) (sym (c .table)))
+            ∙ ap (λ (t : Bool). ltb (limits .face) (getD ns 1 0) || t) (times rowWidth (limits .rows) rows (omega arith) ∙ ap (leb (rowWidth * limits .rows)) (sym (c .table)))
             ∙ sym (is ns x);
       })
 

@@ -8,6 +8,7 @@ use borrow.Author.Tests.{eq-eqb, ne-eqb, leb-true, ltb-true, eqb-true}
 use lib.Dec.{leb, ltb, eqb}
 use lib.ListN.{length}
 use lib.Seq.{length-take-le}
+use Rattle.body_rows.specs.Body.{rowWidth, verticesBack, indicesBack}
 use Rattle.sheet_reader_state.specs.declared.Reader.{Reader}
 use Rattle.sheet_line_order.specs.declared.Limits.{Limits}
 use Rattle.sheet_line_order.specs.Reading.{at}
@@ -50,20 +51,24 @@ module _ (s : Reader) (T P N I M : List ℕ) (h : Held s T P N I M) where
           ne-of : eqb (s .rows) 0 ≡ false → ¬ (s .rows ≡ 0)
           ne-of q e = let t : true ≡ false = sym (eq-eqb (s .rows) 0 e) ∙ q in let z : _≡_ {A = ℕ} 0 1 = cc in omega arith
 
-  both : 0 < s .rows → leb (at T (5 * s .rows - 2)) (s .limits .vertices) && leb (at T (5 * s .rows - 1)) (s .limits .indices) ≡ true
+  both : 0 < s .rows → leb (at T (rowWidth * s .rows - verticesBack)) (s .limits .vertices) && leb (at T (rowWidth * s .rows - indicesBack)) (s .limits .indices) ≡ true
   both l =
-      sym (ap (λ (b : Bool). cond b (ltb (s .place) 4) (leb (at T (5 * s .rows - 2)) (s .limits .vertices) && leb (at T (5 * s .rows - 1)) (s .limits .indices)))
+      sym (ap (λ (b : Bool). cond b (ltb (s .place) 4) (leb (at T (rowWidth * s .rows - verticesBack)) (s .limits .vertices) && leb (at T (rowWidth * s .rows - indicesBack)) (s .limits .indices)))
       (ne-eqb (s .rows) 0 (λ e. omega arith))) ∙ h .last
 
-  pub last-vertex : 0 < s .rows → at T (5 * s .rows - 2) ≤ s .limits .vertices
-  last-vertex l = leb-true (at T (5 * s .rows - 2)) (s .limits .vertices) (and-left (leb (at T (5 * s .rows - 2)) (s .limits .vertices)) (leb (at T (5 * s .rows - 1)) (s .limits .indices)) (both l))
+  pub last-vertex : 0 < s .rows → at T (rowWidth * s .rows - verticesBack) ≤ s .limits .vertices
+  last-vertex l =
+      leb-true (at T (rowWidth * s .rows - verticesBack)) (s .limits .vertices)
+      (and-left (leb (at T (rowWidth * s .rows - verticesBack)) (s .limits .vertices)) (leb (at T (rowWidth * s .rows - indicesBack)) (s .limits .indices)) (both l))
 
-  pub last-index : 0 < s .rows → at T (5 * s .rows - 1) ≤ s .limits .indices
-  last-index l = leb-true (at T (5 * s .rows - 1)) (s .limits .indices) (and-right (leb (at T (5 * s .rows - 2)) (s .limits .vertices)) (leb (at T (5 * s .rows - 1)) (s .limits .indices)) (both l))
+  pub last-index : 0 < s .rows → at T (rowWidth * s .rows - indicesBack) ≤ s .limits .indices
+  last-index l =
+      leb-true (at T (rowWidth * s .rows - indicesBack)) (s .limits .indices)
+      (and-right (leb (at T (rowWidth * s .rows - verticesBack)) (s .limits .vertices)) (leb (at T (rowWidth * s .rows - indicesBack)) (s .limits .indices)) (both l))
 
   pub counts-of : SheetCounts (s .rows) (s .vertices) (s .indices) (patternsOf (lent s T P N I M))
   counts-of = record {
-    table = length-take-le (5 * s .rows) T (omega (arith, h .limits .room .table, h .limits .rows));
+    table = length-take-le (rowWidth * s .rows) T (omega (arith, h .limits .room .table, h .limits .rows));
     positions = length-take-le (3 * s .vertices) P (omega (arith, h .limits .room .positions, h .limits .vertices));
     indices = length-take-le (s .indices) I (omega (arith, h .limits .room .indices, h .limits .counted));
   }

@@ -9,6 +9,7 @@ use borrow.Author.Tests.{eq-eqb, ne-eqb, le-leb, leb-true, leb-false, eqb-true, 
 use lib.Dec.{leb, ltb, eqb}
 use lib.ListN.{List·getD-append, length, take, drop, set, replicate, length-append, length-set, length-drop, length-replicate}
 use lib.Seq.{getD-append-add, length-take-le, take-at, getD-set-same, getD-set-other}
+use Rattle.body_rows.specs.Body.{rowWidth, verticesBack, indicesBack}
 use Rattle.sheet_lines.specs.Counted.{countIn, line-count}
 use Rattle.sheet_lines.specs.Forms.{Line, form, lineOf, numbers}
 use Rattle.sheet_lines.specs.declared.Kind.{Kind}
@@ -33,7 +34,7 @@ pub record Sized (s : State) : Type 0 where
   pub rows : ℕ
   pub vertices : ℕ
   pub triangles : ℕ
-  pub table : length (s .sheet .table) ≡ 5 * rows
+  pub table : length (s .sheet .table) ≡ rowWidth * rows
   pub positions : length (s .sheet .positions) ≡ 3 * vertices
   pub normals : length (s .sheet .normals) ≡ 3 * vertices
   pub indices : length (s .sheet .indices) ≡ 3 * triangles
@@ -41,8 +42,8 @@ pub record Sized (s : State) : Type 0 where
   pub few-vertices : vertices ≤ s .limits .vertices
   pub few-triangles : 3 * triangles ≤ s .limits .indices
   pub no-row : rows ≡ 0 → s .place < 4
-  pub last-vertices : at (s .sheet .table) (5 * rows - 2) ≤ vertices
-  pub last-indices : at (s .sheet .table) (5 * rows - 1) ≤ 3 * triangles
+  pub last-vertices : at (s .sheet .table) (rowWidth * rows - verticesBack) ≤ vertices
+  pub last-indices : at (s .sheet .table) (rowWidth * rows - indicesBack) ≤ 3 * triangles
 
 -- ---- a line keeps the sizes
 
@@ -89,8 +90,8 @@ sized-refuse n s v =
     }
 
 -- a row behind the table: its counts are 0
-module _ (T row : List ℕ) (rows : ℕ) (e : length T ≡ 5 * rows) where
-  row-at : (back i : ℕ) → 5 * (rows + 1) - back ≡ 5 * rows + i → at (T ++ row) (5 * (rows + 1) - back) ≡ at row i
+module _ (T row : List ℕ) (rows : ℕ) (e : length T ≡ rowWidth * rows) where
+  row-at : (back i : ℕ) → rowWidth * (rows + 1) - back ≡ rowWidth * rows + i → at (T ++ row) (rowWidth * (rows + 1) - back) ≡ at row i
   row-at back i q = ap (at (T ++ row)) (q ∙ ap (λ (n : ℕ). n + i) (sym e)) ∙ getD-append-add T row i 0
 
 module _ (s : State) (v : Sized s) where
@@ -114,19 +115,20 @@ module _ (s : State) (v : Sized s) where
         few-vertices = v .few-vertices;
         few-triangles = v .few-triangles;
         no-row = λ e. l;
-        last-vertices = subst (λ (xs : List ℕ). at xs (5 * v .rows - 2) ≤ v .vertices) (sym t) (v .last-vertices);
-        last-indices = subst (λ (xs : List ℕ). at xs (5 * v .rows - 1) ≤ 3 * v .triangles) (sym t) (v .last-indices);
+        last-vertices = subst (λ (xs : List ℕ). at xs (rowWidth * v .rows - verticesBack) ≤ v .vertices) (sym t) (v .last-vertices);
+        last-indices = subst (λ (xs : List ℕ). at xs (rowWidth * v .rows - indicesBack) ≤ 3 * v .triangles) (sym t) (v .last-indices);
       }
 
   -- a row more
   row-more : (x : Patterns) (place a b c : ℕ) → x .box ≡ s .sheet .box → x .materials ≡ s .sheet .materials → x .table ≡ s .sheet .table ++ a ∷ b ∷ c ∷ 0 ∷ 0 ∷ [] → x .positions ≡ s .sheet .positions
       → x .normals ≡ s .sheet .normals → x .indices ≡ s .sheet .indices
-      → (d : Bool) → d || leb (5 * s .limits .rows) (length (s .sheet .table)) ≡ false → Sized (record { limits = s .limits; refusal = 0; place = place; sheet = x })
+      → (d : Bool) → d || leb (rowWidth * s .limits .rows) (length (s .sheet .table)) ≡ false → Sized (record { limits = s .limits; refusal = 0; place = place; sheet = x })
   row-more x place a b c e m t p n i d l =
-      let few : length (s .sheet .table) < 5 * s .limits .rows = leb-false (5 * s .limits .rows) (length (s .sheet .table)) (or-right d (leb (5 * s .limits .rows) (length (s .sheet .table))) l) in
+      let few : length (s .sheet .table) < rowWidth * s .limits .rows =
+      leb-false (rowWidth * s .limits .rows) (length (s .sheet .table)) (or-right d (leb (rowWidth * s .limits .rows) (length (s .sheet .table))) l) in
       let row : List ℕ = a ∷ b ∷ c ∷ 0 ∷ 0 ∷ [] in
-      let three : 5 * (v .rows + 1) - 2 ≡ 5 * v .rows + 3 = omega arith in
-      let four : 5 * (v .rows + 1) - 1 ≡ 5 * v .rows + 4 = omega arith in
+      let three : rowWidth * (v .rows + 1) - verticesBack ≡ rowWidth * v .rows + 3 = omega arith in
+      let four : rowWidth * (v .rows + 1) - indicesBack ≡ rowWidth * v .rows + 4 = omega arith in
       record {
         box = ap length e ∙ v .box;
         materials = ap length m ∙ v .materials;
@@ -141,8 +143,8 @@ module _ (s : State) (v : Sized s) where
         few-vertices = v .few-vertices;
         few-triangles = v .few-triangles;
         no-row = λ z. absurd (omega arith);
-        last-vertices = omega (arith, ap (λ (xs : List ℕ). at xs (5 * (v .rows + 1) - 2)) t ∙ row-at (s .sheet .table) row (v .rows) (v .table) 2 3 three);
-        last-indices = omega (arith, ap (λ (xs : List ℕ). at xs (5 * (v .rows + 1) - 1)) t ∙ row-at (s .sheet .table) row (v .rows) (v .table) 1 4 four);
+        last-vertices = omega (arith, ap (λ (xs : List ℕ). at xs (rowWidth * (v .rows + 1) - verticesBack)) t ∙ row-at (s .sheet .table) row (v .rows) (v .table) verticesBack 3 three);
+        last-indices = omega (arith, ap (λ (xs : List ℕ). at xs (rowWidth * (v .rows + 1) - indicesBack)) t ∙ row-at (s .sheet .table) row (v .rows) (v .table) indicesBack 4 four);
       }
 
   -- a row has been read where a vertex or a triangle may stand
@@ -162,18 +164,18 @@ module _ (s : State) (v : Sized s) where
     unfolding raised
     raised-length back n = length-set table (length table - back) (at table (length table - back) + n)
 
-    raised-there : (back n : ℕ) → 0 < back → back ≤ 5 → at (raised back n table) (5 * v .rows - back) ≡ at table (5 * v .rows - back) + n
+    raised-there : (back n : ℕ) → 0 < back → back ≤ rowWidth → at (raised back n table) (rowWidth * v .rows - back) ≡ at table (rowWidth * v .rows - back) + n
     unfolding raised
     raised-there back n p few =
-        let e : length table ≡ 5 * v .rows = v .table in
-        ap (λ (i : ℕ). at (set table (i - back) (at table (i - back) + n)) (5 * v .rows - back)) e
-        ∙ getD-set-same table (5 * v .rows - back) (at table (5 * v .rows - back) + n) 0 (omega arith)
+        let e : length table ≡ rowWidth * v .rows = v .table in
+        ap (λ (i : ℕ). at (set table (i - back) (at table (i - back) + n)) (rowWidth * v .rows - back)) e
+        ∙ getD-set-same table (rowWidth * v .rows - back) (at table (rowWidth * v .rows - back) + n) 0 (omega arith)
 
-    raised-other : (back n other : ℕ) → (5 * v .rows - other ≡ 5 * v .rows - back → ⊥) → at (raised back n table) (5 * v .rows - other) ≡ at table (5 * v .rows - other)
+    raised-other : (back n other : ℕ) → (rowWidth * v .rows - other ≡ rowWidth * v .rows - back → ⊥) → at (raised back n table) (rowWidth * v .rows - other) ≡ at table (rowWidth * v .rows - other)
     unfolding raised
     raised-other back n other ne =
-        ap (λ (i : ℕ). at (set table (i - back) (at table (i - back) + n)) (5 * v .rows - other)) (v .table)
-        ∙ getD-set-other table (5 * v .rows - back) (5 * v .rows - other) (at table (5 * v .rows - back) + n) 0 ne
+        ap (λ (i : ℕ). at (set table (i - back) (at table (i - back) + n)) (rowWidth * v .rows - other)) (v .table)
+        ∙ getD-set-other table (rowWidth * v .rows - back) (rowWidth * v .rows - other) (at table (rowWidth * v .rows - back) + n) 0 ne
 
   vertex-more : (ns : List ℕ) → length ns ≡ 6 → 3 < s .place → leb (3 * s .limits .vertices) (length (s .sheet .positions)) ≡ false
       → Sized (record { limits = s .limits; refusal = 0; place = 4; sheet = withLine Vertex ns (s .sheet) })
@@ -189,7 +191,7 @@ module _ (s : State) (v : Sized s) where
         rows = v .rows;
         vertices = v .vertices + 1;
         triangles = v .triangles;
-        table = raised-length row 2 1 ∙ v .table;
+        table = raised-length row verticesBack 1 ∙ v .table;
         positions = length-append (s .sheet .positions) (take 3 ns) ∙ omega (arith, v .positions);
         normals = length-append (s .sheet .normals) (drop 3 ns) ∙ omega (arith, v .normals);
         indices = v .indices;
@@ -197,8 +199,8 @@ module _ (s : State) (v : Sized s) where
         few-vertices = omega (arith, v .positions);
         few-triangles = v .few-triangles;
         no-row = λ z. absurd (omega arith);
-        last-vertices = omega (arith, raised-there row 2 1 (omega arith) (omega arith), v .last-vertices);
-        last-indices = omega (arith, raised-other row 2 1 1 (λ q. omega arith), v .last-indices);
+        last-vertices = omega (arith, raised-there row verticesBack 1 (omega arith) (omega arith), v .last-vertices);
+        last-indices = omega (arith, raised-other row verticesBack 1 indicesBack (λ q. omega arith), v .last-indices);
       }
 
   triangle-more : (ns : List ℕ) → length ns ≡ 3 → 3 < s .place → ltb (s .limits .indices) (length (s .sheet .indices) + 3) ≡ false
@@ -213,7 +215,7 @@ module _ (s : State) (v : Sized s) where
         rows = v .rows;
         vertices = v .vertices;
         triangles = v .triangles + 1;
-        table = raised-length row 1 3 ∙ v .table;
+        table = raised-length row indicesBack 3 ∙ v .table;
         positions = v .positions;
         normals = v .normals;
         indices = length-append (s .sheet .indices) ns ∙ omega (arith, v .indices);
@@ -221,8 +223,8 @@ module _ (s : State) (v : Sized s) where
         few-vertices = v .few-vertices;
         few-triangles = omega (arith, v .indices);
         no-row = λ z. absurd (omega arith);
-        last-vertices = omega (arith, raised-other row 1 3 2 (λ q. omega arith), v .last-vertices);
-        last-indices = omega (arith, raised-there row 1 3 (omega arith) (omega arith), v .last-indices);
+        last-vertices = omega (arith, raised-other row indicesBack 3 verticesBack (λ q. omega arith), v .last-vertices);
+        last-indices = omega (arith, raised-there row indicesBack 3 (omega arith) (omega arith), v .last-indices);
       }
 
   sized-take : (k : Kind) (ns : List ℕ) → length ns ≡ countIn (form k) → Passed (record { kind = k; numbers = ns }) s → Sized (takeUp s (record { kind = k; numbers = ns }))
@@ -287,30 +289,34 @@ module _ (l : Lent) (s : State) (room : RoomIn (s .limits) l) (few : ofBodies (s
   pub state-over : stateOf (over l s) ≡ s
   state-over =
       let x : Patterns = s .sheet in
-      let rows : 5 * (length (x .table) / 5) ≡ length (x .table) = omega (arith, v .table) in
+      let rows : rowWidth * (length (x .table) / rowWidth) ≡ length (x .table) = omega (arith, v .table) in
       let vertices : 3 * (length (x .positions) / 3) ≡ length (x .positions) = omega (arith, v .positions) in
       let as-many : 3 * (length (x .positions) / 3) ≡ length (x .normals) = omega (arith, v .positions, v .normals) in
       ap (λ (y : Patterns). record { limits = s .limits; refusal = s .refusal; place = s .place; sheet = y })
       (same-patterns (x .sag) (x .default) (six-of (x .box) (v .box)) (onto-front (x .materials) (l .materials) (s .limits .face + 1) (v .materials))
-      (onto-front (x .table) (l .table) (5 * (length (x .table) / 5)) (sym rows)) (onto-front (x .positions) (l .positions) (3 * (length (x .positions) / 3)) (sym vertices))
+      (onto-front (x .table) (l .table) (rowWidth * (length (x .table) / rowWidth)) (sym rows)) (onto-front (x .positions) (l .positions) (3 * (length (x .positions) / 3)) (sym vertices))
       (onto-front (x .normals) (l .normals) (3 * (length (x .positions) / 3)) (sym as-many)) (onto-front (x .indices) (l .indices) (length (x .indices)) refl))
 
   last-over : (rows : ℕ) → rows ≡ v .rows → lastFits (s .limits) (s .place) rows (onto (s .sheet .table) (l .table)) ≡ true
   last-over zero e = lt-ltb (s .place) 4 (v .no-row (sym e))
   last-over (suc n) e =
       let T : List ℕ = s .sheet .table in
-      let long : length T ≡ 5 * suc n = v .table ∙ ap (λ (k : ℕ). 5 * k) (sym e) in
-      let a : at (onto T (l .table)) (5 * suc n - 2) ≤ s .limits .vertices =
-      omega (arith, onto-at T (l .table) (5 * suc n - 2) (omega arith), v .last-vertices, v .few-vertices, ap (λ (k : ℕ). at T (5 * k - 2)) e) in
-      let b : at (onto T (l .table)) (5 * suc n - 1) ≤ s .limits .indices =
-      omega (arith, onto-at T (l .table) (5 * suc n - 1) (omega arith), v .last-indices, v .few-triangles, ap (λ (k : ℕ). at T (5 * k - 1)) e) in
-      rw (ne-eqb (suc n) 0 (λ q. omega arith), le-leb (at (onto T (l .table)) (5 * suc n - 2)) (s .limits .vertices) a, le-leb (at (onto T (l .table)) (5 * suc n - 1)) (s .limits .indices) b)
+      let long : length T ≡ rowWidth * suc n = v .table ∙ ap (λ (k : ℕ). rowWidth * k) (sym e) in
+      let a : at (onto T (l .table)) (rowWidth * suc n - verticesBack) ≤ s .limits .vertices =
+      omega (arith, onto-at T (l .table) (rowWidth * suc n - verticesBack) (omega arith), v .last-vertices, v .few-vertices, ap (λ (k : ℕ). at T (rowWidth * k - verticesBack)) e) in
+      let b : at (onto T (l .table)) (rowWidth * suc n - indicesBack) ≤ s .limits .indices =
+      omega (arith, onto-at T (l .table) (rowWidth * suc n - indicesBack) (omega arith), v .last-indices, v .few-triangles, ap (λ (k : ℕ). at T (rowWidth * k - indicesBack)) e) in
+      rw (
+        ne-eqb (suc n) 0 (λ q. omega arith),
+        le-leb (at (onto T (l .table)) (rowWidth * suc n - verticesBack)) (s .limits .vertices) a,
+        le-leb (at (onto T (l .table)) (rowWidth * suc n - indicesBack)) (s .limits .indices) b,
+      )
 
   room-over : RoomIn (s .limits) (over l s)
   room-over =
       let x : Patterns = s .sheet in
       record {
-        table = onto-long (5 * s .limits .rows) (x .table) (l .table) (room .table);
+        table = onto-long (rowWidth * s .limits .rows) (x .table) (l .table) (room .table);
         positions = onto-long (3 * s .limits .vertices) (x .positions) (l .positions) (room .positions);
         normals = onto-long (3 * s .limits .vertices) (x .normals) (l .normals) (room .normals);
         indices = onto-long (s .limits .indices) (x .indices) (l .indices) (room .indices);
@@ -322,17 +328,17 @@ module _ (l : Lent) (s : State) (room : RoomIn (s .limits) l) (few : ofBodies (s
   unfolding fitsIn inLimits
   fits-over =
       let x : Patterns = s .sheet in
-      let rows : length (x .table) / 5 ≤ s .limits .rows = omega (arith, v .table, v .few-rows) in
+      let rows : length (x .table) / rowWidth ≤ s .limits .rows = omega (arith, v .table, v .few-rows) in
       let vertices : length (x .positions) / 3 ≤ s .limits .vertices = omega (arith, v .positions, v .few-vertices) in
       let indices : length (x .indices) ≤ s .limits .indices = omega (arith, v .indices, v .few-triangles) in
       let whole : length (x .indices) % 3 ≡ 0 = omega (arith, v .indices) in
       rw (
         few,
         room-holds (s .limits) _ _ _ _ _ room-over,
-        counts-hold (s .limits) (length (x .table) / 5) (length (x .positions) / 3) (length (x .indices)) rows vertices indices,
+        counts-hold (s .limits) (length (x .table) / rowWidth) (length (x .positions) / 3) (length (x .indices)) rows vertices indices,
         eq-eqb (length (x .indices) % 3) 0 whole,
       )
-      (last-over (length (x .table) / 5) (omega (arith, v .table)))
+      (last-over (length (x .table) / rowWidth) (omega (arith, v .table)))
 
 -- ---- line by line
 

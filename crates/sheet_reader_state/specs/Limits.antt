@@ -4,6 +4,7 @@ use mathlib.Core.Path.{_≡_}
 use Prim.Native.Nat.{ℕ, _*_, _≤_, _<_}
 use borrow.Author.Tests.{le-leb, leb-true, lt-ltb, ltb-false, ltb-true, not-true}
 use lib.Dec.{leb, ltb}
+use Rattle.body_rows.specs.Body.{rowWidth}
 use Rattle.body_refusals.specs.TableChecks.{mostIndices, mostRows, mostVertices, tooLarge}
 use Rattle.sheet_line_order.specs.declared.Limits.{Limits}
 use Rattle.sheet_reader_state.specs.declared.Reader.{Reader}
@@ -28,7 +29,7 @@ small limits e =
 
 -- slices of these lengths have room for so much
 pub record SheetRoom (limits : Limits) (t p n i m : ℕ) : Type 0 where
-  pub table : 5 * limits .rows ≤ t
+  pub table : rowWidth * limits .rows ≤ t
   pub positions : 3 * limits .vertices ≤ p
   pub normals : 3 * limits .vertices ≤ n
   pub indices : limits .indices ≤ i
@@ -37,11 +38,11 @@ pub record SheetRoom (limits : Limits) (t p n i m : ℕ) : Type 0 where
 pub sheet-room : (limits : Limits) (t p n i m : ℕ) → roomFor limits t p n i m ≡ true → SheetRoom limits t p n i m
 unfolding roomFor
 sheet-room limits t p n i m e0 =
-    let e1 = and-right (leb (5 * limits .rows) t) _ e0 in
+    let e1 = and-right (leb (rowWidth * limits .rows) t) _ e0 in
     let e2 = and-right (leb (3 * limits .vertices) p) _ e1 in
     let e3 = and-right (leb (3 * limits .vertices) n) _ e2 in
     record {
-      table = leb-true (5 * limits .rows) t (and-left _ _ e0);
+      table = leb-true (rowWidth * limits .rows) t (and-left _ _ e0);
       positions = leb-true (3 * limits .vertices) p (and-left _ _ e1);
       normals = leb-true (3 * limits .vertices) n (and-left _ _ e2);
       indices = leb-true (limits .indices) i (and-left _ _ e3);
@@ -52,7 +53,7 @@ pub room-holds : (limits : Limits) (t p n i m : ℕ) → SheetRoom limits t p n 
 unfolding roomFor
 room-holds limits t p n i m v =
     rw (
-      le-leb (5 * limits .rows) t (v .table),
+      le-leb (rowWidth * limits .rows) t (v .table),
       le-leb (3 * limits .vertices) p (v .positions),
       le-leb (3 * limits .vertices) n (v .normals),
       le-leb (limits .indices) i (v .indices),

@@ -4,6 +4,7 @@ use mathlib.Core.Path.{_≡_, refl, sym, _∙_, ap}
 use Prim.Native.Nat.{ℕ, zero, suc, _+_, _*_, _/_, _≤_}
 use native.Mathlib.Omega.{arith}
 use lib.ListN.{length, take}
+use Rattle.body_rows.specs.Body.{rowWidth}
 use Rattle.sheet_reader_state.specs.declared.Reader.{Reader}
 use Rattle.sheet_line_order.specs.Reading.{State}
 use Rattle.sheet_reader_state.specs.Slices.{Lent, lent, moved, onto, over, readerOf, refused, stateOf}
@@ -43,7 +44,7 @@ module _ (s : Reader) (T P N I M : List ℕ) where
 
   -- the counts are those of the fronts, which the slices hold
   module _ (h : Held s T P N I M) where
-    pub same-rows : s .rows ≡ length (take (5 * s .rows) T) / 5
+    pub same-rows : s .rows ≡ length (take (rowWidth * s .rows) T) / rowWidth
     same-rows = omega (arith, counts-of s T P N I M h .table)
 
     pub same-vertices : s .vertices ≡ length (take (3 * s .vertices) P) / 3
@@ -52,7 +53,7 @@ module _ (s : Reader) (T P N I M : List ℕ) where
     pub same-indices : s .indices ≡ length (take (s .indices) I)
     same-indices = sym (counts-of s T P N I M h .indices)
 
-    pub rows-fit : 5 * s .rows ≤ length T
+    pub rows-fit : rowWidth * s .rows ≤ length T
     rows-fit = omega (arith, h .limits .room .table, h .limits .rows)
 
     pub vertices-fit : 3 * s .vertices ≤ length P
@@ -65,10 +66,10 @@ module _ (s : Reader) (T P N I M : List ℕ) where
     indices-fit = omega (arith, h .limits .room .indices, h .limits .counted)
 
   -- a line before the faces: only the reader changes
-  pub header : (r : Reader) (s' : State) → r ≡ readerOf s' → s' .sheet .table ≡ take (5 * s .rows) T → s' .sheet .positions ≡ take (3 * s .vertices) P → s' .sheet .normals ≡ take (3 * s .vertices) N
-      → s' .sheet .indices ≡ take (s .indices) I → s' .sheet .materials ≡ take (s .limits .face + 1) M → lent r T P N I M ≡ over here s'
+  pub header : (r : Reader) (s' : State) → r ≡ readerOf s' → s' .sheet .table ≡ take (rowWidth * s .rows) T → s' .sheet .positions ≡ take (3 * s .vertices) P
+      → s' .sheet .normals ≡ take (3 * s .vertices) N → s' .sheet .indices ≡ take (s .indices) I → s' .sheet .materials ≡ take (s .limits .face + 1) M → lent r T P N I M ≡ over here s'
   header r s' e a b c d f =
-      same-lent e (kept (5 * s .rows) T ∙ ap (λ (xs : List ℕ). onto xs T) (sym a)) (kept (3 * s .vertices) P ∙ ap (λ (xs : List ℕ). onto xs P) (sym b))
+      same-lent e (kept (rowWidth * s .rows) T ∙ ap (λ (xs : List ℕ). onto xs T) (sym a)) (kept (3 * s .vertices) P ∙ ap (λ (xs : List ℕ). onto xs P) (sym b))
       (kept (3 * s .vertices) N ∙ ap (λ (xs : List ℕ). onto xs N) (sym c)) (kept (s .indices) I ∙ ap (λ (xs : List ℕ). onto xs I) (sym d))
       (kept (s .limits .face + 1) M ∙ ap (λ (xs : List ℕ). onto xs M) (sym f))
 

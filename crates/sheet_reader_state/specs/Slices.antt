@@ -5,6 +5,7 @@ use mathlib.Core.Path.{_≡_}
 use Prim.Native.Nat.{ℕ, _+_, _-_, _*_, _/_, _%_}
 use lib.ListN.{length, take, drop, replicate}
 use lib.Dec.{leb, ltb, eqb}
+use Rattle.body_rows.specs.Body.{rowWidth, verticesBack, indicesBack}
 use Rattle.body_refusals.specs.TableChecks.{mostRows, tooLarge}
 use Rattle.sheet_lines.specs.Counted.{countIn}
 use Rattle.sheet_lines.specs.Forms.{Line, form}
@@ -35,7 +36,7 @@ patternsOf l =
     (r .sag)
     (r .default)
     (take (r .limits .face + 1) (l .materials))
-    (take (5 * r .rows) (l .table))
+    (take (rowWidth * r .rows) (l .table))
     (take (3 * r .vertices) (l .positions))
     (take (3 * r .vertices) (l .normals))
     (take (r .indices) (l .indices))
@@ -52,7 +53,7 @@ readerOf s =
       limits = s .limits;
       refusal = s .refusal;
       place = s .place;
-      rows = length (x .table) / 5;
+      rows = length (x .table) / rowWidth;
       vertices = length (x .positions) / 3;
       indices = length (x .indices);
       default = x .default;
@@ -80,7 +81,7 @@ over l s =
 -- the last row's counts are within the limits; without a row no line of a face has been read
 abbrev pub lastFits : Limits → ℕ → ℕ → List ℕ → Bool
 lastFits limits place rows table =
-    cond (eqb rows 0) (ltb place 4) (leb (at table (5 * rows - 2)) (limits .vertices) && leb (at table (5 * rows - 1)) (limits .indices))
+    cond (eqb rows 0) (ltb place 4) (leb (at table (rowWidth * rows - verticesBack)) (limits .vertices) && leb (at table (rowWidth * rows - indicesBack)) (limits .indices))
 
 -- A body may have so many rows, vertices and indices.
 unfoldable pub ofBodies : Limits → Bool
@@ -89,7 +90,7 @@ ofBodies limits = leb (limits .rows) mostRows && not (tooLarge (limits .vertices
 -- Slices of these lengths have room for so many rows, vertices and indices, and for the material of each face number.
 unfoldable pub roomFor : Limits → ℕ → ℕ → ℕ → ℕ → ℕ → Bool
 roomFor limits table positions normals indices materials =
-    leb (5 * limits .rows) table && (leb (3 * limits .vertices) positions && (leb (3 * limits .vertices) normals && (leb (limits .indices) indices && ltb (limits .face) materials)))
+    leb (rowWidth * limits .rows) table && (leb (3 * limits .vertices) positions && (leb (3 * limits .vertices) normals && (leb (limits .indices) indices && ltb (limits .face) materials)))
 
 -- The reader counts no more rows, vertices and indices than the limits.
 unfoldable pub countsIn : Limits → ℕ → ℕ → ℕ → Bool

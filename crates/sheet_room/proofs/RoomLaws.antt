@@ -7,6 +7,7 @@ use native.Mathlib.Omega.{arith}
 use borrow.Author.Tests.{eq-eqb, ne-eqb, le-leb, lt-leb, not-true, not-false}
 use lib.Dec.{leb, ltb}
 use lib.ListN.{length, getD}
+use Rattle.body_rows.specs.Body.{rowWidth, verticesBack, indicesBack}
 use Rattle.body_refusals.specs.TableChecks.{mostRows, tooLarge}
 use Rattle.sheet_line_order.specs.declared.Limits.{Limits}
 use Rattle.sheet_reader_state.specs.declared.Reader.{Reader}
@@ -15,11 +16,11 @@ use Rattle.sheet_reader_state.specs.Limits.{Limited, Small, limited, small}
 
 -- ---- the last row
 module _ (limits : Limits) (place rows : ℕ) (table : List ℕ) (some-row : rows ≡ 0 → ⊥) where
-  module _ (b : Bool) (e : b ≡ leb (getD table (5 * rows - 2) 0) (limits .vertices)) where
+  module _ (b : Bool) (e : b ≡ leb (getD table (rowWidth * rows - verticesBack) 0) (limits .vertices)) where
     pub last-vertices : not b ≡ true → false ≡ lastFits limits place rows table
     last-vertices h = rw (ne-eqb rows 0 some-row, sym e ∙ not-true b h)
 
-    pub last-indices : (r : Bool) → not b ≡ false → r ≡ leb (getD table (5 * rows - 1) 0) (limits .indices) → r ≡ lastFits limits place rows table
+    pub last-indices : (r : Bool) → not b ≡ false → r ≡ leb (getD table (rowWidth * rows - indicesBack) 0) (limits .indices) → r ≡ lastFits limits place rows table
     last-indices r h q = q ∙ rw (ne-eqb rows 0 some-row, sym e ∙ not-false b h)
 
 -- ---- limits of bodies
@@ -34,28 +35,28 @@ module _ (limits : Limits) where
 
 -- ---- room for the limits
 module _ (l : Limits) (t p n i m : ℕ) where
-  pub short-table : t < 5 * l .rows → false ≡ roomFor l t p n i m
+  pub short-table : t < rowWidth * l .rows → false ≡ roomFor l t p n i m
   unfolding roomFor
-  short-table a = rw (lt-leb (5 * l .rows) t a)
+  short-table a = rw (lt-leb (rowWidth * l .rows) t a)
 
-  module _ (a : 5 * l .rows ≤ t) where
+  module _ (a : rowWidth * l .rows ≤ t) where
     pub short-positions : p < 3 * l .vertices → false ≡ roomFor l t p n i m
     unfolding roomFor
-    short-positions b = rw (le-leb (5 * l .rows) t a, lt-leb (3 * l .vertices) p b)
+    short-positions b = rw (le-leb (rowWidth * l .rows) t a, lt-leb (3 * l .vertices) p b)
 
     module _ (b : 3 * l .vertices ≤ p) where
       pub short-normals : n < 3 * l .vertices → false ≡ roomFor l t p n i m
       unfolding roomFor
-      short-normals c = rw (le-leb (5 * l .rows) t a, le-leb (3 * l .vertices) p b, lt-leb (3 * l .vertices) n c)
+      short-normals c = rw (le-leb (rowWidth * l .rows) t a, le-leb (3 * l .vertices) p b, lt-leb (3 * l .vertices) n c)
 
       module _ (c : 3 * l .vertices ≤ n) where
         pub short-indices : i < l .indices → false ≡ roomFor l t p n i m
         unfolding roomFor
-        short-indices d = rw (le-leb (5 * l .rows) t a, le-leb (3 * l .vertices) p b, le-leb (3 * l .vertices) n c, lt-leb (l .indices) i d)
+        short-indices d = rw (le-leb (rowWidth * l .rows) t a, le-leb (3 * l .vertices) p b, le-leb (3 * l .vertices) n c, lt-leb (l .indices) i d)
 
         pub materials-too : l .indices ≤ i → ltb (l .face) m ≡ roomFor l t p n i m
         unfolding roomFor
-        materials-too d = rw (le-leb (5 * l .rows) t a, le-leb (3 * l .vertices) p b, le-leb (3 * l .vertices) n c, le-leb (l .indices) i d)
+        materials-too d = rw (le-leb (rowWidth * l .rows) t a, le-leb (3 * l .vertices) p b, le-leb (3 * l .vertices) n c, le-leb (l .indices) i d)
 
 -- ---- what the reader counts
 module _ (l : Limits) (rows vertices indices : ℕ) where
@@ -108,7 +109,7 @@ module _ (s : Reader) (T : List ℕ) (p n i m : ℕ) (b : Bool) (e : b ≡ inLim
     within : Limited s (length T) p n i m
     within = limited s (length T) p n i m (sym e ∙ not-false b h)
 
-    pub room-table : 5 * s .rows ≤ length T
+    pub room-table : rowWidth * s .rows ≤ length T
     room-table = omega (arith, within .rows, within .room .table)
 
     pub room-rows : s .rows ≤ mostRows

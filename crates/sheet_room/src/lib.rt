@@ -1,5 +1,8 @@
 // Whether the lent slices have room for every sheet within the limits, and hold what the reader counts.
 
+use body_rows::INDICES_BACK;
+use body_rows::ROW_WIDTH;
+use body_rows::VERTICES_BACK;
 use body_table_checks::MOST_ROWS;
 use body_table_checks::too_many;
 use sheet_line_order::Limits;
@@ -8,6 +11,7 @@ ghost use mathlib.Core.Path.{_≡_};
 ghost use Prim.Native.Nat.{_*_, _≤_};
 ghost use lib.Dec.{leb};
 ghost use lib.ListN.{length};
+ghost use Rattle.body_rows.specs.Body.{rowWidth};
 ghost use Rattle.body_refusals.specs.TableChecks.{mostRows};
 ghost use Rattle.sheet_reader_state.specs.Limits.{Small};
 ghost use Rattle.sheet_reader_state.specs.Slices.{countsIn, fitsIn, inLimits, lastFits, ofBodies, roomFor};
@@ -21,17 +25,17 @@ fn within(count: u32, limit: usize) -> bool
 
 // Whether the last row's counts are within the limits; without a row no line of a face has been read.
 fn last_fits(limits: Limits, place: u32, rows: usize, table: &[u32]) -> bool
-    requires { ⌜ 5 * rows ≤ length (now table) ⌝ }
+    requires { ⌜ rowWidth * rows ≤ length (now table) ⌝ }
     requires { ⌜ rows ≤ mostRows ⌝ }
     ensures { λ r. ⌜ r ≡ lastFits limits place rows (now (table .entry)) ⌝ }
 {
     if rows == 0 {
         return place < 4;
     }
-    if !within(table[5 * rows - 2], limits.vertices) {
+    if !within(table[ROW_WIDTH * rows - VERTICES_BACK], limits.vertices) {
         return false;
     }
-    within(table[5 * rows - 1], limits.indices)
+    within(table[ROW_WIDTH * rows - INDICES_BACK], limits.indices)
 }
 
 // Whether a body may have so many rows, vertices and indices.
@@ -56,7 +60,7 @@ fn room_for(
     requires { ⌜ Small limits ⌝ }
     ensures { λ r. ⌜ r ≡ roomFor limits table positions normals indices materials ⌝ }
 {
-    if table < 5 * limits.rows {
+    if table < ROW_WIDTH * limits.rows {
         return false;
     }
     if positions < 3 * limits.vertices {

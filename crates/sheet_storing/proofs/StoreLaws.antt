@@ -5,6 +5,7 @@ use Prim.Native.Nat.{ℕ, _+_, _%_, _^_, _≤_}
 use lib.ListN.{length, getD, take, drop, set}
 use lib.Seq.{sets, sets-eq}
 use Rattle.lists.specs.Sets.{three-stored, five-stored}
+use Rattle.body_rows.specs.Body.{rowWidth}
 use Rattle.sheet_storing.specs.Placed.{lowThree, placed, three-same}
 
 -- a run of stores is what was stored between the front and the rest
@@ -16,7 +17,7 @@ pub three-placed : (S : List ℕ) (at a b c : ℕ) → at + 3 ≤ length S → s
 three-placed S at a b c h = three-stored S at a b c ∙ run-placed S at (a ∷ b ∷ c ∷ []) h
 
 -- the five numbers of a row
-pub row-placed : (S : List ℕ) (at a b c d e : ℕ) → at + 5 ≤ length S → set (set (set (set (set S at a) (at + 1) b) (at + 2) c) (at + 3) d) (at + 4) e ≡ placed S at (a ∷ b ∷ c ∷ d ∷ e ∷ [])
+pub row-placed : (S : List ℕ) (at a b c d e : ℕ) → at + rowWidth ≤ length S → set (set (set (set (set S at a) (at + 1) b) (at + 2) c) (at + 3) d) (at + 4) e ≡ placed S at (a ∷ b ∷ c ∷ d ∷ e ∷ [])
 row-placed S at a b c d e h = five-stored S at a b c d e ∙ run-placed S at (a ∷ b ∷ c ∷ d ∷ e ∷ []) h
 
 -- the low 32 bits of three numbers

@@ -4,6 +4,7 @@ ghost use mathlib.Core.Path.{_≡_};
 ghost use mathlib.Core.List.{_∷_, []};
 ghost use Prim.Native.Nat.{_+_, _%_, _^_, _<_, _≤_};
 ghost use lib.ListN.{length, getD, set};
+ghost use Rattle.body_rows.specs.Body.{rowWidth};
 ghost use Rattle.sheet_storing.specs.Placed.{lowThree, placed};
 
 // The low 32 bits.
@@ -37,7 +38,7 @@ pub fn store_low(s: &mut [u32], at: usize, numbers: &[u64], i: usize)
 
 // A row from a place on, its counts 0.
 pub fn store_row(s: &mut [u32], at: usize, shell: u32, face: u32, outcome: u32)
-    requires { ⌜ at + 5 ≤ length (now s) ⌝ }
+    requires { ⌜ at + rowWidth ≤ length (now s) ⌝ }
     ensures { λ r. ⌜ now (s .exit) ≡ placed (now (s .entry)) at (shell ∷ face ∷ outcome ∷ 0 ∷ 0 ∷ []) ⌝ }
 {
     s[at] = shell;

@@ -6,7 +6,7 @@ use native.Mathlib.Omega.{arith}
 use lib.ListN.{length, take, drop, length-drop, take-append-drop}
 use lib.Ieee.{Float}
 use Rattle.lists.specs.Lists.{sumOf, written}
-use Rattle.body_rows.specs.Body.{Row, rowsOf, tableOf, patchesOf, allVertices, allIndices}
+use Rattle.body_rows.specs.Body.{rowWidth, Row, rowsOf, tableOf, patchesOf, allVertices, allIndices}
 use Rattle.body_checks.specs.Accepted.{Passed}
 use Rattle.stitch_definition.specs.Slices.{StitchSlices, AfterStitch, writeBody}
 
@@ -70,7 +70,7 @@ flat-indices (r ∷ rs) ps ns is h =
     ∙ take-append-drop (r .indices) is
 
 -- the table of a table's rows
-pub flat-table : (table : List ℕ) → length table ≡ 5 * length (rowsOf table) → tableOf (rowsOf table) ≡ table
+pub flat-table : (table : List ℕ) → length table ≡ rowWidth * length (rowsOf table) → tableOf (rowsOf table) ≡ table
 unfolding rowsOf tableOf
 flat-table [] h = refl
 flat-table (s ∷ []) h = absurd (omega arith)

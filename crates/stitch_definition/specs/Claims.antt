@@ -9,7 +9,7 @@ use Rattle.lists.specs.Lists.{all}
 use Rattle.lists.specs.Table.{Case, case, agrees}
 use Rattle.float_steps.specs.Floats.{f32, f64, bits32, bits64}
 use Rattle.point_rules.specs.Points.{key}
-use Rattle.body_rows.specs.Body.{Row, firstFailing}
+use Rattle.body_rows.specs.Body.{rowWidth, Row, firstFailing}
 use Rattle.body_rows.specs.Given.{Given, at, below, row, triangle, triangleIn, givenTable, givenPositions, givenIndices, K8}
 use Rattle.patch_geometry.specs.Geometry.{sub, zero64, one64}
 use Rattle.stitch_projection.specs.Projection.{near-end, least-length, far-end}
@@ -21,7 +21,7 @@ use Rattle.stitch_definition.specs.Evaluation.{evaluation}
 -- slices with room for 9 rows, 99 vertices and 99 indices
 unfoldable pub roomy : StitchSlices
 roomy =
-    record { table = replicate 45 9; positions = replicate 297 zero64; normals = replicate 297 zero64; indices = replicate 99 9; work = replicate 999 7 }
+    record { table = replicate (rowWidth * 9) 9; positions = replicate 297 zero64; normals = replicate 297 zero64; indices = replicate 99 9; work = replicate 999 7 }
 
 -- a body stitched, its normals being its positions once more
 unfoldable pub stitchGiven : List Given → Float → AfterStitch
@@ -37,7 +37,7 @@ vertex n s = map bits32 (take 3 (drop (3 * n) (s .slices .positions)))
 
 -- no room for a vertex
 tight : StitchSlices
-tight = record { table = replicate 45 9; positions = []; normals = replicate 297 zero64; indices = replicate 99 9; work = replicate 999 7 }
+tight = record { table = replicate (rowWidth * 9) 9; positions = []; normals = replicate 297 zero64; indices = replicate 99 9; work = replicate 999 7 }
 
 -- a row beyond the limit of 13, with more indices than there is room for
 wide : Row

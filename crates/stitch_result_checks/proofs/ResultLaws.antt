@@ -6,33 +6,33 @@ use Prim.Native.Nat.{ℕ, _*_, _≤_, _<_}
 use lib.Dec.{ltb}
 use borrow.Author.Tests.{lt-ltb, le-ltb}
 use Rattle.body_refusals.specs.TableChecks.{tooLarge}
-use Rattle.body_rows.specs.Body.{firstFailing}
+use Rattle.body_rows.specs.Body.{rowWidth, firstFailing}
 use Rattle.body_rows.specs.Checks.{first-here, first-next, first-none}
 use Rattle.stitch_result_checks.specs.Results.{tooShort, resultChecks}
 
 module _ (v i f t p n x : ℕ) where
   -- ---- 32
   -- the table is too short
-  pub short-rows : t < 5 * f → true ≡ tooShort v i f t p n x
+  pub short-rows : t < rowWidth * f → true ≡ tooShort v i f t p n x
   unfolding tooShort
-  short-rows h = rw (lt-ltb t (5 * f) h)
+  short-rows h = rw (lt-ltb t (rowWidth * f) h)
 
-  module _ (a : 5 * f ≤ t) where
+  module _ (a : rowWidth * f ≤ t) where
     -- the positions are
     pub short-positions : p < 3 * v → true ≡ tooShort v i f t p n x
     unfolding tooShort
-    short-positions h = rw (le-ltb t (5 * f) a, lt-ltb p (3 * v) h)
+    short-positions h = rw (le-ltb t (rowWidth * f) a, lt-ltb p (3 * v) h)
 
     module _ (b : 3 * v ≤ p) where
       -- the normals are
       pub short-normals : n < 3 * v → true ≡ tooShort v i f t p n x
       unfolding tooShort
-      short-normals h = rw (le-ltb t (5 * f) a, le-ltb p (3 * v) b, lt-ltb n (3 * v) h)
+      short-normals h = rw (le-ltb t (rowWidth * f) a, le-ltb p (3 * v) b, lt-ltb n (3 * v) h)
 
       -- none of the three: the indices decide
       pub short-indices : 3 * v ≤ n → ltb x i ≡ tooShort v i f t p n x
       unfolding tooShort
-      short-indices h = rw (le-ltb t (5 * f) a, le-ltb p (3 * v) b, le-ltb n (3 * v) h)
+      short-indices h = rw (le-ltb t (rowWidth * f) a, le-ltb p (3 * v) b, le-ltb n (3 * v) h)
 
   -- ---- 33, then 32
   -- too many vertices

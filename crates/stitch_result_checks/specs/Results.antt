@@ -6,7 +6,7 @@ use Prim.Native.Nat.{ℕ, _*_, _≤_}
 use lib.ListN.{length}
 use lib.Dec.{ltb}
 use borrow.Author.Tests.{ltb-false}
-use Rattle.body_rows.specs.Body.{Row, Check, check, firstFailing, allVertices, allIndices}
+use Rattle.body_rows.specs.Body.{rowWidth, Row, Check, check, firstFailing, allVertices, allIndices}
 use Rattle.body_refusals.specs.TableChecks.{tooLarge}
 use Rattle.body_rows.specs.Checks.{clear-first}
 use Rattle.lists.specs.Both.{or-left, or-right}
@@ -14,7 +14,7 @@ use Rattle.stitch_definition.specs.Slices.{StitchSlices, stitchChecks}
 
 -- 32: a slice of length t, p, n or x is shorter than f rows, v vertices and i indices need
 unfoldable pub tooShort : ℕ → ℕ → ℕ → ℕ → ℕ → ℕ → ℕ → Bool
-tooShort v i f t p n x = ltb t (5 * f) || ltb p (3 * v) || ltb n (3 * v) || ltb x i
+tooShort v i f t p n x = ltb t (rowWidth * f) || ltb p (3 * v) || ltb n (3 * v) || ltb x i
 
 -- 33, then 32
 unfoldable pub resultChecks : ℕ → ℕ → ℕ → ℕ → ℕ → ℕ → ℕ → List Check
@@ -35,7 +35,7 @@ stitch-checks rows out = refl
 pub record ResultFits (v i f t p n x : ℕ) : Type 0 where
   pub vertices : v ≤ 262144
   pub indices : i ≤ 786432
-  pub room-rows : 5 * f ≤ t
+  pub room-rows : rowWidth * f ≤ t
   pub room-positions : 3 * v ≤ p
   pub room-normals : 3 * v ≤ n
   pub room-indices : i ≤ x
@@ -48,13 +48,13 @@ result-fits v i f t p n x h =
     let c32 = clear-first 31 _ _ (c33 .rest) in
     let large = c33 .here in
     let short = c32 .here in
-    let three = or-left (ltb t (5 * f) || ltb p (3 * v) || ltb n (3 * v)) (ltb x i) short in
-    let two = or-left (ltb t (5 * f) || ltb p (3 * v)) (ltb n (3 * v)) three in
+    let three = or-left (ltb t (rowWidth * f) || ltb p (3 * v) || ltb n (3 * v)) (ltb x i) short in
+    let two = or-left (ltb t (rowWidth * f) || ltb p (3 * v)) (ltb n (3 * v)) three in
     record {
       vertices = ltb-false 262144 v (or-left (ltb 262144 v) (ltb 786432 i) large);
       indices = ltb-false 786432 i (or-right (ltb 262144 v) (ltb 786432 i) large);
-      room-rows = ltb-false t (5 * f) (or-left (ltb t (5 * f)) (ltb p (3 * v)) two);
-      room-positions = ltb-false p (3 * v) (or-right (ltb t (5 * f)) (ltb p (3 * v)) two);
-      room-normals = ltb-false n (3 * v) (or-right (ltb t (5 * f) || ltb p (3 * v)) (ltb n (3 * v)) three);
-      room-indices = ltb-false x i (or-right (ltb t (5 * f) || ltb p (3 * v) || ltb n (3 * v)) (ltb x i) short);
+      room-rows = ltb-false t (rowWidth * f) (or-left (ltb t (rowWidth * f)) (ltb p (3 * v)) two);
+      room-positions = ltb-false p (3 * v) (or-right (ltb t (rowWidth * f)) (ltb p (3 * v)) two);
+      room-normals = ltb-false n (3 * v) (or-right (ltb t (rowWidth * f) || ltb p (3 * v)) (ltb n (3 * v)) three);
+      room-indices = ltb-false x i (or-right (ltb t (rowWidth * f) || ltb p (3 * v) || ltb n (3 * v)) (ltb x i) short);
     }

@@ -7,7 +7,7 @@ use lib.ListN.{length, take, drop, length-append, length-drop, drop-of-length-le
 use lib.Seq.{drop-drop, length-take-le}
 use lib.Ieee.{Float}
 use Rattle.lists.specs.Lists.{sumOf, written}
-use Rattle.body_rows.specs.Body.{Row, rowsOf, tableOf}
+use Rattle.body_rows.specs.Body.{rowWidth, Row, rowsOf, tableOf}
 use Rattle.body_rows.specs.Rows.{rowAt, verticesBefore, indicesBefore, rows-here, table-length}
 use Rattle.body_rows.specs.Patches.{before-none, indices-next, vertices-next}
 use Rattle.slice_append.specs.Appended.{Appended, appended-none, appended-written, behind, part-low}
@@ -244,7 +244,7 @@ module _ {table : List ℕ} {ps ns : List Float} {is : List ℕ} {sag beyond : F
         size = omega arith
 
     -- there is room for its five numbers
-    pub row-room : 5 * k + 5 ≤ length S
+    pub row-room : rowWidth * k + rowWidth ≤ length S
     row-room = omega (arith, more, g .room-rows, c .rows-long)
 
     module _ {x y : ℕ} {F : List ℕ} {Q' M' : List Float} {J' : List ℕ} (d : RowWritten ps ns is sag v list count at ts flags base vertices i end vo io E F Q Q' M M' J J' x y) where
@@ -257,7 +257,7 @@ module _ {table : List ℕ} {ps ns : List Float} {is : List ℕ} {sag beyond : F
 
       -- one row more is written
       pub writing-more : {shell face outcome a b : ℕ} {S' : List ℕ} → shell ≡ rowAt table k .shell → face ≡ rowAt table k .face → outcome ≡ rowAt table k .outcome → a ≡ x - vo → b ≡ y - io
-          → Appended (5 * k) (shell ∷ face ∷ outcome ∷ a ∷ b ∷ []) S S' → length F ≡ length E → length S' ≡ length S → length Q' ≡ length Q → length M' ≡ length M → length J' ≡ length J
+          → Appended (rowWidth * k) (shell ∷ face ∷ outcome ∷ a ∷ b ∷ []) S S' → length F ≡ length E → length S' ≡ length S → length Q' ≡ length Q → length M' ≡ length M → length J' ≡ length J
           → WritingRows table ps ns is sag v list count at ts flags W R P N I x y (base + vertices) end (k + 1) F S' Q' M' J'
       unfolding rowAt
       writing-more {shell} {face} {outcome} {a} {b} {S'} es ef eo ea eb put lf ls lq lm lj =
@@ -299,8 +299,8 @@ module _ {table : List ℕ} {ps ns : List Float} {is : List ℕ} {sag beyond : F
           threes : b ≡ length (rowIndices (rowAt table k .vertices) vs)
           threes = let e : b ≡ length (rowIndices vertices vs) = omega (arith, d .indices-end) in e ∙ ap (λ (z : ℕ). length (rowIndices z vs)) ev
 
-          five : Appended (5 * k) (r .shell ∷ r .face ∷ r .outcome ∷ r .vertices ∷ r .indices ∷ []) S S'
-          five = subst (λ (xs : List ℕ). Appended (5 * k) xs S S') (λ j. es j ∷ ef j ∷ eo j ∷ many j ∷ threes j ∷ []) put
+          five : Appended (rowWidth * k) (r .shell ∷ r .face ∷ r .outcome ∷ r .vertices ∷ r .indices ∷ []) S S'
+          five = subst (λ (xs : List ℕ). Appended (rowWidth * k) xs S S') (λ j. es j ∷ ef j ∷ eo j ∷ many j ∷ threes j ∷ []) put
 
   -- all are
   pub writing-all : {vo io base i k m : ℕ} {E S : List ℕ} {Q M : List Float} {J : List ℕ} → WritingRows table ps ns is sag v list count at ts flags W R P N I vo io base i k E S Q M J

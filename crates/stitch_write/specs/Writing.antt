@@ -6,7 +6,7 @@ use Prim.Native.Nat.{ℕ, _+_, _-_, _*_, _%_, _<_, _≤_}
 use lib.ListN.{length, getD, take, drop}
 use lib.Ieee.{Float}
 use Rattle.lists.specs.Lists.{sumOf, written}
-use Rattle.body_rows.specs.Body.{rowsOf, tableOf}
+use Rattle.body_rows.specs.Body.{rowWidth, rowsOf, tableOf}
 use Rattle.stitch_splits.specs.Entries.{Entry}
 use Rattle.stitch_splits.specs.Found.{triangleKept}
 use Rattle.stitch_rings.specs.Rings.{newPositions, newNormals, ringAfter, fanGo}
@@ -79,7 +79,7 @@ pub record BodyWritable (table : List ℕ) (ps ns : List Float) (is : List ℕ) 
   pub all : length ns ≡ 3 * v
   pub small : v + sumOf keptIn (viewsOf table ps is sag v list count flags W) ≤ 262144
   pub small-indices : length is + 3 * sumOf keptIn (viewsOf table ps is sag v list count flags W) ≤ 786432
-  pub room-rows : 5 * length (rowsOf table) ≤ length R
+  pub room-rows : rowWidth * length (rowsOf table) ≤ length R
   pub room-positions : 3 * (v + sumOf keptIn (viewsOf table ps is sag v list count flags W)) ≤ length P
   pub room-normals : 3 * (v + sumOf keptIn (viewsOf table ps is sag v list count flags W)) ≤ length N
   pub room-indices : length is + 3 * sumOf keptIn (viewsOf table ps is sag v list count flags W) ≤ length I

@@ -1,13 +1,14 @@
 // A row's five numbers in the flat table.
 
+use body_rows::ROW_WIDTH;
 ghost use mathlib.Core.List.{[], _∷_};
 ghost use Prim.Native.Nat.{_+_, _*_, _<_, _≤_};
 ghost use lib.ListN.{length};
-ghost use Rattle.body_rows.specs.Body.{rowsOf};
+ghost use Rattle.body_rows.specs.Body.{rowWidth, rowsOf};
 ghost use Rattle.body_rows.specs.Rows.{rowAt};
 ghost use Rattle.slice_append.specs.Appended.{Appended};
 
-// The five numbers of row k are written to the table `out`, at place 5·k.
+// The five numbers of row k are written to the table `out`, behind the k rows before it.
 fn put_row(
     out: &mut [u32],
     k: usize,
@@ -17,10 +18,10 @@ fn put_row(
     vertices: u32,
     indices: u32,
 )
-    requires { ⌜ 5 * k + 5 ≤ length (now out) ⌝ }
-    ensures { λ _. ⌜ Appended (5 * k) (shell ∷ face ∷ outcome ∷ vertices ∷ indices ∷ []) (now (out .entry)) (now (out .exit)) ⌝ }
+    requires { ⌜ rowWidth * k + rowWidth ≤ length (now out) ⌝ }
+    ensures { λ _. ⌜ Appended (rowWidth * k) (shell ∷ face ∷ outcome ∷ vertices ∷ indices ∷ []) (now (out .entry)) (now (out .exit)) ⌝ }
 {
-    let o = 5 * k;
+    let o = ROW_WIDTH * k;
     out[o] = shell;
     out[o + 1] = face;
     out[o + 2] = outcome;
@@ -31,9 +32,9 @@ fn put_row(
 // Row k of `rows` is written as row k of the table `out`, with the counts that it has now.
 pub fn put_counts(rows: &[u32], k: usize, vertices: u32, indices: u32, out: &mut [u32])
     requires { ⌜ k < length (rowsOf (now rows)) ⌝ }
-    requires { ⌜ 5 * k + 5 ≤ length (now out) ⌝ }
-    ensures { λ _. ⌜ Appended (5 * k) (rowAt (now (rows .entry)) k .shell ∷ rowAt (now (rows .entry)) k .face ∷ rowAt (now (rows .entry)) k .outcome ∷ vertices
-        ∷ indices ∷ [])
+    requires { ⌜ rowWidth * k + rowWidth ≤ length (now out) ⌝ }
+    ensures { λ _. ⌜ Appended (rowWidth * k) (rowAt (now (rows .entry)) k .shell ∷ rowAt (now (rows .entry)) k .face ∷ rowAt (now (rows .entry)) k .outcome
+        ∷ vertices ∷ indices ∷ [])
         (now (out .entry)) (now (out .exit)) ⌝ }
 {
     let shell = body_rows::shell(rows, k);
