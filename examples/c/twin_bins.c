@@ -136,7 +136,8 @@ int main(void)
            (unsigned long long)sewn.splits);
     printf("mesh of %u vertices, %u indices, %u failures\n", (unsigned)mesh.vertices, (unsigned)mesh.indices, (unsigned)mesh.failures);
     for (size_t k = 0; k < mesh.parts; k++)
-        printf("material %u: %u indices from %u on\n", (unsigned)parts[3 * k], (unsigned)parts[3 * k + 2], (unsigned)parts[3 * k + 1]);
+        printf("material %u: %u indices from %u on\n", (unsigned)parts[CAD_PART_NUMBERS * k], (unsigned)parts[CAD_PART_NUMBERS * k + 2],
+               (unsigned)parts[CAD_PART_NUMBERS * k + 1]);
     printf("edges %llu\nopen edges %llu\nover %llu\n%s\n", (unsigned long long)mesh.edges, (unsigned long long)mesh.opens,
            (unsigned long long)mesh.overs, mesh.closed ? "closed" : "not closed");
     return 0;

@@ -3,7 +3,7 @@
 
 use bench::race::{Times, race, timed};
 use cad_ir::brep::Solid;
-use compare::library::{self, Assembled, Mesh, Setting};
+use compare::library::{self, Assembled, FAILURE, Mesh, PART, RANGE, Setting};
 use driver::finish::{box_of, face_materials, faces_of};
 use driver::flat::{Flat, ROW};
 use driver::sheet::Sheet;
@@ -17,9 +17,9 @@ pub fn mesh_room(body: &Flat) -> Mesh {
         positions: vec![0.0; body.positions.len()],
         normals: vec![0.0; body.normals.len()],
         indices: vec![0; body.indices.len()],
-        parts: vec![0; 3 * rows],
-        ranges: vec![0; 3 * rows],
-        failures: vec![0; 4 * rows],
+        parts: vec![0; PART * rows],
+        ranges: vec![0; RANGE * rows],
+        failures: vec![0; FAILURE * rows],
     }
 }
 

@@ -180,7 +180,16 @@ pub fn face_indices(before: &Flat, stitched: &Flat, k: usize, out: &mut [u32]) -
     }
 }
 
-/// The slices that assembling writes: three numbers a vertex, a part and a range, four a failure.
+/// How many numbers a part takes: material, start, count.
+pub const PART: usize = 3;
+
+/// How many numbers a range takes: face, first index, one past the last.
+pub const RANGE: usize = 3;
+
+/// How many numbers a failure takes: face, case, reach, span.
+pub const FAILURE: usize = 4;
+
+/// The slices that assembling writes: three numbers a vertex, and tables of parts, ranges and failures.
 #[derive(Debug, Clone, Default)]
 pub struct Mesh {
     pub positions: Vec<f32>,

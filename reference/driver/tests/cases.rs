@@ -4,7 +4,7 @@ use cad_tess::face::{patch_of, probe};
 use driver::check::{check, refusal};
 use driver::command::answer;
 use driver::finish::outcome_of;
-use driver::flat::Flat;
+use driver::flat::{Flat, ROW};
 use driver::generate::{KINDS, LARGE, SEAMS, body_of, generate, kind};
 use driver::print;
 use driver::sheet::{BENCH, parse};
@@ -142,13 +142,13 @@ fn slices_are_refused_with_their_numbers() {
     let words = body.words();
     let changes: [Change; 10] = [
         (|_| (), 0),
-        (|b| b.rows.truncate(9), 11),
-        (|b| b.rows.resize(5 * 4097, 0), 11),
+        (|b| b.rows.truncate(2 * ROW - 1), 11),
+        (|b| b.rows.resize(ROW * 4097, 0), 11),
         (|b| b.rows[2] = 256, 12),
         (|b| b.rows[2] = 1, 12),
         (|b| b.rows[3] = u32::MAX, 13),
         (|b| b.normals.push(0.0), 14),
-        (|b| (b.rows[4], b.rows[9]) = (4, 5), 21),
+        (|b| (b.rows[4], b.rows[ROW + 4]) = (4, 5), 21),
         (|b| b.indices[2] = 3, 22),
         (|b| b.positions[0] = f32::NEG_INFINITY, 23),
     ];

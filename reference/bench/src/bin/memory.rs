@@ -5,6 +5,7 @@ use bench::bodies::{Body, with_open_edges};
 use bench::shown::{grouped, kilobytes};
 use cad_ir::brep::Solid;
 use cad_tess::face::probe;
+use compare::library::{FAILURE, PART, RANGE};
 use driver::finish::{box_of, face_materials, faces_of};
 use driver::flat::{Flat, ROW};
 use driver::sheet::Sheet;
@@ -73,7 +74,7 @@ fn row(body: Body) {
     });
     let words = (16 * indices + 16 * rows + 4 * vertices).max(flat.words());
     let second = size::<u32>(ROW * rows) + size::<f32>(6 * vertices) + size::<u32>(indices);
-    let mesh = size::<f32>(6 * vertices) + size::<u32>(indices + 6 * rows) + size::<u64>(4 * rows);
+    let mesh = size::<f32>(6 * vertices) + size::<u32>(indices + (PART + RANGE) * rows) + size::<u64>(FAILURE * rows);
     let own = size::<u64>(words) + second + mesh;
     println!(
         "| {} | {} | {} | {} | {} | {} | {} | {} | {} | {:.1} |",

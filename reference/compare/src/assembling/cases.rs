@@ -8,7 +8,7 @@ use super::settings::setting;
 use super::slices::{Lengths, filled, lengths};
 use crate::source_bodies::flat_of;
 use cad_tess::face::probe;
-use compare::library::{Assembled, Mesh, Setting};
+use compare::library::{Assembled, FAILURE, Mesh, PART, RANGE, Setting};
 use driver::finish::{Failure, Finished, faces_of, finish};
 use driver::flat::{Flat, ROW};
 use driver::random::Random;
@@ -24,7 +24,7 @@ pub struct Case {
     pub mesh: Mesh,
 }
 
-fn failure_numbers((face, failure): &(u32, Failure)) -> [u64; 4] {
+fn failure_numbers((face, failure): &(u32, Failure)) -> [u64; FAILURE] {
     let (case, reach, span) = match failure {
         Failure::Empty => (0, 0, 0),
         Failure::Upstream(number) => (*number as u64, 0, 0),
@@ -81,7 +81,7 @@ pub fn as_given(name: &'static str, sheet: &Sheet, r: &mut Random) -> Case {
 /// The lengths that no output may fall short of, for a mesh of a body of so many rows.
 fn room(mesh: &Mesh, rows: usize) -> Lengths {
     let [positions, normals, indices, ..] = lengths(mesh);
-    [positions, normals, indices, 3 * rows, 3 * rows, 4 * rows]
+    [positions, normals, indices, PART * rows, RANGE * rows, FAILURE * rows]
 }
 
 /// The lengths that no output may fall short of.
