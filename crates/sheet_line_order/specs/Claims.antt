@@ -1,4 +1,4 @@
--- Which text is a sheet of the bench program: short texts and the refusals of their reading, each of which tells a reading of document 01 from a near miss. Assumes nothing.
+-- Which text is a sheet of the bench program, and of the yard program: short texts and the refusals of their reading, each of which tells a reading of document 01 from a near miss. Assumes nothing.
 use mathlib.Core.List.{List, [], _∷_, _++_}
 use Prim.Native.Nat.{ℕ}
 use lib.ListN.{take, replicate}
@@ -6,7 +6,7 @@ use lib.Dec.{T}
 use Rattle.lists.specs.Lists.{all}
 use Rattle.lists.specs.Table.{Case, case, agrees}
 use Rattle.sheet_digits.specs.Bytes.{bytes, lines}
-use Rattle.sheet_line_order.specs.Limits.{benchLimits}
+use Rattle.sheet_line_order.specs.Limits.{benchLimits, yardLimits}
 use Rattle.sheet_line_order.specs.Reading.{sheetOf}
 use Rattle.sheet_line_order.specs.Samples.{face, sheet, vertex}
 use Rattle.sheet_line_order.specs.Evaluation.{evaluation}
@@ -18,6 +18,10 @@ refusal t = sheetOf benchLimits t .refusal
 -- the refusal of those lines after box, sag and default
 reading : List (List ℕ) → ℕ
 reading ls = refusal (sheet ls)
+
+-- the same refusal by the yard program
+yard : List (List ℕ) → ℕ
+yard ls = sheetOf yardLimits (sheet ls) .refusal
 
 -- a triangle
 triangle : List ℕ
@@ -46,9 +50,10 @@ claims =
     ∷ case 9 (sheetOf benchLimits (sheet (bytes "(material 1 5)" ∷ bytes "(material 2 0)" ∷ bytes "(material 1 6)" ∷ [])) .sheet .default
     ∷ take 4 (sheetOf benchLimits (sheet (bytes "(material 1 5)" ∷ bytes "(material 2 0)" ∷ bytes "(material 1 6)" ∷ [])) .sheet .materials)) (3 ∷ 0 ∷ 7 ∷ 1 ∷ 0 ∷ [])
     ∷ case 10 (sheetOf benchLimits (sheet (face ∷ vertex ∷ vertex ∷ triangle ∷ bytes "(fail 8 9 3)" ∷ [])) .sheet .table) (0 ∷ 63 ∷ 0 ∷ 2 ∷ 3 ∷ 8 ∷ 9 ∷ 3 ∷ 0 ∷ 0 ∷ [])
+    ∷ case 11 (yard (bytes "(face 0 4095)" ∷ []) ∷ yard (bytes "(face 0 4096)" ∷ []) ∷ yard (times 256 (bytes "(fail 0 64 1)")) ∷ yard (times 257 (bytes "(fail 0 64 1)")) ∷ []) (0 ∷ 52 ∷ 0 ∷ 52 ∷ [])
     ∷ []
 
 -- The definitions yield each.
 pub claims-hold : T (all agrees claims)
-unfolding evaluation sheet refusal reading face vertex triangle times claims
+unfolding evaluation sheet refusal reading yard face vertex triangle times claims
 claims-hold = tt
