@@ -1,4 +1,4 @@
--- The laws of a text fed piece by piece that a program cites: the beginning, one stretch behind another, and the answer to the whole. Assumes nothing.
+-- The laws of a text fed piece by piece that a program cites: the beginning, and one stretch behind another. Assumes nothing.
 use mathlib.Core.List.{List, [], _++_, append-assoc, append-nil}
 use mathlib.Core.Path.{_≡_, refl, sym, _∙_, ap, subst}
 use mathlib.Core.Bool.{true}
@@ -7,17 +7,13 @@ use native.Mathlib.Omega.{arith}
 use lib.ListN.{length, take, drop, replicate, length-replicate, length-take}
 use lib.Seq.{take-all, take-at, take-nil}
 use Rattle.sheet_line_order.specs.declared.Limits.{Limits}
-use Rattle.sheet_line_order.specs.Reading.{State, sheetOf, start}
+use Rattle.sheet_line_order.specs.Reading.{sheetOf, start}
 use Rattle.sheet_reader_state.specs.declared.Reader.{Reader}
 use Rattle.sheet_reader_state.specs.Kept.{Kept, kept-begin}
 use Rattle.sheet_reader_state.specs.Limits.{SheetRoom}
 use Rattle.sheet_reader_state.specs.Slices.{Begun, lent, ofBodies, readerOf}
-use Rattle.sheet_meaning.specs.Answered.{answerIn}
 use Rattle.bench_feed.specs.declared.Fed.{Fed}
-use Rattle.bench_feed.specs.Feeding.{Answered, Ended, Fed-on, Fed-some, SoFar}
-use Rattle.bench_definition.specs.Finish.{meshSlices}
-use Rattle.bench_call_texts.specs.Told.{Told}
-use Rattle.bench_call_texts.specs.Texts.{bytesIn}
+use Rattle.bench_feed.specs.Feeding.{Fed-on, Fed-some, SoFar}
 
 -- ---- the beginning
 module _ (limits : Limits) (line table positions normals indices M W : List ℕ) (r : Reader) (b : Begun limits M r W) where
@@ -77,16 +73,3 @@ module _ (f : Fed) (line table positions normals indices materials : List ℕ) w
                     (w .fed .goes limits (text ++ v .part) (v .fed .goes limits text x));
               };
         }
-
--- ---- the answer
-module _ (limits : Limits) (f g : Fed) (line table positions normals indices materials line' table' positions' normals' indices' materials' : List ℕ) (t : Reader)
-    (s : SoFar limits [] f line table positions normals indices materials)
-    (w : Fed-some f line table positions normals indices materials g line' table' positions' normals' indices' materials') (e : Ended g line' t) where
-  -- the reader's limits are the program's
-  pub fed-within : t .limits ≡ limits
-  fed-within = let v = w .fed .goes limits [] s in e .within ∙ ap (λ (x : State). x .limits) (v .kept .same) ∙ v .within
-
-  pub fed-answered : (E W : List ℕ) (r : ℕ) → Told (bytesIn (meshSlices limits)) E (answerIn (lent t table' positions' normals' indices' materials')) W r → Answered limits E W r
-  fed-answered E W r v =
-      let same = e .goes limits (w .part) table' positions' normals' indices' materials' (w .fed .goes limits [] s) in
-      record { text = w .part; told = subst (λ (x : List ℕ). Told (bytesIn (meshSlices limits)) E x W r) same v }

@@ -83,20 +83,35 @@ module _ (s : Reader) (T P N I M : List ℕ) (v : Limited s (length T) (length P
 pub within-limits : (s : Reader) (t p n i m : ℕ) (b : Bool) → b ≡ inLimits s t p n i m → not b ≡ false → Limited s t p n i m
 within-limits s t p n i m b e h = limited s t p n i m (sym e ∙ not-false b h)
 
-module _ (s : Reader) (T P N I M : List ℕ) (into : StitchRoom) (out : MeshRoom) (work E W : List ℕ) (r : ℕ) where
+pub body-room : (s : Reader) (t p n i m : ℕ) (b : Bool) → b ≡ inLimits s t p n i m → not b ≡ false → BodyRoom (s .limits) p n i
+body-room s t p n i m b e h =
+    let v : Limited s t p n i m = within-limits s t p n i m b e h in
+    record { positions = v .room .positions; normals = v .room .normals; indices = v .room .indices }
+
+module _ (s : Reader) (T P N I M : List ℕ) (p n i : ℕ) (into : StitchRoom) (out : MeshRoom) (work E W : List ℕ) (r : ℕ) where
   -- how many bytes the lines of the mesh take at the most
   abbrev lines : ℕ
   lines = bytesIn out
 
-  pub sheet-refused : (s .refusal ≡ 0 → ⊥) → Written E (refusalLine (s .refusal)) W r → Told lines E (answerWith into out work (lent s T P N I M)) W r
+  -- what is printed
+  abbrev text : List ℕ
+  text = answerWith p n i into out work (lent s T P N I M)
+
+  pub sheet-refused : (s .refusal ≡ 0 → ⊥) → Written E (refusalLine (s .refusal)) W r → Told lines E text W r
   unfolding answerWith
   sheet-refused h v = subst (λ (x : List ℕ). Told lines E x W r) (sym (rw (ne-eqb (s .refusal) 0 h, answerWith))) (told-refusal lines E (s .refusal) W r v)
 
   module _ (b : Bool) (z : s .refusal ≡ 0) (e : b ≡ inLimits s (length T) (length P) (length N) (length I) (length M)) where
-    pub sheet-large : not b ≡ true → Written E (refusalLine 52) W r → Told lines E (answerWith into out work (lent s T P N I M)) W r
+    pub sheet-large : not b ≡ true → Written E (refusalLine 52) W r → Told lines E text W r
     unfolding answerWith
     sheet-large h v = subst (λ (x : List ℕ). Told lines E x W r) (sym (rw (eq-eqb (s .refusal) 0 z, sym e ∙ not-true b h, answerWith))) (told-refusal lines E 52 W r v)
 
-    pub sheet-told : not b ≡ false → Told lines E (bodyText into out work (meant (patternsOf (lent s T P N I M)))) W r → Told lines E (answerWith into out work (lent s T P N I M)) W r
-    unfolding answerWith
-    sheet-told h v = subst (λ (x : List ℕ). Told lines E x W r) (sym (rw (eq-eqb (s .refusal) 0 z, sym e ∙ not-false b h, answerWith))) v
+    module _ (h : not b ≡ false) (c : Bool) (f : c ≡ inLimits s (length T) p n i (length M)) where
+      pub sheet-cramped : not c ≡ true → Written E (refusalLine 52) W r → Told lines E text W r
+      unfolding answerWith
+      sheet-cramped g v =
+          subst (λ (x : List ℕ). Told lines E x W r) (sym (rw (eq-eqb (s .refusal) 0 z, sym e ∙ not-false b h, sym f ∙ not-true c g, answerWith))) (told-refusal lines E 52 W r v)
+
+      pub sheet-told : not c ≡ false → Told lines E (bodyText into out work (meant (patternsOf (lent s T P N I M)))) W r → Told lines E text W r
+      unfolding answerWith
+      sheet-told g v = subst (λ (x : List ℕ). Told lines E x W r) (sym (rw (eq-eqb (s .refusal) 0 z, sym e ∙ not-false b h, sym f ∙ not-false c g, answerWith))) v

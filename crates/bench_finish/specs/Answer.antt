@@ -22,13 +22,14 @@ pub record BodyRoom (limits : Limits) (p n i : ℕ) : Type 0 where
 abbrev pub bodyText : StitchRoom → MeshRoom → List ℕ → Sheet → List ℕ
 bodyText into out work x = finishedText (x .table) (map f32 (x .positions)) (map f32 (x .normals)) (x .indices) (x .sag) (x .box) (x .materials) (x .default) into out work
 
--- what is printed of a reader and its slices: the finished sheet, or only the refusal; a reader that counts more than the limits is refused with 52
-unfoldable pub answerWith : StitchRoom → MeshRoom → List ℕ → Lent → List ℕ
-answerWith into out work l =
+-- what is printed of a reader and its slices, the body's being of lengths p, n and i: the finished sheet, or only the refusal; a reader that counts more than
+-- the limits, and slices too short for them, are refused with 52
+unfoldable pub answerWith : ℕ → ℕ → ℕ → StitchRoom → MeshRoom → List ℕ → Lent → List ℕ
+answerWith p n i into out work l =
     let r = l .reader in
     elim (eqb (r .refusal) 0) [
       | true ↦ elim (inLimits r (length (l .table)) (length (l .positions)) (length (l .normals)) (length (l .indices)) (length (l .materials))) [
-        | true ↦ bodyText into out work (meant (patternsOf l))
+        | true ↦ elim (inLimits r (length (l .table)) p n i (length (l .materials))) [ true ↦ bodyText into out work (meant (patternsOf l)) | false ↦ refusalLine 52 ]
         | false ↦ refusalLine 52
       ]
       | false ↦ refusalLine (r .refusal)

@@ -163,8 +163,8 @@ fn answer_body(
     )
 }
 
-// What the program prints of a sheet that was read, cut off where `out` ends; answers how many bytes were written. A reader that counts more than the limits
-// is refused with 52.
+// What the program prints of a sheet that was read, cut off where `out` ends; answers how many bytes were written. A reader that counts more than the limits,
+// and slices too short for them, are refused with 52.
 pub fn answer_sheet(
     s: Reader,
     table: &[u32],
@@ -188,11 +188,11 @@ pub fn answer_sheet(
     work: &mut [u64],
     out: &mut [u8],
 ) -> usize
-    requires { ⌜ BodyRoom (s .limits) (length (now «body_positions»)) (length (now «body_normals»)) (length (now «body_indices»)) ⌝ }
     ensures { λ r. ⌜ Told (bytesIn
         (meshIn (now («mesh_positions» .entry)) (now («mesh_normals» .entry)) (now («mesh_indices» .entry)) (now (parts .entry)) (now (ranges .entry))
         (now (failures .entry)))) (now (out .entry))
-        (answerWith (stitchIn (now («out_rows» .entry)) (now («out_positions» .entry)) (now («out_normals» .entry)) (now («out_indices» .entry)))
+        (answerWith (length (now («body_positions» .entry))) (length (now («body_normals» .entry))) (length (now («body_indices» .entry)))
+        (stitchIn (now («out_rows» .entry)) (now («out_positions» .entry)) (now («out_normals» .entry)) (now («out_indices» .entry)))
         (meshIn (now («mesh_positions» .entry)) (now («mesh_normals» .entry)) (now («mesh_indices» .entry)) (now (parts .entry)) (now (ranges .entry))
         (now (failures .entry))) (now (work .entry))
         (lent s (now (table .entry)) (now (positions .entry)) (now (normals .entry)) (now (indices .entry)) (now (materials .entry)))) (now (out .exit)) r ⌝ }
@@ -207,6 +207,16 @@ pub fn answer_sheet(
         positions.len(),
         normals.len(),
         indices.len(),
+        materials.len(),
+    ) {
+        return write_refusal(out, 52);
+    }
+    if !in_limits(
+        s,
+        table.len(),
+        body_positions.len(),
+        body_normals.len(),
+        body_indices.len(),
         materials.len(),
     ) {
         return write_refusal(out, 52);

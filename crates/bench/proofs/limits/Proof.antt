@@ -1,5 +1,5 @@
 -- `limits` meets its contract. Assumes nothing.
-use Rattle.bench.proofs.BenchLaws.{limits-are}
+use Rattle.bench.proofs.Lengths.{limits-are}
 use borrow.Author.Needs.{needs}
 use Rattle.bench.proofs.limits.Statement.{statement}
 use Rattle.bench.proofs.limits.Tie as tie

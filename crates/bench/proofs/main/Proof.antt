@@ -5,11 +5,11 @@ use borrow.Author.Needs.{needs}
 use Rattle.bench.proofs.main.Statement.{statement}
 use Rattle.bench.proofs.main.Tie as tie
 
-slice-aggregate-finish-input : tie.Need-slice-aggregate-finish-input
-slice-aggregate-finish-input c = search needs
+slice-aggregate-finish : tie.Need-slice-aggregate-finish
+slice-aggregate-finish c = search needs
 
-finish-input-requires : tie.Need-finish-input-requires
-finish-input-requires c κs = search needs
+finish-requires : tie.Need-finish-requires
+finish-requires c κs = search needs
 
 array-share-prefix-out : tie.Need-array-share-prefix-out
 array-share-prefix-out c = search needs
@@ -27,8 +27,8 @@ pub main-spec : {M : Type 1} → statement M
 main-spec =
     tie.close
     (tie.spec
-    slice-aggregate-finish-input
-    finish-input-requires
+    slice-aggregate-finish
+    finish-requires
     array-share-prefix-out
     slice-aggregate-write-all
     write-all-requires
