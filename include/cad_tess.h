@@ -32,8 +32,10 @@
  *
  * A body has F rows, V vertices and I indices, in four slices:
  *
- *     rows       5 * F numbers: for each row its shell, its face, its outcome, its vertex count and its index count. An outcome of 0
- *                is a patch; 1 to 255 is a failure that came from upstream, and its row has no vertices and no indices.
+ *     rows       CAD_ROW_NUMBERS * F numbers: for each row its shell, its face, its outcome, its vertex count, its index count and
+ *                its bin. An outcome of 0 is a patch; 1 to 255 is a failure that came from upstream, and its row has no vertices and
+ *                no indices.
+ *                A bin, 0 to 65,535, says whose face it is: it goes through all calls as it is and changes nothing else.
  *     positions  3 * V floats: x, y, z of each vertex; the rows' vertices follow one another without gaps
  *     normals    3 * V floats, laid out likewise
  *     indices    I numbers, three a triangle; the rows' indices follow one another, and count from 0 within their row's vertices
@@ -80,16 +82,18 @@ extern "C" {
 #endif
 
 /* Numbers a row, a part, a range and a failure take in their tables. */
-#define CAD_ROW_NUMBERS 5
+#define CAD_ROW_NUMBERS 6
 #define CAD_PART_NUMBERS 3
-#define CAD_RANGE_NUMBERS 3
-#define CAD_FAILURE_NUMBERS 4
+#define CAD_RANGE_NUMBERS 4
+#define CAD_FAILURE_NUMBERS 5
 
-/* The most rows, vertices and indices of a body, and of a stitched one (checks 11, 13 and 33), and the largest outcome (12). */
+/* The most rows, vertices and indices of a body, and of a stitched one (checks 11, 13 and 33), the largest outcome (12), the largest
+   bin (15). */
 #define CAD_MOST_ROWS 4096
 #define CAD_MOST_VERTICES 262144
 #define CAD_MOST_INDICES 786432
 #define CAD_MOST_OUTCOME 255
+#define CAD_MOST_BIN 65535
 
 /* The work area that a call needs for the body handed to it, in 64-bit words (check 31): for cad_assemble the stitched one. Its
    arguments are evaluated once. */
@@ -103,7 +107,7 @@ extern "C" {
 #define CAD_NO_MATERIAL UINT64_C(0)
 #define CAD_MATERIAL(n) ((uint64_t)(uint32_t)(n) + UINT64_C(1))
 
-/* The second number of a failure: no triangles, upstream with its number (1 to 255), or an escape. */
+/* The case of a failure, its third number: no triangles, upstream with its number (1 to 255), or an escape. */
 #define CAD_FAILURE_EMPTY UINT64_C(0)
 #define CAD_FAILURE_ESCAPE UINT64_C(256)
 
@@ -113,10 +117,11 @@ extern "C" {
  */
 enum CadRefusal {
     CAD_DONE = 0,
-    CAD_REFUSED_TABLE = 11,          /* rows_len is no multiple of 5, or there are more than CAD_MOST_ROWS rows */
+    CAD_REFUSED_TABLE = 11,          /* rows_len is no multiple of CAD_ROW_NUMBERS, or there are more than CAD_MOST_ROWS rows */
     CAD_REFUSED_OUTCOME = 12,        /* an outcome is above 255, or a failed row has a count other than 0 */
     CAD_REFUSED_LIMIT = 13,          /* more than CAD_MOST_VERTICES vertices or CAD_MOST_INDICES indices */
     CAD_REFUSED_LENGTHS = 14,        /* positions or normals aren't 3 * V long, or indices not I */
+    CAD_REFUSED_BIN = 15,            /* a row, failed or not, has a bin above CAD_MOST_BIN */
     CAD_REFUSED_TRIANGLES = 21,      /* a row's index count is no multiple of 3 */
     CAD_REFUSED_INDEX = 22,          /* an index isn't below its row's vertex count */
     CAD_REFUSED_NOT_FINITE = 23,     /* a position or normal is infinite or a NaN */
@@ -127,13 +132,14 @@ enum CadRefusal {
     CAD_REFUSED_MESH = 41            /* cad_assemble: a mesh slice is shorter than the accepted patches need, or a table than F rows */
 };
 
-/* A row of the table: the table's five numbers, in their order. A table of F rows may be lent as F of these where a call takes them. */
+/* A row of the table: the table's six numbers, in their order. A table of F rows may be lent as F of these where a call takes them. */
 typedef struct CadRow {
     uint32_t shell;
     uint32_t face;
     uint32_t outcome;  /* 0 for a patch, 1 to 255 for a failure from upstream */
     uint32_t vertices; /* the row's vertex count */
     uint32_t indices;  /* its index count */
+    uint32_t bin;      /* 0 to CAD_MOST_BIN */
 } CadRow;
 
 /* cad_turn's answer. */
@@ -187,9 +193,10 @@ typedef char cad_layout_is_the_library_s[sizeof(float) == 4 && sizeof(double) ==
  * Turns the rows of a body so that neighbours of one shell agree on which side is outside; a group of neighbours whose volume comes
  * out below 0 is inverted. A turned row has corners 1 and 2 of each triangle swapped and its normals negated, where they stand.
  *
- *     rows_len 5 * F, positions_len 3 * V, normals_len 3 * V, indices_len I, work_len at least CAD_WORK_WORDS(V, I, F)
+ *     rows_len CAD_ROW_NUMBERS * F, positions_len 3 * V, normals_len 3 * V, indices_len I,
+ *     work_len at least CAD_WORK_WORDS(V, I, F)
  *
- * Refusals: 11, 12, 13, 14, 21, 22, 23, 31.
+ * Refusals: 11, 12, 13, 14, 15, 21, 22, 23, 31.
  */
 CadTurned cad_turn(const uint32_t *rows, size_t rows_len,
                    const float *positions, size_t positions_len,
@@ -199,18 +206,19 @@ CadTurned cad_turn(const uint32_t *rows, size_t rows_len,
 
 /*
  * Stitches a body, which should be a turned one: where a corner of a triangle with an open edge lies within the sag of another open
- * edge, that edge's triangle is split there. Each row keeps its place; its new vertices follow its own. A sag that isn't above 0
- * (a NaN too) splits nothing, and the body is copied. The sag is in the unit of the positions.
+ * edge, that edge's triangle is split there. Each row keeps its place and its bin; its new vertices follow its own. A sag that isn't
+ * above 0 (a NaN too) splits nothing, and the body is copied. The sag is in the unit of the positions.
  *
- *     rows_len 5 * F, positions_len 3 * V, normals_len 3 * V, indices_len I, work_len at least CAD_WORK_WORDS(V, I, F)
- *     out_rows_len at least 5 * F, out_positions_len and out_normals_len at least 3 * the answer's vertices,
+ *     rows_len CAD_ROW_NUMBERS * F, positions_len 3 * V, normals_len 3 * V, indices_len I,
+ *     work_len at least CAD_WORK_WORDS(V, I, F)
+ *     out_rows_len at least CAD_ROW_NUMBERS * F, out_positions_len and out_normals_len at least 3 * the answer's vertices,
  *     out_indices_len at least the answer's indices
  *
  * How large the stitched body is shows only when it is stitched: each new vertex comes with three new indices. Outputs of
  * 3 * CAD_MOST_VERTICES floats and CAD_MOST_INDICES indices (9.4 MB in all) are never refused with 32; smaller ones may be, and the
  * call can be made again with larger ones, since a refusal leaves the body as it was.
  *
- * Refusals: 11, 12, 13, 14, 21, 22, 23, 31, 33, 32.
+ * Refusals: 11, 12, 13, 14, 15, 21, 22, 23, 31, 33, 32.
  */
 CadStitched cad_stitch(const uint32_t *rows, size_t rows_len,
                        const float *positions, size_t positions_len,
@@ -227,20 +235,22 @@ CadStitched cad_stitch(const uint32_t *rows, size_t rows_len,
  * Assembles a body, which should be a stitched one, into one mesh. A row is accepted if it has a patch with triangles that doesn't
  * escape the box. Accepted vertices are laid in row order, indices in one run a material, materials rising.
  *
- *     rows_len 5 * F, positions_len 3 * V, normals_len 3 * V, indices_len I, work_len at least CAD_WORK_WORDS(V, I, F), where V and I
- *         are those of the body handed over: the answer's vertices and indices of cad_stitch
+ *     rows_len CAD_ROW_NUMBERS * F, positions_len 3 * V, normals_len 3 * V, indices_len I,
+ *     work_len at least CAD_WORK_WORDS(V, I, F), where V and I are those of the body handed over: the answer's vertices
+ *         and indices of cad_stitch
  *     the box: its lowest and its highest corner; any doubles. If it is empty (a minimum above its maximum) nothing escapes
  *     materials: entry k is that of face number k, CAD_NO_MATERIAL or CAD_MATERIAL(n); of any length. A face whose entry is none or
  *         missing has the default, and material 0 if that is CAD_NO_MATERIAL too
  *     mesh_positions_len and mesh_normals_len at least 3 * the accepted vertices (3 * V is enough),
  *     mesh_indices_len at least the accepted indices (I is enough)
- *     parts_len at least 3 * F: for each part its material, its start and its count in the mesh's indices
- *     ranges_len at least 3 * F: for each accepted row its face, its first index in the mesh and one past its last
- *     failures_len at least 4 * F: for each other row its face, its case (CAD_FAILURE_EMPTY, the upstream number, or
- *         CAD_FAILURE_ESCAPE), and for an escape the bits of two doubles, how far the patch reaches from the box's centre and how
- *         far it may, else 0 and 0
+ *     parts_len at least CAD_PART_NUMBERS * F: for each part its material, its start and its count in the mesh's indices
+ *     ranges_len at least CAD_RANGE_NUMBERS * F: for each accepted row its face, its bin, its first index in the mesh and
+ *         one past its last
+ *     failures_len at least CAD_FAILURE_NUMBERS * F: for each other row its face, its bin, its case (CAD_FAILURE_EMPTY, the
+ *         upstream number, or CAD_FAILURE_ESCAPE), and for an escape the bits of two doubles, how far the patch reaches
+ *         from the box's centre and how far it may, else 0 and 0
  *
- * Refusals: 11, 12, 13, 14, 21, 22, 23, 31, 42, 41.
+ * Refusals: 11, 12, 13, 14, 15, 21, 22, 23, 31, 42, 41.
  */
 CadAssembled cad_assemble(const uint32_t *rows, size_t rows_len,
                           const float *positions, size_t positions_len,
@@ -262,7 +272,7 @@ CadAssembled cad_assemble(const uint32_t *rows, size_t rows_len,
  * One face of a body. Nothing is refused: a row past the end has face 0 and no indices, and slices may be of any length.
  */
 
-/* The face number of row k. rows_len counts rows: an array of CadRow, or a table of 5 * rows_len numbers cast to one. */
+/* The face number of row k. rows_len counts rows: an array of CadRow, or a table of CAD_ROW_NUMBERS * rows_len numbers cast to one. */
 uint32_t cad_face_at(const CadRow *rows, size_t rows_len, size_t k);
 
 /*
@@ -284,8 +294,8 @@ uint64_t cad_face_indices(const uint32_t *rows, size_t rows_len,
                           uint32_t *out, size_t out_len);
 
 /*
- * One patch alone: a body of one row with positions_len / 3 vertices and indices_len indices. It needs no work area and nothing is
- * written. Refusals: 13 (before the lengths are looked at), 14, 21, 22, 23.
+ * One patch alone: a body of one row of bin 0 with positions_len / 3 vertices and indices_len indices. It needs no work area and
+ * nothing is written. Refusals: 13 (before the lengths are looked at), 14, 21, 22, 23.
  */
 
 /* The volume between the patch and the origin, one sixth of the sum of its triangles' determinants; as if turned, where flip says so. */

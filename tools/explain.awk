@@ -4,14 +4,15 @@
 BEGIN {
   LARGEST = 4294967295
   MOST_OUTCOME = 255
+  MOST_BIN = 65535
   number = "(0|[1-9][0-9]*)"
   word["box"] = 6; word["sag"] = 1
   form["box"] = "(box MINX MINY MINZ MAXX MAXY MAXZ), each of 16 hex digits in upper case"
   form["sag"] = "(sag S), 16 hex digits in upper case"
   form["default"] = "(default -) or (default MATERIAL)"
   form["material"] = "(material FACE MATERIAL)"
-  form["face"] = "(face SHELL FACE)"
-  form["fail"] = "(fail SHELL FACE NUMBER)"
+  form["face"] = "(face SHELL FACE) or (face SHELL FACE BIN)"
+  form["fail"] = "(fail SHELL FACE NUMBER) or (fail SHELL FACE NUMBER BIN)"
   form["v"] = "(v (p X Y Z) (n X Y Z)), each of 8 hex digits in upper case"
   form["t"] = "(t A B C)"
   wanted[0] = "the box line: " form["box"]
@@ -27,8 +28,8 @@ BEGIN {
   pattern["sag"] = "^\\(sag" hex(16) "\\)$"
   pattern["default"] = "^\\(default (-|" number ")\\)$"
   pattern["material"] = "^\\(material " number " " number "\\)$"
-  pattern["face"] = "^\\(face " number " " number "\\)$"
-  pattern["fail"] = "^\\(fail " number " " number " " number "\\)$"
+  pattern["face"] = "^\\(face " number " " number "( " number ")?\\)$"
+  pattern["fail"] = "^\\(fail " number " " number " " number "( " number ")?\\)$"
   pattern["v"] = vertex
   pattern["t"] = "^\\(t " number " " number " " number "\\)$"
 }
@@ -96,6 +97,10 @@ function in_order(kind) {
   if (kind == "v" && all_points == vertices) limit("there are more than " vertices " vertices")
   if (kind == "t" && all_corners + 3 > indices) limit("there are more than " indices / 3 " triangles")
   if (refusal == 12 && kind == "fail" && field[4] > MOST_OUTCOME && first == "") first = "face " face " (line " NR "): its failure number " field[4] " is above 255"
+  if (refusal == 15 && first == "" && (kind == "face" || kind == "fail")) {
+    bin = field[kind == "face" ? 4 : 5]
+    if (bin + 0 > MOST_BIN) first = "face " face " (line " NR "): its bin " bin " is above 65535"
+  }
   if (kind == "v") {
     all_points++
     points++

@@ -21,13 +21,13 @@ static struct lent lent;
 /* Two rows: a triangle, and two triangles that meet in the middle of its first edge. */
 static void fresh(void)
 {
-    static const uint32_t rows[10] = {0, 0, 0, 3, 3, 0, 1, 0, 6, 6}, indices[9] = {0, 1, 2, 0, 1, 2, 3, 4, 5};
+    static const uint32_t rows[2 * CAD_ROW_NUMBERS] = {0, 0, 0, 3, 3, 7, 0, 1, 0, 6, 6, 8}, indices[9] = {0, 1, 2, 0, 1, 2, 3, 4, 5};
     static const float positions[27] = {0, 0, 0, 10, 0, 0, 0, 10, 0, 0, 0, 0, 0, -10, 0, 5, 0, 0, 5, 0, 0, 0, -10, 0, 10, 0, 0};
     memset(&lent, 0, sizeof lent);
     memcpy(lent.rows, rows, sizeof rows);
     memcpy(lent.positions, positions, sizeof positions);
     memcpy(lent.indices, indices, sizeof indices);
-    lent.rows_len = 10;
+    lent.rows_len = 2 * CAD_ROW_NUMBERS;
     lent.positions_len = 27;
     lent.indices_len = 9;
     lent.out_len = 3 * ROOM;
@@ -134,7 +134,9 @@ static void done(void)
     const CadAssembled none = cad_assemble(NULL, 0, NULL, 0, NULL, 0, NULL, 0, 0, 0, 0, 0, 0, 0, NULL, 0, CAD_NO_MATERIAL, NULL, 0, NULL, 0,
                                            NULL, 0, NULL, 0, NULL, 0, NULL, 0, NULL, 0);
     printf("no rows, all pointers null: %" PRIu32 ", closed %" PRIu32 "\n", none.refusal, none.closed);
+    printf("ranges of bins %" PRIu32 " and %" PRIu32 "\n", lent.ranges[1], lent.ranges[CAD_RANGE_NUMBERS + 1]);
     const CadStitched again = stitch(0.25);
+    printf("rows of bins %" PRIu32 " and %" PRIu32 "\n", lent.out_rows[5], lent.out_rows[CAD_ROW_NUMBERS + 5]);
     printf("the stitched body with a work area for the body before: refused with %" PRIu32 "\n", assemble_stitched(&again, lent.work_len).refusal);
     printf("with one for itself: %" PRIu32 "\n", assemble_stitched(&again, CAD_WORK_WORDS(again.vertices, again.indices, 2)).refusal);
 }
@@ -145,7 +147,7 @@ static uint32_t stitched_limit(void)
     static float positions[3 * CAD_MOST_VERTICES], normals[3 * CAD_MOST_VERTICES];
     static uint64_t work[CAD_WORK_WORDS(CAD_MOST_VERTICES, 9, 2)];
     memcpy(positions, lent.positions, sizeof lent.positions);
-    lent.rows[8] = CAD_MOST_VERTICES - 3;
+    lent.rows[CAD_ROW_NUMBERS + 3] = CAD_MOST_VERTICES - 3;
     return cad_stitch(lent.rows, lent.rows_len, positions, 3 * CAD_MOST_VERTICES, normals, 3 * CAD_MOST_VERTICES,
                       lent.indices, lent.indices_len, 0.25, NULL, 0, NULL, 0, NULL, 0, NULL, 0, work, sizeof work / sizeof work[0]).refusal;
 }
@@ -167,8 +169,11 @@ static uint32_t refused(enum CadRefusal refusal)
     case CAD_REFUSED_LENGTHS:
         lent.positions_len -= 1;
         return turn().refusal;
+    case CAD_REFUSED_BIN:
+        lent.rows[5] = CAD_MOST_BIN + 1;
+        return turn().refusal;
     case CAD_REFUSED_TRIANGLES:
-        lent.rows[9] = 5;
+        lent.rows[CAD_ROW_NUMBERS + 4] = 5;
         lent.indices_len = 8;
         return turn().refusal;
     case CAD_REFUSED_INDEX:
@@ -198,7 +203,7 @@ static uint32_t refused(enum CadRefusal refusal)
 
 int main(void)
 {
-    static const enum CadRefusal all[] = {CAD_REFUSED_TABLE, CAD_REFUSED_OUTCOME, CAD_REFUSED_LIMIT, CAD_REFUSED_LENGTHS,
+    static const enum CadRefusal all[] = {CAD_REFUSED_TABLE, CAD_REFUSED_OUTCOME, CAD_REFUSED_LIMIT, CAD_REFUSED_LENGTHS, CAD_REFUSED_BIN,
                                           CAD_REFUSED_TRIANGLES, CAD_REFUSED_INDEX, CAD_REFUSED_NOT_FINITE, CAD_REFUSED_WORK_AREA,
                                           CAD_REFUSED_STITCHED_LIMIT, CAD_REFUSED_OUTPUT, CAD_REFUSED_MATERIAL, CAD_REFUSED_MESH};
     steps();

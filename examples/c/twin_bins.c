@@ -40,9 +40,10 @@ static void add_corner(struct body *body, unsigned corner, float front, float ba
     add_vertex(body, position, normal);
 }
 
+/* A row of a bin, each of which is a shell of its own. */
 static void add_row(struct body *body, uint32_t shell, uint32_t vertices, const uint32_t *indices, uint32_t index_count)
 {
-    const uint32_t row[CAD_ROW_NUMBERS] = {shell, (uint32_t)body->row_count, 0, vertices, index_count};
+    const uint32_t row[CAD_ROW_NUMBERS] = {shell, (uint32_t)body->row_count, 0, vertices, index_count, shell + 1};
     for (size_t k = 0; k < CAD_ROW_NUMBERS; k++)
         body->rows[CAD_ROW_NUMBERS * body->row_count + k] = row[k];
     for (size_t k = 0; k < index_count; k++)

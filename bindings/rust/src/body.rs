@@ -8,6 +8,11 @@ use std::fmt;
 #[repr(transparent)]
 pub struct FaceId(pub u32);
 
+/// The number of a bin, 0 to 65,535: whose face it is. It goes through all calls as it is, and changes nothing else.
+#[derive(Debug, Clone, Copy, PartialEq, Eq, PartialOrd, Ord, Hash, Default)]
+#[repr(transparent)]
+pub struct BinId(pub u32);
+
 /// An entry of the row table: a patch with its counts, or a failure from upstream.
 #[derive(Debug, Clone, Copy, PartialEq, Eq, Hash, Default)]
 #[repr(C)]
@@ -18,6 +23,7 @@ pub struct Row {
     pub outcome: u32,
     pub vertices: u32,
     pub indices: u32,
+    pub bin: BinId,
 }
 
 /// A vertex's position or normal.
@@ -88,12 +94,12 @@ pub const fn work_words(vertices: usize, indices: usize, rows: usize) -> usize {
 /// A body with lists of its own.
 ///
 /// ```
-/// use body_finisher::{Body, FaceId};
+/// use body_finisher::{BinId, Body, FaceId};
 ///
 /// let up = [[0.0, 0.0, 1.0]; 3];
 /// let mut body = Body::default();
-/// body.push_patch(0, FaceId(7), &[[0.0, 0.0, 0.0], [10.0, 0.0, 0.0], [0.0, 10.0, 0.0]], &up, &[0, 1, 2])?;
-/// body.push_failure(0, FaceId(8), 3)?;
+/// body.push_patch(0, FaceId(7), BinId(0), &[[0.0, 0.0, 0.0], [10.0, 0.0, 0.0], [0.0, 10.0, 0.0]], &up, &[0, 1, 2])?;
+/// body.push_failure(0, FaceId(8), BinId(0), 3)?;
 /// assert_eq!(body.rows.len(), 2);
 /// assert_eq!(body.rows[0].vertices, 3);
 /// # Ok::<(), body_finisher::RowError>(())
@@ -112,10 +118,10 @@ impl Body {
     /// Other normals are an error, and the body stays as it is: they would be taken for those of the next row's vertices.
     ///
     /// ```
-    /// use body_finisher::{Body, FaceId, RowError};
+    /// use body_finisher::{BinId, Body, FaceId, RowError};
     ///
     /// let mut body = Body::default();
-    /// let short = body.push_patch(0, FaceId(7), &[[0.0; 3]; 3], &[[0.0, 0.0, 1.0]; 2], &[0, 1, 2]);
+    /// let short = body.push_patch(0, FaceId(7), BinId(0), &[[0.0; 3]; 3], &[[0.0, 0.0, 1.0]; 2], &[0, 1, 2]);
     /// assert_eq!(short, Err(RowError::Normals { face: FaceId(7), vertices: 3, normals: 2 }));
     /// assert_eq!(body, Body::default());
     /// ```
@@ -123,6 +129,7 @@ impl Body {
         &mut self,
         shell: u32,
         face: FaceId,
+        bin: BinId,
         positions: &[Point],
         normals: &[Point],
         indices: &[u32],
@@ -132,7 +139,7 @@ impl Body {
         }
         // A count that no row can hold is past every limit, and so is the largest that one can.
         let count = |length: usize| u32::try_from(length).unwrap_or(u32::MAX);
-        self.rows.push(Row { shell, face, outcome: 0, vertices: count(positions.len()), indices: count(indices.len()) });
+        self.rows.push(Row { shell, face, outcome: 0, vertices: count(positions.len()), indices: count(indices.len()), bin });
         self.positions.extend_from_slice(positions);
         self.normals.extend_from_slice(normals);
         self.indices.extend_from_slice(indices);
@@ -144,17 +151,17 @@ impl Body {
     /// The number 0 is an error, and the body stays as it is: a row with that outcome is a patch, here an empty one.
     ///
     /// ```
-    /// use body_finisher::{Body, FaceId, RowError};
+    /// use body_finisher::{BinId, Body, FaceId, RowError};
     ///
     /// let mut body = Body::default();
-    /// assert_eq!(body.push_failure(0, FaceId(8), 0), Err(RowError::NoFailure { face: FaceId(8) }));
+    /// assert_eq!(body.push_failure(0, FaceId(8), BinId(0), 0), Err(RowError::NoFailure { face: FaceId(8) }));
     /// assert_eq!(body, Body::default());
     /// ```
-    pub fn push_failure(&mut self, shell: u32, face: FaceId, number: u8) -> Result<(), RowError> {
+    pub fn push_failure(&mut self, shell: u32, face: FaceId, bin: BinId, number: u8) -> Result<(), RowError> {
         if number == 0 {
             return Err(RowError::NoFailure { face });
         }
-        self.rows.push(Row { shell, face, outcome: u32::from(number), ..Row::default() });
+        self.rows.push(Row { shell, face, outcome: u32::from(number), bin, ..Row::default() });
         Ok(())
     }
 

@@ -117,7 +117,7 @@ pub fn stitch(body: BodyRef<'_>, sag: f64, out: BodyOut<'_>, work: &mut [u64]) -
     let (out_indices, out_indices_len) = (out.indices.as_mut_ptr(), out.indices.len());
     let (work, work_len) = (work.as_mut_ptr(), work.len());
     // Sound: each pair is a live slice of the numbers that the call takes; the outputs and work come from &mut, so they overlap nothing.
-    // Rows are five numbers and points three floats of any value.
+    // Rows are six numbers and points three floats of any value.
     let answer = unsafe {
         cad_stitch(rows, rows_len, positions, positions_len, normals, normals_len, indices, indices_len, sag,
             out_rows, out_rows_len, out_positions, out_positions_len, out_normals, out_normals_len, out_indices, out_indices_len, work, work_len)
@@ -141,7 +141,7 @@ pub fn assemble(body: BodyRef<'_>, setting: &Setting<'_>, out: MeshOut<'_>, work
     let (failures, failures_len) = numbers_mut(out.failures);
     let (work, work_len) = (work.as_mut_ptr(), work.len());
     // Sound: each pair is a live slice of the numbers that the call takes; the outputs and work come from &mut, so they overlap nothing.
-    // Points, parts, ranges and failures are three or four numbers of any value.
+    // Points, parts, ranges and failures are three to five numbers of any value.
     let answer = unsafe {
         cad_assemble(rows, rows_len, positions, positions_len, normals, normals_len, indices, indices_len,
             min[0], min[1], min[2], max[0], max[1], max[2], materials, materials_len, setting.default.0,
@@ -162,7 +162,7 @@ pub fn assemble(body: BodyRef<'_>, setting: &Setting<'_>, out: MeshOut<'_>, work
 }
 
 pub fn face_at(rows: &[Row], k: usize) -> FaceId {
-    // Sound: the pair is a live slice of rows, which are five numbers in the order of C's, and the call writes nothing.
+    // Sound: the pair is a live slice of rows, which are six numbers in the order of C's, and the call writes nothing.
     FaceId(unsafe { cad_face_at(rows.as_ptr(), rows.len(), k) })
 }
 

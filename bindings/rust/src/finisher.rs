@@ -13,6 +13,9 @@ pub const MOST_VERTICES: usize = 262_144;
 /// The most indices of a body, and of a stitched one.
 pub const MOST_INDICES: usize = 786_432;
 
+/// The largest bin number.
+pub const MOST_BIN: u32 = 65_535;
+
 /// New vertices that a stitched body gets room for at first, besides one for every eight of its own.
 const SOME_VERTICES: usize = 64;
 
@@ -35,13 +38,13 @@ pub struct Finished {
 /// body costs about as much time as turning it. The calls on one finisher don't depend on one another.
 ///
 /// ```
-/// use body_finisher::{Body, FaceId, Finisher, Setting};
+/// use body_finisher::{BinId, Body, FaceId, Finisher, Setting};
 ///
 /// // Two triangles that disagree on which side is up.
 /// let up = [[0.0, 0.0, 1.0]; 3];
 /// let mut body = Body::default();
-/// body.push_patch(0, FaceId(7), &[[0.0, 0.0, 0.0], [10.0, 0.0, 0.0], [0.0, 10.0, 0.0]], &up, &[0, 1, 2])?;
-/// body.push_patch(0, FaceId(8), &[[10.0, 0.0, 0.0], [0.0, 10.0, 0.0], [10.0, 10.0, 0.0]], &up, &[0, 1, 2])?;
+/// body.push_patch(0, FaceId(7), BinId(0), &[[0.0, 0.0, 0.0], [10.0, 0.0, 0.0], [0.0, 10.0, 0.0]], &up, &[0, 1, 2])?;
+/// body.push_patch(0, FaceId(8), BinId(0), &[[10.0, 0.0, 0.0], [0.0, 10.0, 0.0], [10.0, 10.0, 0.0]], &up, &[0, 1, 2])?;
 ///
 /// let mut finisher = Finisher::new();
 /// let done = finisher.finish(body.view(), 0.25, &Setting::default())?;
@@ -83,10 +86,10 @@ impl Finisher {
     /// Turns a body where it stands. A refused body is as it was.
     ///
     /// ```
-    /// use body_finisher::{Body, FaceId, Finisher, Refusal};
+    /// use body_finisher::{BinId, Body, FaceId, Finisher, Refusal};
     ///
     /// let mut body = Body::default();
-    /// body.push_patch(0, FaceId(0), &[[0.0; 3]; 3], &[[0.0; 3]; 3], &[0, 1, 3])?;
+    /// body.push_patch(0, FaceId(0), BinId(0), &[[0.0; 3]; 3], &[[0.0; 3]; 3], &[0, 1, 3])?;
     /// assert_eq!(Finisher::new().turn(body.view_mut()), Err(Refusal::Index));
     /// # Ok::<(), body_finisher::RowError>(())
     /// ```
@@ -98,14 +101,14 @@ impl Finisher {
     /// Stitches a body, which should be a turned one, into another, whose former content is lost. If the body is refused, the other is as it was.
     ///
     /// ```
-    /// use body_finisher::{Body, FaceId, Finisher};
+    /// use body_finisher::{BinId, Body, FaceId, Finisher};
     ///
     /// // A triangle, and two that meet in the middle of its first edge.
     /// let up = [[0.0, 0.0, 1.0]; 6];
     /// let (o, x, y, m, d) = ([0.0; 3], [10.0, 0.0, 0.0], [0.0, 10.0, 0.0], [5.0, 0.0, 0.0], [0.0, -10.0, 0.0]);
     /// let mut body = Body::default();
-    /// body.push_patch(0, FaceId(0), &[o, x, y], &up[..3], &[0, 1, 2])?;
-    /// body.push_patch(0, FaceId(1), &[o, d, m, m, d, x], &up, &[0, 1, 2, 3, 4, 5])?;
+    /// body.push_patch(0, FaceId(0), BinId(0), &[o, x, y], &up[..3], &[0, 1, 2])?;
+    /// body.push_patch(0, FaceId(1), BinId(0), &[o, d, m, m, d, x], &up, &[0, 1, 2, 3, 4, 5])?;
     ///
     /// let mut stitched = Body::default();
     /// let done = Finisher::new().stitch(body.view(), 0.25, &mut stitched)?;

@@ -4,10 +4,10 @@
 //! body, which may be larger than the one before and is never larger than they are.
 //!
 //! ```
-//! use body_finisher::{lent, work_words, Body, BodyOut, FaceId, Row};
+//! use body_finisher::{lent, work_words, BinId, Body, BodyOut, FaceId, Row};
 //!
 //! let mut body = Body::default();
-//! body.push_patch(0, FaceId(0), &[[0.0; 3], [1.0, 0.0, 0.0], [0.0, 1.0, 0.0]], &[[0.0, 0.0, 1.0]; 3], &[0, 1, 2])?;
+//! body.push_patch(0, FaceId(0), BinId(0), &[[0.0; 3], [1.0, 0.0, 0.0], [0.0, 1.0, 0.0]], &[[0.0, 0.0, 1.0]; 3], &[0, 1, 2])?;
 //!
 //! // Room for a stitched body of 100 rows, 1,000 vertices and 3,000 indices, and the work area for it.
 //! let (mut rows, mut indices) = (vec![Row::default(); 100], vec![0; 3_000]);
@@ -61,13 +61,13 @@ pub fn face_at(rows: &[Row], k: usize) -> FaceId {
 /// are none. The stitched rows and indices are what [`stitch`] left, and may be longer than what it wrote.
 ///
 /// ```
-/// use body_finisher::{face_indices, Body, FaceId, Finisher};
+/// use body_finisher::{face_indices, BinId, Body, FaceId, Finisher};
 ///
 /// // A triangle, and two that meet in the middle of its first edge.
 /// let (o, x, y, d, m) = ([0.0; 3], [10.0, 0.0, 0.0], [0.0, 10.0, 0.0], [0.0, -10.0, 0.0], [5.0, 0.0, 0.0]);
 /// let (mut body, mut stitched) = (Body::default(), Body::default());
-/// body.push_patch(0, FaceId(0), &[o, x, y], &[[0.0; 3]; 3], &[0, 1, 2])?;
-/// body.push_patch(0, FaceId(1), &[o, d, m, m, d, x], &[[0.0; 3]; 6], &[0, 1, 2, 3, 4, 5])?;
+/// body.push_patch(0, FaceId(0), BinId(0), &[o, x, y], &[[0.0; 3]; 3], &[0, 1, 2])?;
+/// body.push_patch(0, FaceId(1), BinId(0), &[o, d, m, m, d, x], &[[0.0; 3]; 6], &[0, 1, 2, 3, 4, 5])?;
 /// Finisher::new().stitch(body.view(), 0.25, &mut stitched)?;
 ///
 /// let (before, after, mut out) = (body.view(), stitched.view(), [9; 8]);

@@ -8,20 +8,20 @@
 //!   [`steps`] has the float steps.
 //!
 //! ```
-//! use body_finisher::{Body, Entry, FaceId, Finisher, MaterialId, Setting};
+//! use body_finisher::{BinId, Body, Entry, FaceId, Finisher, MaterialId, Setting};
 //!
 //! let corners = [[0.0; 3], [1.0, 0.0, 0.0], [0.0, 1.0, 0.0], [0.0, 0.0, 1.0]];
 //! let mut body = Body::default();
 //! // A tetrahedron whose one row is wound inward.
-//! body.push_patch(0, FaceId(1), &corners, &[[0.0, 0.0, 1.0]; 4], &[0, 1, 2, 0, 3, 1, 0, 2, 3, 1, 3, 2])?;
-//! body.push_failure(0, FaceId(2), 40)?;
+//! body.push_patch(0, FaceId(1), BinId(0), &corners, &[[0.0, 0.0, 1.0]; 4], &[0, 1, 2, 0, 3, 1, 0, 2, 3, 1, 3, 2])?;
+//! body.push_failure(0, FaceId(2), BinId(9), 40)?;
 //!
 //! let setting = Setting { default: Entry::from(MaterialId(5)), ..Setting::default() };
 //! let done = Finisher::new().finish(body.view(), 0.001, &setting)?;
 //! assert_eq!(done.counts.turned.turned, 1);
 //! assert!(done.counts.assembled.closed);
 //! assert_eq!(done.mesh.parts[0].material, MaterialId(5));
-//! assert_eq!(done.mesh.failures[0].0, FaceId(2));
+//! assert_eq!((done.mesh.failures[0].face, done.mesh.failures[0].bin), (FaceId(2), BinId(9)));
 //! # Ok::<(), Box<dyn std::error::Error>>(())
 //! ```
 
@@ -39,8 +39,8 @@ mod refusal;
 pub mod steps;
 
 pub use answers::{Assembled, Stitched, Turned};
-pub use body::{work_words, Body, BodyMut, BodyOut, BodyRef, FaceId, Point, Row, RowError};
-pub use finisher::{Counts, Finished, Finisher, MOST_INDICES, MOST_ROWS, MOST_VERTICES};
+pub use body::{work_words, BinId, Body, BodyMut, BodyOut, BodyRef, FaceId, Point, Row, RowError};
+pub use finisher::{Counts, Finished, Finisher, MOST_BIN, MOST_INDICES, MOST_ROWS, MOST_VERTICES};
 pub use lent::{escapes_body, face_at, face_indices, farthest, patch_volume};
-pub use mesh::{Aabb, Entry, FaceRange, Failure, MaterialId, Mesh, MeshOut, Part, RawFailure, Setting};
+pub use mesh::{Aabb, Entry, FaceFailure, FaceRange, Failure, MaterialId, Mesh, MeshOut, Part, RawFailure, Setting};
 pub use refusal::Refusal;

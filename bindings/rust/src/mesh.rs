@@ -1,6 +1,6 @@
 //! A mesh with its tables, and what assembling takes besides a body.
 
-use crate::body::{FaceId, Point};
+use crate::body::{BinId, FaceId, Point};
 
 /// The number of a material.
 #[derive(Debug, Clone, Copy, PartialEq, Eq, PartialOrd, Ord, Hash, Default)]
@@ -79,6 +79,7 @@ pub struct Part {
 #[repr(C)]
 pub struct FaceRange {
     pub face: FaceId,
+    pub bin: BinId,
     pub first: u32,
     pub past: u32,
 }
@@ -94,11 +95,20 @@ pub enum Failure {
     Escape { reach: f64, span: f64 },
 }
 
-/// A failure as it is written: face, case, and the bits of reach and span.
+/// A face that isn't in the mesh, its bin, and why.
+#[derive(Debug, Clone, Copy, PartialEq)]
+pub struct FaceFailure {
+    pub face: FaceId,
+    pub bin: BinId,
+    pub failure: Failure,
+}
+
+/// A failure as it is written: face, bin, case, and the bits of reach and span.
 #[derive(Debug, Clone, Copy, PartialEq, Eq, Hash, Default)]
 #[repr(C)]
 pub struct RawFailure {
     pub face: u64,
+    pub bin: u64,
     pub case: u64,
     pub reach: u64,
     pub span: u64,
@@ -108,14 +118,14 @@ pub struct RawFailure {
 const ESCAPE: u64 = 256;
 
 impl RawFailure {
-    /// The face and why it failed.
-    pub fn decoded(self) -> (FaceId, Failure) {
+    /// The face, its bin and why it failed.
+    pub fn decoded(self) -> FaceFailure {
         let failure = match self.case {
             0 => Failure::Empty,
             ESCAPE => Failure::Escape { reach: f64::from_bits(self.reach), span: f64::from_bits(self.span) },
             number => Failure::Upstream(number as u8),
         };
-        (FaceId(self.face as u32), failure)
+        FaceFailure { face: FaceId(self.face as u32), bin: BinId(self.bin as u32), failure }
     }
 }
 
@@ -141,5 +151,5 @@ pub struct Mesh {
     /// One for each accepted row, in row order.
     pub ranges: Vec<FaceRange>,
     /// One for each other row, in row order.
-    pub failures: Vec<(FaceId, Failure)>,
+    pub failures: Vec<FaceFailure>,
 }

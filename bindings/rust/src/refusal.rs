@@ -23,6 +23,8 @@ pub enum Refusal {
     Limit,
     /// 14: positions, normals or indices aren't as many as the rows say.
     Lengths,
+    /// 15: a row, failed or not, has a bin above 65,535.
+    Bin,
     /// 21: a row's index count isn't a multiple of 3.
     Triangles,
     /// 22: an index isn't below its row's vertex count.
@@ -43,11 +45,12 @@ pub enum Refusal {
 
 impl Refusal {
     /// Every refusal, in the order in which the checks go.
-    pub const ALL: [Refusal; 12] = [
+    pub const ALL: [Refusal; 13] = [
         Refusal::Table,
         Refusal::Outcome,
         Refusal::Limit,
         Refusal::Lengths,
+        Refusal::Bin,
         Refusal::Triangles,
         Refusal::Index,
         Refusal::NotFinite,
@@ -65,6 +68,7 @@ impl Refusal {
             Refusal::Outcome => 12,
             Refusal::Limit => 13,
             Refusal::Lengths => 14,
+            Refusal::Bin => 15,
             Refusal::Triangles => 21,
             Refusal::Index => 22,
             Refusal::NotFinite => 23,
@@ -88,6 +92,7 @@ impl Refusal {
             Refusal::Outcome => "an outcome is above 255, or a failed row has a count other than 0",
             Refusal::Limit => "there are more than 262,144 vertices or 786,432 indices",
             Refusal::Lengths => "positions or normals aren't one a vertex, or indices aren't as many as the rows say",
+            Refusal::Bin => "a bin is above 65,535",
             Refusal::Triangles => "an index count isn't a multiple of 3",
             Refusal::Index => "an index isn't below its row's vertex count",
             Refusal::NotFinite => "a position or normal isn't finite",

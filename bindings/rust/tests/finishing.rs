@@ -1,7 +1,8 @@
 //! Bodies finished through the wrapper: owned, lent, one after another, and from several threads.
 
 use body_finisher::{
-    face_at, face_indices, Aabb, Body, BodyRef, Entry, FaceId, FaceRange, Failure, Finisher, MaterialId, Mesh, Part, Setting,
+    face_at, face_indices, Aabb, BinId, Body, BodyRef, Entry, FaceFailure, FaceId, FaceRange, Failure, Finisher, MaterialId, Mesh, Part,
+    Setting,
 };
 
 const WALLS: [[usize; 4]; 6] = [[0, 2, 3, 1], [4, 5, 7, 6], [0, 1, 5, 4], [2, 6, 7, 3], [0, 4, 6, 2], [1, 3, 7, 5]];
@@ -11,7 +12,8 @@ fn add_bin(body: &mut Body, shell: u32, at: [f32; 3], size: [f32; 3], inward: u3
     for (face, corners) in WALLS.iter().enumerate() {
         let corner = |k: usize| std::array::from_fn(|axis| at[axis] + if k >> axis & 1 == 1 { size[axis] } else { 0.0 });
         let indices = if inward >> face & 1 == 1 { [0, 2, 1, 0, 3, 2] } else { [0, 1, 2, 0, 2, 3] };
-        body.push_patch(shell, FaceId(face as u32), &corners.map(corner), &[[0.0, 0.0, 1.0]; 4], &indices).expect("one normal a vertex");
+        body.push_patch(shell, FaceId(face as u32), BinId(0), &corners.map(corner), &[[0.0, 0.0, 1.0]; 4], &indices)
+            .expect("one normal a vertex");
     }
 }
 
@@ -46,22 +48,23 @@ fn materials_make_parts_and_rows_ranges() {
     let mesh = Finisher::new().finish(bin(0).view(), 0.05, &setting).expect("a bin").mesh;
     let part = |material, start, count| Part { material: MaterialId(material), start, count };
     assert_eq!(mesh.parts, [part(2, 0, 12), part(9, 12, 24)]);
-    assert_eq!(mesh.ranges[0], FaceRange { face: FaceId(0), first: 12, past: 18 });
-    assert_eq!(mesh.ranges[1], FaceRange { face: FaceId(1), first: 0, past: 6 });
+    assert_eq!(mesh.ranges[0], FaceRange { face: FaceId(0), bin: BinId(0), first: 12, past: 18 });
+    assert_eq!(mesh.ranges[1], FaceRange { face: FaceId(1), bin: BinId(0), first: 0, past: 6 });
 }
 
 #[test]
 fn failures_say_why() {
     let mut body = bin(0);
-    body.push_failure(0, FaceId(70), 255).expect("a failure");
-    body.push_patch(0, FaceId(71), &[], &[], &[]).expect("one normal a vertex");
+    body.push_failure(0, FaceId(70), BinId(65_535), 255).expect("a failure");
+    body.push_patch(0, FaceId(71), BinId(5), &[], &[], &[]).expect("one normal a vertex");
     let far = [[1e6, 0.0, 0.0], [1e6, 1.0, 0.0], [1e6, 0.0, 1.0]];
-    body.push_patch(0, FaceId(72), &far, &[[1.0, 0.0, 0.0]; 3], &[0, 1, 2]).expect("one normal a vertex");
+    body.push_patch(0, FaceId(72), BinId(6), &far, &[[1.0, 0.0, 0.0]; 3], &[0, 1, 2]).expect("one normal a vertex");
     let bounds = Aabb { min: [0.0; 3], max: [3000.0, 2500.0, 6000.0] };
     let mesh = Finisher::new().finish(body.view(), 0.05, &Setting { bounds, ..Setting::default() }).expect("a bin").mesh;
-    assert_eq!(mesh.failures[..2], [(FaceId(70), Failure::Upstream(255)), (FaceId(71), Failure::Empty)]);
-    let (face, Failure::Escape { reach, span }) = mesh.failures[2] else { panic!("the third escapes") };
-    assert_eq!((face, span), (FaceId(72), (3000f64 * 3000.0 + 2500.0 * 2500.0 + 6000.0 * 6000.0).sqrt()));
+    let failed = |face, bin, failure| FaceFailure { face: FaceId(face), bin: BinId(bin), failure };
+    assert_eq!(mesh.failures[..2], [failed(70, 65_535, Failure::Upstream(255)), failed(71, 5, Failure::Empty)]);
+    let FaceFailure { face, bin, failure: Failure::Escape { reach, span } } = mesh.failures[2] else { panic!("the third escapes") };
+    assert_eq!((face, bin, span), (FaceId(72), BinId(6), (3000f64 * 3000.0 + 2500.0 * 2500.0 + 6000.0 * 6000.0).sqrt()));
     assert!(reach > 998_000.0 && reach < 1e6);
     assert_eq!(mesh.ranges.len(), 6);
 }
@@ -70,11 +73,11 @@ fn failures_say_why() {
 fn split_by(points: usize) -> Body {
     let long = (points + 1) as f32;
     let mut body = Body::default();
-    body.push_patch(0, FaceId(0), &[[0.0; 3], [long, 0.0, 0.0], [0.0, long, 0.0]], &[[0.0, 0.0, 1.0]; 3], &[0, 1, 2])
+    body.push_patch(0, FaceId(0), BinId(0), &[[0.0; 3], [long, 0.0, 0.0], [0.0, long, 0.0]], &[[0.0, 0.0, 1.0]; 3], &[0, 1, 2])
         .expect("one normal a vertex");
     for k in 0..points {
         let x = k as f32 + 0.5;
-        body.push_patch(0, FaceId(1), &[[x, 0.0, 0.0], [x, -5.0, 1.0], [x, -5.0, -1.0]], &[[0.0, 0.0, 1.0]; 3], &[0, 1, 2])
+        body.push_patch(0, FaceId(1), BinId(0), &[[x, 0.0, 0.0], [x, -5.0, 1.0], [x, -5.0, -1.0]], &[[0.0, 0.0, 1.0]; 3], &[0, 1, 2])
             .expect("one normal a vertex");
     }
     body
@@ -140,6 +143,27 @@ fn slices_that_are_only_read_may_overlap() {
 }
 
 #[test]
+fn bins_go_through_all_calls_and_change_nothing_else() {
+    let (mut finisher, mut body, mut out) = (Finisher::new(), split_by(20), Body::default());
+    body.push_failure(0, FaceId(70), BinId(0), 3).expect("a failure");
+    let plain = finisher.finish(body.view(), 0.25, &Setting::default()).expect("a body");
+    for (k, row) in body.rows.iter_mut().enumerate() {
+        row.bin = BinId(65_535 - 7 * k as u32);
+    }
+    assert!(finisher.stitch(body.view(), 0.25, &mut out).expect("a body").splits > 0);
+    assert!(out.rows.iter().zip(&body.rows).all(|(after, before)| after.bin == before.bin), "the stitched rows have the bins");
+    let done = finisher.finish(body.view(), 0.25, &Setting::default()).expect("a body");
+    assert_eq!(done.counts, plain.counts);
+    let (failed, accepted) = body.rows.split_last().expect("rows");
+    assert!(done.mesh.ranges.iter().zip(accepted).all(|(range, row)| range.bin == row.bin));
+    assert_eq!(done.mesh.failures[0].bin, failed.bin);
+    let mut mesh = done.mesh;
+    mesh.ranges.iter_mut().for_each(|range| range.bin = BinId(0));
+    mesh.failures.iter_mut().for_each(|failure| failure.bin = BinId(0));
+    assert_eq!(mesh, plain.mesh);
+}
+
+#[test]
 fn no_rows_are_a_closed_body() {
     let done = Finisher::new().finish(Body::default().view(), 1.0, &Setting::default()).expect("no rows");
     assert!(done.counts.assembled.closed);
@@ -149,7 +173,7 @@ fn no_rows_are_a_closed_body() {
 #[test]
 fn rows_that_all_failed_are_a_closed_body_without_triangles() {
     let mut body = Body::default();
-    body.push_failure(0, FaceId(3), 9).expect("a failure");
+    body.push_failure(0, FaceId(3), BinId(0), 9).expect("a failure");
     let done = Finisher::new().finish(body.view(), 1.0, &Setting::default()).expect("a failed row");
     assert!(done.counts.assembled.closed);
     assert_eq!((done.counts.assembled.indices, done.counts.assembled.failures), (0, 1));

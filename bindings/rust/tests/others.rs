@@ -1,6 +1,6 @@
 //! The boundary cases that document 01 names beside K1 to K10 ("Others"), through the library.
 
-use body_finisher::{lent, Body, FaceId, Finisher, Refusal, Setting};
+use body_finisher::{lent, BinId, Body, FaceId, Finisher, Refusal, Setting};
 
 const UP: [[f32; 3]; 6] = [[0.0, 0.0, 1.0]; 6];
 
@@ -9,7 +9,7 @@ fn triangles(rows: u32) -> Body {
     let mut body = Body::default();
     for face in 0..rows {
         let x = 20.0 * face as f32;
-        body.push_patch(0, FaceId(face), &[[x, 0.0, 0.0], [x + 10.0, 0.0, 0.0], [x, 10.0, 0.0]], &UP[..3], &[0, 1, 2])
+        body.push_patch(0, FaceId(face), BinId(0), &[[x, 0.0, 0.0], [x + 10.0, 0.0, 0.0], [x, 10.0, 0.0]], &UP[..3], &[0, 1, 2])
             .expect("one normal a vertex");
     }
     body
@@ -41,8 +41,8 @@ fn a_point_as_far_from_an_edge_as_the_sag_splits_it() {
     let (o, x, y, d) = ([0.0; 3], [10.0, 0.0, 0.0], [0.0, 10.0, 0.0], [0.0, -10.0, 0.0]);
     let m = [5.0, -0.25, 0.0];
     let mut body = Body::default();
-    body.push_patch(0, FaceId(0), &[o, x, y], &UP[..3], &[0, 1, 2]).expect("one normal a vertex");
-    body.push_patch(0, FaceId(1), &[o, d, m, m, d, x], &UP, &[0, 1, 2, 3, 4, 5]).expect("one normal a vertex");
+    body.push_patch(0, FaceId(0), BinId(0), &[o, x, y], &UP[..3], &[0, 1, 2]).expect("one normal a vertex");
+    body.push_patch(0, FaceId(1), BinId(0), &[o, d, m, m, d, x], &UP, &[0, 1, 2, 3, 4, 5]).expect("one normal a vertex");
     let finisher = &mut Finisher::new();
     let mut out = Body::default();
     let mut splits = |sag: f64| finisher.stitch(body.view(), sag, &mut out).expect("a small body").splits;

@@ -1,8 +1,8 @@
 //! Every refusal, reached through the calls, and what it leaves unchanged.
 
 use body_finisher::{
-    lent, work_words, Aabb, Body, BodyOut, Entry, FaceId, FaceRange, Finisher, Mesh, MeshOut, Part, RawFailure, Refusal, Row, RowError,
-    Setting, MOST_INDICES, MOST_ROWS, MOST_VERTICES,
+    lent, work_words, Aabb, BinId, Body, BodyOut, Entry, FaceId, FaceRange, Finisher, Mesh, MeshOut, Part, RawFailure, Refusal, Row,
+    RowError, Setting, MOST_BIN, MOST_INDICES, MOST_ROWS, MOST_VERTICES,
 };
 
 const UP: [[f32; 3]; 6] = [[0.0, 0.0, 1.0]; 6];
@@ -12,8 +12,8 @@ const NOTHING: Setting<'static> = Setting { bounds: Aabb::EMPTY, materials: &[],
 fn split_body() -> Body {
     let (o, x, y, m, d) = ([0.0; 3], [10.0, 0.0, 0.0], [0.0, 10.0, 0.0], [5.0, 0.0, 0.0], [0.0, -10.0, 0.0]);
     let mut body = Body::default();
-    body.push_patch(0, FaceId(0), &[o, x, y], &UP[..3], &[0, 1, 2]).expect("one normal a vertex");
-    body.push_patch(0, FaceId(1), &[o, d, m, m, d, x], &UP, &[0, 1, 2, 3, 4, 5]).expect("one normal a vertex");
+    body.push_patch(0, FaceId(0), BinId(0), &[o, x, y], &UP[..3], &[0, 1, 2]).expect("one normal a vertex");
+    body.push_patch(0, FaceId(1), BinId(0), &[o, d, m, m, d, x], &UP, &[0, 1, 2, 3, 4, 5]).expect("one normal a vertex");
     body
 }
 
@@ -35,6 +35,7 @@ fn refused_bodies() -> Vec<(Refusal, Body)> {
         (Refusal::Lengths, spoiled(|b| b.positions.truncate(8))),
         (Refusal::Lengths, spoiled(|b| b.normals.push([0.0; 3]))),
         (Refusal::Lengths, spoiled(|b| b.indices.push(0))),
+        (Refusal::Bin, spoiled(|b| b.rows[1].bin = BinId(MOST_BIN + 1))),
         (
             Refusal::Triangles,
             spoiled(|b| {
@@ -123,14 +124,14 @@ fn rows_that_do_not_fit_are_errors_and_leave_the_body_as_it_was() {
     let mut body = split_body();
     let positions = [[0.0; 3]; 3];
     for normals in [2, 4] {
-        let misfit = body.push_patch(0, FaceId(5), &positions, &UP[..normals], &[0, 1, 2]);
+        let misfit = body.push_patch(0, FaceId(5), BinId(0), &positions, &UP[..normals], &[0, 1, 2]);
         assert_eq!(misfit, Err(RowError::Normals { face: FaceId(5), vertices: 3, normals }));
     }
-    let zero = body.push_failure(0, FaceId(6), 0);
+    let zero = body.push_failure(0, FaceId(6), BinId(0), 0);
     assert_eq!(zero, Err(RowError::NoFailure { face: FaceId(6) }));
     assert_eq!(zero.unwrap_err().to_string(), "face 6: a failure's number is 1 to 255, not 0");
     assert!(same(&body, &split_body()), "the body is as it was");
-    assert_eq!((body.push_failure(0, FaceId(6), 1), body.push_failure(0, FaceId(6), 255)), (Ok(()), Ok(())));
+    assert_eq!((body.push_failure(0, FaceId(6), BinId(0), 1), body.push_failure(0, FaceId(6), BinId(0), 255)), (Ok(()), Ok(())));
 }
 
 #[test]

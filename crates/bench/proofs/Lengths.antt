@@ -10,7 +10,7 @@ pub limits-are : record { rows = 16; vertices = 96; indices = 96; face = 63; «r
 unfolding benchLimits
 limits-are = refl
 
-pub lengths : Lengths benchLimits 108 80 288 96 64 576 192 48 48 64 4096
+pub lengths : Lengths benchLimits 108 96 288 96 64 576 192 48 64 80 4096
 unfolding benchLimits ofBodies tooLarge
 lengths =
     record {

@@ -32,7 +32,7 @@ fn finish(out: &mut [u8]) -> usize
     finish_input(
         limits(),
         &mut [0u8; 108],
-        &mut [0u32; 80],
+        &mut [0u32; 96],
         &mut [0u32; 288],
         &mut [0u32; 288],
         &mut [0u32; 96],
@@ -40,7 +40,7 @@ fn finish(out: &mut [u8]) -> usize
         &mut [0.0f32; 288],
         &mut [0.0f32; 288],
         &mut [0u32; 96],
-        &mut [0u32; 80],
+        &mut [0u32; 96],
         &mut [0.0f32; 576],
         &mut [0.0f32; 576],
         &mut [0u32; 192],
@@ -48,16 +48,16 @@ fn finish(out: &mut [u8]) -> usize
         &mut [0.0f32; 576],
         &mut [0u32; 192],
         &mut [0u32; 48],
-        &mut [0u32; 48],
-        &mut [0u64; 64],
+        &mut [0u32; 64],
+        &mut [0u64; 80],
         &mut [0u64; 4096],
         out,
     )
 }
 
 fn main() {
-    // an answer has at most 21,504 bytes
-    let mut out = [0u8; 21504];
+    // an answer has at most 21,928 bytes
+    let mut out = [0u8; 21928];
     let n = finish(&mut out);
     io::write_all(STDOUT_FILENO, &out[..n]);
 }

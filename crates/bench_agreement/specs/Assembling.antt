@@ -9,7 +9,7 @@ use borrow.Author.Tests.{eqb-true, le-ltb}
 use lib.Dec.{eqb}
 use lib.ListN.{length, replicate, length-replicate}
 use lib.Ieee.{Float}
-use Rattle.body_rows.specs.Body.{rowWidth, Patch, Row, firstFailing, patchesOf, rowsOf}
+use Rattle.body_rows.specs.Body.{Patch, Row, firstFailing, patchesOf, rowWidth, rowsOf}
 use Rattle.body_rows.specs.Patches.{length-patches}
 use Rattle.body_table_checks.specs.Tabled.{Tabled}
 use Rattle.patch_geometry.specs.declared.Aabb.{Aabb}
@@ -103,11 +103,13 @@ not-short limits m v rows work f =
     let positions = length-replicate {A = Float} (3 * limits .«result_vertices») zero64 in
     let indices = length-replicate {A = ℕ} (limits .«result_indices») 0 in
     let parts = length-replicate {A = ℕ} (partWidth * limits .rows) 0 in
+    let ranges = length-replicate {A = ℕ} (rangeWidth * limits .rows) 0 in
     let failures = length-replicate {A = ℕ} (failureWidth * limits .rows) 0 in
     rw (
       le-ltb (length (replicate (3 * limits .«result_vertices») zero64)) (3 * acceptedVertices (v .accepted)) (omega (arith, f .vertices)),
       le-ltb (length {A = ℕ} (replicate (limits .«result_indices») 0)) (acceptedIndices (v .accepted)) (omega (arith, f .indices)),
       le-ltb (length {A = ℕ} (replicate (partWidth * limits .rows) 0)) (partWidth * m) (omega (arith, f .rows)),
+      le-ltb (length {A = ℕ} (replicate (rangeWidth * limits .rows) 0)) (rangeWidth * m) (omega (arith, f .rows)),
       le-ltb (length {A = ℕ} (replicate (failureWidth * limits .rows) 0)) (failureWidth * m) (omega (arith, f .rows)),
     )
 

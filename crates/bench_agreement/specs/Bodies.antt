@@ -9,7 +9,7 @@ use lib.Dec.{ltb}
 use lib.ListN.{length, drop, replicate, length-append, length-drop, length-replicate}
 use lib.Ieee.{Float}
 use Rattle.lists.specs.Lists.{all}
-use Rattle.body_rows.specs.Body.{rowWidth, Check, Row, allIndices, allVertices, check, cleared, firstFailing, patchesOf, rowsOf, workNeeded}
+use Rattle.body_rows.specs.Body.{Check, Row, allIndices, allVertices, check, cleared, firstFailing, patchesOf, rowWidth, rowsOf, workNeeded}
 use Rattle.body_rows.specs.Checks.{clear-first, first-next, first-none, first-on, first-stop, numbered}
 use Rattle.body_refusals.specs.TableChecks.{tableChecks}
 use Rattle.body_refusals.specs.PatchChecks.{patchChecks}
@@ -34,7 +34,8 @@ module _ (table : List ℕ) (ps ns : List Float) (is : List ℕ) where
       let c12 = clear-first 11 _ _ (c11 .rest) in
       let c13 = clear-first 12 _ _ (c12 .rest) in
       let c14 = clear-first 13 _ _ (c13 .rest) in
-      tabled-by table ps ns is (c11 .here) (c12 .here) (c13 .here) (c14 .here)
+      let c15 = clear-first 14 _ _ (c14 .rest) in
+      tabled-by table ps ns is (c11 .here) (c12 .here) (c13 .here) (c14 .here) (c15 .here)
 
   before-numbered : all numbered (beforeWork table ps ns is) ≡ true
   unfolding beforeWork tableChecks patchChecks all

@@ -10,7 +10,7 @@ use Rattle.float_steps.specs.Floats.{f32}
 use Rattle.point_rules.specs.Rule.{names}
 use Rattle.point_rules.specs.Points.{key}
 use Rattle.join_definition.specs.Join.{joined}
-use Rattle.body_rows.specs.Body.{rowWidth, cleared, firstFailing, patchesOf, rowsOf}
+use Rattle.body_rows.specs.Body.{cleared, firstFailing, patchesOf, rowWidth, rowsOf}
 use Rattle.turn_definition.specs.Orient.{AfterTurn, refuseTurn, turnBody, turnOf, walksOf}
 use Rattle.sheet_line_order.specs.declared.Limits.{Limits}
 use Rattle.sheet_answer_text.specs.Answer.{refusalLine}

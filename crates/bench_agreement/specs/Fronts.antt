@@ -7,10 +7,12 @@ use lib.ListN.{take, replicate}
 use lib.Ieee.{Float}
 use Rattle.lists.specs.Lists.{written}
 use Rattle.float_steps.specs.Floats.{bits32}
+use Rattle.mesh_acceptance.specs.Acceptance.{failureWidth}
+use Rattle.mesh_layout.specs.Mesh.{partWidth, rangeWidth}
 use Rattle.sheet_lines.specs.Forms.{line, triangleForm}
-use Rattle.sheet_answer_rows.specs.Rows.{failureLines, threes, vertexLines}
+use Rattle.sheet_answer_rows.specs.Rows.{failureLines, rangeLines, threes, vertexLines}
 use Rattle.sheet_answer_text.specs.declared.Sizes.{Sizes}
-use Rattle.sheet_answer_text.specs.Answer.{meshForm, meshText, partForm, rangeForm}
+use Rattle.sheet_answer_text.specs.Answer.{meshForm, meshText, partForm}
 
 module _ {A : Type 0} where
   -- the first n of more copies
@@ -31,8 +33,8 @@ module _ {A : Type 0} where
 
 -- The lines of a mesh are read from the fronts of its slices.
 pub text-fronts : (z : Sizes) (P P′ N N′ : List Float) (I I′ parts parts′ ranges ranges′ failures failures′ : List ℕ) → take (3 * z .vertices) P ≡ take (3 * z .vertices) P′
-    → take (3 * z .vertices) N ≡ take (3 * z .vertices) N′ → take (z .indices) I ≡ take (z .indices) I′ → take (3 * z .parts) parts ≡ take (3 * z .parts) parts′
-    → take (3 * z .ranges) ranges ≡ take (3 * z .ranges) ranges′ → take (4 * z .failures) failures ≡ take (4 * z .failures) failures′
+    → take (3 * z .vertices) N ≡ take (3 * z .vertices) N′ → take (z .indices) I ≡ take (z .indices) I′ → take (partWidth * z .parts) parts ≡ take (partWidth * z .parts) parts′
+    → take (rangeWidth * z .ranges) ranges ≡ take (rangeWidth * z .ranges) ranges′ → take (failureWidth * z .failures) failures ≡ take (failureWidth * z .failures) failures′
     → meshText z P N I parts ranges failures ≡ meshText z P′ N′ I′ parts′ ranges′ failures′
 unfolding meshText
 text-fronts z P P′ N N′ I I′ parts parts′ ranges ranges′ failures failures′ ep en ei et er ef =
@@ -40,5 +42,5 @@ text-fronts z P P′ N N′ I I′ parts parts′ ranges ranges′ failures fail
     ++ vertexLines (map bits32 (ep j)) (map bits32 (en j))
     ++ threes partForm (et j)
     ++ threes triangleForm (ei j)
-    ++ threes rangeForm (er j)
+    ++ rangeLines (er j)
     ++ failureLines (ef j)

@@ -10,10 +10,10 @@ use lib.Dec.{leb, ltb, eqb}
 use lib.ListN.{length, replicate, replicate-append-replicate}
 use lib.Seq.{set-append-left}
 use Rattle.lists.specs.Both.{or-left, or-right}
-use Rattle.body_rows.specs.Body.{rowWidth, firstFailing}
+use Rattle.body_rows.specs.Body.{firstFailing, rowWidth}
 use Rattle.sheet_lines.specs.Forms.{Line, lineOf}
 use Rattle.sheet_lines.specs.declared.Kind.{Kind}
-use Rattle.sheet_lines.specs.declared.Kind.the-variants.{Box, Sag, NoDefault, Default, Material, Face, Vertex, Triangle, Fail}
+use Rattle.sheet_lines.specs.declared.Kind.the-variants.{Box, Sag, NoDefault, Default, Material, Face, FaceBin, Vertex, Triangle, Fail, FailBin}
 use Rattle.sheet_line_order.specs.declared.Limits.{Limits}
 use Rattle.sheet_line_order.specs.Laws.{line-limits}
 use Rattle.sheet_line_order.specs.Reading.{
@@ -143,9 +143,11 @@ module _ (small large : Limits) (w : Within small large) (n : ℕ) where
   limit-same Default ns x e = refl
   limit-same Material ns x e = le-ltb (large .face) (at ns 0) (omega (arith, w .face, ltb-false (small .face) (at ns 0) e))
   limit-same Face ns x e = row-limit (at ns 1) (length (x .table)) e
+  limit-same FaceBin ns x e = row-limit (at ns 1) (length (x .table)) e
   limit-same Vertex ns x e = lt-leb (3 * large .vertices) (length (x .positions)) (omega (arith, w .vertices, leb-false (3 * small .vertices) (length (x .positions)) e))
   limit-same Triangle ns x e = le-ltb (large .indices) (length (x .indices) + 3) (omega (arith, w .indices, ltb-false (small .indices) (length (x .indices) + 3) e))
   limit-same Fail ns x e = row-limit (at ns 1) (length (x .table)) e
+  limit-same FailBin ns x e = row-limit (at ns 1) (length (x .table)) e
 
   line-padded : (k : Kind) (ns : List ℕ) (x : Patterns) → length (x .materials) ≡ small .face + 1 → passesLimit small k ns x ≡ false → withLine k ns (padded n x) ≡ padded n (withLine k ns x)
   unfolding withLine padded passesLimit
@@ -157,9 +159,11 @@ module _ (small large : Limits) (w : Within small large) (n : ℕ) where
       ap (λ (ms : List ℕ). patterns (x .box) (x .sag) (x .default) ms (x .table) (x .positions) (x .normals) (x .indices))
       (set-append-left (x .materials) (replicate n 0) (at ns 0) (at ns 1 + 1) (omega (arith, ltb-false (small .face) (at ns 0) e)))
   line-padded Face ns x m e = refl
+  line-padded FaceBin ns x m e = refl
   line-padded Vertex ns x m e = refl
   line-padded Triangle ns x m e = refl
   line-padded Fail ns x m e = refl
+  line-padded FailBin ns x m e = refl
 
   module _ (s : State) (el : s .limits ≡ small) (em : length (s .sheet .materials) ≡ small .face + 1) where
     within-small : (l : Line) → passesLimit (s .limits) (l .kind) (l .numbers) (s .sheet) ≡ false → passesLimit small (l .kind) (l .numbers) (s .sheet) ≡ false

@@ -52,7 +52,10 @@ within l = inLimits (l .reader) (length (l .table)) (length (l .positions)) (len
 
 -- the sheet without another material is the sheet
 no-faces : (x : Sheet) → withFaces 0 x ≡ x
-no-faces x = ap (λ (ms : List ℕ). record { box = x .box; sag = x .sag; default = x .default; materials = ms; table = x .table; positions = x .positions; normals = x .normals; indices = x .indices }) (append-nil (x .materials))
+no-faces x =
+    ap
+    (λ (ms : List ℕ). record { box = x .box; sag = x .sag; default = x .default; materials = ms; table = x .table; positions = x .positions; normals = x .normals; indices = x .indices })
+    (append-nil (x .materials))
 
 -- the sheet that was read, with the materials of the faces to n
 abbrev sheetTo : Lent → ℕ → Sheet

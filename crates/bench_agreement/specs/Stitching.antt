@@ -13,7 +13,7 @@ use Rattle.lists.specs.Lists.{written}
 use Rattle.float_steps.specs.Floats.{f32}
 use Rattle.point_rules.specs.Rule.{names}
 use Rattle.point_rules.specs.Points.{key}
-use Rattle.body_rows.specs.Body.{rowWidth, Row, allIndices, allVertices, cleared, firstFailing, patchesOf, rowsOf, tableOf}
+use Rattle.body_rows.specs.Body.{Row, allIndices, allVertices, cleared, firstFailing, patchesOf, rowWidth, rowsOf, tableOf}
 use Rattle.body_refusals.specs.TableChecks.{tooLarge}
 use Rattle.patch_geometry.specs.Geometry.{zero64}
 use Rattle.turn_definition.specs.Orient.{AfterTurn}

@@ -168,8 +168,8 @@ module _ (limits : Limits) (line table coordinates indices materials results cor
       → t ≡ readerIn m (l .reader) → (E W : List ℕ) (r : ℕ)
       → Told (bytesIn (meshIn (floats results) (floats results) (zeros corners) (zeros parts) (zeros ranges) (zeros failures))) E
       (answerWith (length (floats coordinates)) (length (floats coordinates)) (length (zeros indices)) (stitchIn (zeros table) (floats results) (floats results) (zeros corners))
-      (meshIn (floats results) (floats results) (zeros corners) (zeros parts) (zeros ranges) (zeros failures)) (zeros words) (lent t (l .table) (l .positions) (l .normals) (l .indices) (l .materials)))
-      W r
+      (meshIn (floats results) (floats results) (zeros corners) (zeros parts) (zeros ranges) (zeros failures)) (zeros words)
+      (lent t (l .table) (l .positions) (l .normals) (l .indices) (l .materials))) W r
       → FinishedShort large l E W r
   finished-short large w spacious faces bodies m q l t e E W r v =
       let same : lent t (l .table) (l .positions) (l .normals) (l .indices) (l .materials) ≡ lentIn limits l =

@@ -15,7 +15,7 @@ pub bin-limits-are : record { rows = 64; vertices = 768; indices = 2304; face = 
 unfolding binLimits
 bin-limits-are = refl
 
-pub lengths : Lengths yardLimits 108 1280 12288 12288 4096 24576 24576 768 768 1024 430080
+pub lengths : Lengths yardLimits 108 1536 12288 12288 4096 24576 24576 768 1024 1280 430080
 unfolding yardLimits ofBodies tooLarge
 lengths =
     record {
@@ -33,7 +33,7 @@ lengths =
       words-are = refl;
     }
 
-pub bin-lengths : Lengths binLimits 108 320 2304 2304 4096 3072 3072 192 192 256 54272
+pub bin-lengths : Lengths binLimits 108 384 2304 2304 4096 3072 3072 192 256 320 54272
 unfolding binLimits ofBodies tooLarge
 bin-lengths =
     record {

@@ -71,7 +71,7 @@ fn finish_bin(
         &mut [0.0f32; 2304],
         &mut [0.0f32; 2304],
         &mut [0u32; 2304],
-        &mut [0u32; 320],
+        &mut [0u32; 384],
         &mut [0.0f32; 3072],
         &mut [0.0f32; 3072],
         &mut [0u32; 3072],
@@ -79,8 +79,8 @@ fn finish_bin(
         &mut [0.0f32; 3072],
         &mut [0u32; 3072],
         &mut [0u32; 192],
-        &mut [0u32; 192],
-        &mut [0u64; 256],
+        &mut [0u32; 256],
+        &mut [0u64; 320],
         &mut [0u64; 54272],
         out,
     )
@@ -110,7 +110,7 @@ fn finish_large(
         &mut [0.0f32; 12288],
         &mut [0.0f32; 12288],
         &mut [0u32; 12288],
-        &mut [0u32; 1280],
+        &mut [0u32; 1536],
         &mut [0.0f32; 24576],
         &mut [0.0f32; 24576],
         &mut [0u32; 24576],
@@ -118,8 +118,8 @@ fn finish_large(
         &mut [0.0f32; 24576],
         &mut [0u32; 24576],
         &mut [0u32; 768],
-        &mut [0u32; 768],
-        &mut [0u64; 1024],
+        &mut [0u32; 1024],
+        &mut [0u64; 1280],
         &mut [0u64; 430080],
         out,
     )
@@ -134,8 +134,8 @@ fn print_bin(
     indices: &[u32],
     materials: &[u64],
 ) -> bool {
-    // an answer in the small arrays has at most 155,896 bytes
-    let mut out = [0u8; 155896];
+    // an answer in the small arrays has at most 158,392 bytes
+    let mut out = [0u8; 158392];
     let n = finish_bin(s, table, positions, normals, indices, materials, &mut out);
     if n <= REFUSAL_BYTES {
         return false;
@@ -145,8 +145,8 @@ fn print_bin(
 }
 
 // Room for the longest answer. The array comes from a function of its own because its length is then known to the proof of its caller, which needn't count it.
-fn room() -> [u8; 1187320] {
-    [0u8; 1187320]
+fn room() -> [u8; 1197304] {
+    [0u8; 1197304]
 }
 
 // Prints a sheet that was read.
@@ -164,7 +164,7 @@ fn print_large(
 }
 
 fn main() {
-    let mut table = [0u32; 1280];
+    let mut table = [0u32; 1536];
     let mut positions = [0u32; 12288];
     let mut normals = [0u32; 12288];
     let mut indices = [0u32; 12288];

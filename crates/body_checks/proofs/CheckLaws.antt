@@ -13,7 +13,7 @@ use Rattle.lists.specs.Any.{any-one}
 use Rattle.body_table_checks.specs.Tabled.{Tabled, tabled}
 use Rattle.body_checks.specs.Accepted.{lone-vertices, lone-indices, lone-inside}
 use Rattle.body_rows.specs.Body.{Row, Patch, check, rowsOf, patchesOf, allVertices, allIndices, firstFailing, workNeeded}
-use Rattle.body_refusals.specs.TableChecks.{badRow, tooLarge, tableChecks}
+use Rattle.body_refusals.specs.TableChecks.{badRow, badBin, tooLarge, tableChecks}
 use Rattle.body_refusals.specs.PatchChecks.{badIndices, patchChecks}
 use Rattle.body_refusals.specs.BodyChecks.{bodyChecks, loneTable, loneChecks}
 use Rattle.body_table_checks.specs.TableTests.{notWhole}
@@ -86,6 +86,11 @@ module _ (ps ns : List Float) (is : List ℕ) where
   unfolding loneTable rowsOf any badRow
   lone-good = refl
 
+  -- its bin is 0
+  lone-bin : false ≡ any badBin (rowsOf (loneTable ps is))
+  unfolding loneTable rowsOf any badBin
+  lone-bin = refl
+
   -- its triangles are whole if the indices are a multiple of 3
   lone-parts : not (eqb (length is % 3) 0) ≡ any partTriangle (rowsOf (loneTable ps is))
   unfolding loneTable rowsOf
@@ -132,7 +137,7 @@ module _ (ps ns : List Float) (is : List ℕ) where
       pub lone-lengths : length ps ≡ 3 * (length ps / 3) → length ns ≡ 3 * (length ps / 3) → 0 ≡ firstFailing (tableChecks (loneTable ps is) (rowsOf (loneTable ps is)) ps ns is)
       lone-lengths e f =
           Table.fails-none (loneTable ps is) ps ns is lone-whole refl lone-good refl large-is pd
-          (Table.lengths-indices (rowsOf (loneTable ps is)) ps ns is vertices-total e f indices-total) (ap not (eq-eqb (length is) (length is) refl))
+          (Table.lengths-indices (rowsOf (loneTable ps is)) ps ns is vertices-total e f indices-total) (ap not (eq-eqb (length is) (length is) refl)) lone-bin refl
 
   module _ (ok : Tabled (loneTable ps is) ps ns is) where
     -- the indices are no multiple of 3

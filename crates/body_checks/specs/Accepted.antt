@@ -14,7 +14,7 @@ use Rattle.float_steps.specs.Floats.{finite}
 use Rattle.lists.specs.Lists.{any, sumOf}
 use Rattle.lists.specs.Any.{any-none, any-one}
 use Rattle.body_rows.specs.Body.{rowWidth, Row, rowsOf, patchesOf, allVertices, allIndices, firstFailing, workNeeded}
-use Rattle.body_refusals.specs.TableChecks.{badRow, tableChecks}
+use Rattle.body_refusals.specs.TableChecks.{badRow, badBin, tableChecks}
 use Rattle.body_refusals.specs.PatchChecks.{badIndices, patchChecks}
 use Rattle.body_refusals.specs.BodyChecks.{bodyChecks, loneTable, loneChecks}
 use Rattle.body_rows.specs.Rows.{rowAt, noRow, indicesBefore, verticesBefore, WholeRows}
@@ -27,7 +27,7 @@ use Rattle.body_patch_checks.specs.Patched.{Patched, patched}
 
 -- what all the checks give, as the tests stand in the definitions
 pub record Clean (table : List ℕ) (ps ns : List Float) (is : List ℕ) (words : ℕ) : Type 0 where
-  -- the checks 11 to 14 have passed
+  -- the checks 11 to 15 have passed
   pub tabled : Tabled table ps ns is
   -- the checks 21 to 23 have passed
   pub patched : Patched (patchesOf (rowsOf table) ps ns is)
@@ -41,12 +41,13 @@ clean table ps ns is words h =
     let c12 = clear-first 11 _ _ (c11 .rest) in
     let c13 = clear-first 12 _ _ (c12 .rest) in
     let c14 = clear-first 13 _ _ (c13 .rest) in
-    let c21 = clear-first 20 _ _ (c14 .rest) in
+    let c15 = clear-first 14 _ _ (c14 .rest) in
+    let c21 = clear-first 20 _ _ (c15 .rest) in
     let c22 = clear-first 21 _ _ (c21 .rest) in
     let c23 = clear-first 22 _ _ (c22 .rest) in
     let c31 = clear-first 30 _ _ (c23 .rest) in
     record {
-      tabled = tabled-by table ps ns is (c11 .here) (c12 .here) (c13 .here) (c14 .here);
+      tabled = tabled-by table ps ns is (c11 .here) (c12 .here) (c13 .here) (c14 .here) (c15 .here);
       patched = record { threes = c21 .here; inside = c22 .here; numbers = c23 .here };
       enough = ltb-false words (workNeeded (rowsOf table)) (c31 .here);
     }
@@ -62,6 +63,7 @@ pub record Passed (table : List ℕ) (ps ns : List Float) (is : List ℕ) (words
   pub all-indices : length is ≡ allIndices (rowsOf table)
   pub outcomes : (k : ℕ) → k < length (rowsOf table) → rowAt table k .outcome ≤ 255
   pub failed : (k : ℕ) → k < length (rowsOf table) → (rowAt table k .outcome ≡ 0 → ⊥) → rowAt table k .vertices + rowAt table k .indices ≡ 0
+  pub bins : (k : ℕ) → k < length (rowsOf table) → rowAt table k .bin ≤ 65535
   pub threes : (k : ℕ) → k < length (rowsOf table) → rowAt table k .indices % 3 ≡ 0
   pub inside : (k j : ℕ) → k < length (rowsOf table) → j < rowAt table k .indices → getD is (indicesBefore (rowsOf table) k + j) 0 < rowAt table k .vertices
   pub finite-positions : (k : ℕ) → k < length ps → finite (getD ps k nan) ≡ true
@@ -76,6 +78,11 @@ finite-at xs e k h = not-false (finite (getD xs k nan)) (any-none notFinite xs n
 outcome-of : (r : Row) → badRow r ≡ false → r .outcome ≤ 255
 unfolding badRow
 outcome-of r e = ltb-false 255 (r .outcome) (or-left (ltb 255 (r .outcome)) _ e)
+
+-- a bin that is not too high
+bin-of : (r : Row) → badBin r ≡ false → r .bin ≤ 65535
+unfolding badBin
+bin-of r e = ltb-false 65535 (r .bin) e
 
 -- a failed row has no counts
 empty-of : (r : Row) → badRow r ≡ false → (r .outcome ≡ 0 → ⊥) → r .vertices + r .indices ≡ 0
@@ -120,6 +127,7 @@ passed table ps ns is words h =
       all-indices = t .all-indices;
       outcomes = λ k l. outcome-of (getD rows k noRow) (any-none badRow rows noRow (t .sound) k l);
       failed = λ k l. empty-of (getD rows k noRow) (any-none badRow rows noRow (t .sound) k l);
+      bins = λ k l. bin-of (getD rows k noRow) (any-none badBin rows noRow (t .bins) k l);
       threes = λ k l. eqb-true (getD rows k noRow .indices % 3) 0 (not-false (eqb (getD rows k noRow .indices % 3) 0) (any-none partTriangle rows noRow threes k l));
       inside = inside-at table ps ns is (t .all-indices) (c .patched .inside);
       finite-positions = finite-at ps (or-left (any notFinite ps) (any notFinite ns) numbers);
@@ -146,7 +154,7 @@ pub record PassedAlone (ps ns : List Float) (is : List ℕ) : Type 0 where
 
 module _ (ps ns : List Float) (is : List ℕ) where
   -- its table has one row
-  pub lone-rows : rowsOf (loneTable ps is) ≡ record { shell = 0; face = 0; outcome = 0; vertices = length ps / 3; indices = length is } ∷ []
+  pub lone-rows : rowsOf (loneTable ps is) ≡ record { shell = 0; face = 0; outcome = 0; vertices = length ps / 3; indices = length is; bin = 0 } ∷ []
   unfolding rowsOf loneTable
   lone-rows = refl
 
@@ -173,13 +181,14 @@ module _ (ps ns : List Float) (is : List ℕ) where
       let c12 = clear-first 11 _ _ (c11 .rest) in
       let c13 = clear-first 12 _ _ (c12 .rest) in
       let c14 = clear-first 13 _ _ (c13 .rest) in
-      let c21 = clear-first 20 _ _ (c14 .rest) in
+      let c15 = clear-first 14 _ _ (c14 .rest) in
+      let c21 = clear-first 20 _ _ (c15 .rest) in
       let c22 = clear-first 21 _ _ (c21 .rest) in
       let c23 = clear-first 22 _ _ (c22 .rest) in
-      let t = tabled-by (loneTable ps is) ps ns is (c11 .here) (c12 .here) (c13 .here) (c14 .here) in
+      let t = tabled-by (loneTable ps is) ps ns is (c11 .here) (c12 .here) (c13 .here) (c14 .here) (c15 .here) in
       let rows = rowsOf (loneTable ps is) in
       let numbers = sym (any-number notFinite rows ps ns is (t .all-positions) (t .all-normals)) ∙ c23 .here in
-      let three : partTriangle (record { shell = 0; face = 0; outcome = 0; vertices = length ps / 3; indices = length is }) ≡ false =
+      let three : partTriangle (record { shell = 0; face = 0; outcome = 0; vertices = length ps / 3; indices = length is; bin = 0 }) ≡ false =
       sym (any-one partTriangle _) ∙ ap (any partTriangle) (sym lone-rows) ∙ sym (any-row partTriangle rows ps ns is) ∙ c21 .here in
       record {
         vertices = omega (arith, t .all-positions, lone-vertices);

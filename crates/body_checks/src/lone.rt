@@ -10,7 +10,7 @@ ghost use Rattle.body_refusals.specs.BodyChecks.{loneChecks, loneTable};
 ghost use Rattle.body_refusals.specs.PatchChecks.{patchChecks};
 ghost use Rattle.body_refusals.specs.TableChecks.{tableChecks};
 
-// The number of the first of the checks 11 to 14 that fails, or 0: the table is one row of a patch.
+// The number of the first of the checks 11 to 15 that fails, or 0: the table is one row of a patch, of bin 0.
 fn lone_table_failing(positions: &[f32], normals: &[f32], indices: &[u32]) -> u32
     ensures { λ r. ⌜ r ≡ firstFailing (tableChecks (loneTable (now (positions .entry)) (now (indices .entry)))
         (rowsOf (loneTable (now (positions .entry)) (now (indices .entry))))

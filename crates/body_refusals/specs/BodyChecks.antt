@@ -14,9 +14,9 @@ bodyChecks table ps ns is words =
     let rows = rowsOf table in
     tableChecks table rows ps ns is ++ patchChecks (patchesOf rows ps ns is) ++ check 31 (ltb words (workNeeded rows)) ∷ []
 
--- A patch asked about alone is a body of one row: this is its table.
+-- A patch asked about alone is a body of one row of bin 0: this is its table.
 unfoldable pub loneTable : List Float → List ℕ → List ℕ
-loneTable ps is = 0 ∷ 0 ∷ 0 ∷ (length ps / 3) ∷ length is ∷ []
+loneTable ps is = 0 ∷ 0 ∷ 0 ∷ (length ps / 3) ∷ length is ∷ 0 ∷ []
 
 -- A patch alone needs no work area.
 unfoldable pub loneChecks : List Float → List Float → List ℕ → List Check

@@ -21,14 +21,25 @@ one = triangle 5 (at 0 0 0) (at 1 0 0) (at 0 1 0) ∷ []
 
 -- the refusal of the triangle with other indices, and so many words
 refusalOf : List ℕ → ℕ → ℕ
-refusalOf is words = refusal (0 ∷ 5 ∷ 0 ∷ 3 ∷ length is ∷ []) (givenPositions one) (givenPositions one) is words
+refusalOf is words = refusal (0 ∷ 5 ∷ 0 ∷ 3 ∷ length is ∷ 65535 ∷ []) (givenPositions one) (givenPositions one) is words
+
+-- a failed row behind another, whose bin is too high
+failedLast : List ℕ
+failedLast = 0 ∷ 0 ∷ 7 ∷ 0 ∷ 0 ∷ 65535 ∷ 0 ∷ 0 ∷ 7 ∷ 0 ∷ 0 ∷ 65536 ∷ []
+
+-- a row of four indices, whose bin is too high
+partTriangle : List ℕ
+partTriangle = 0 ∷ 5 ∷ 0 ∷ 3 ∷ 4 ∷ 65536 ∷ []
 
 -- what passes and what doesn't, check by check
 pub claims : List Case
 claims =
     case 11 (refusal (replicate (rowWidth * 4096) 0) [] [] [] 65536 ∷ refusal (replicate (rowWidth * 4097) 0) [] [] [] 99999 ∷ refusal (0 ∷ []) [] [] [] 9 ∷ []) (0 ∷ 11 ∷ 11 ∷ [])
-    ∷ case 12 (refusal (0 ∷ 0 ∷ 255 ∷ 0 ∷ 0 ∷ []) [] [] [] 16 ∷ refusal (0 ∷ 0 ∷ 256 ∷ 0 ∷ 0 ∷ []) [] [] [] 16 ∷ refusal (0 ∷ 0 ∷ 1 ∷ 0 ∷ 3 ∷ []) [] [] [] 99 ∷ []) (0 ∷ 12 ∷ 12 ∷ [])
-    ∷ case 13 (refusal (0 ∷ 0 ∷ 0 ∷ 262144 ∷ 0 ∷ []) [] [] [] 16 ∷ refusal (0 ∷ 0 ∷ 0 ∷ 262145 ∷ 0 ∷ []) [] [] [] 16 ∷ []) (14 ∷ 13 ∷ [])
+    ∷ case 12 (refusal (0 ∷ 0 ∷ 255 ∷ 0 ∷ 0 ∷ 65535 ∷ []) [] [] [] 16 ∷ refusal (0 ∷ 0 ∷ 256 ∷ 0 ∷ 0 ∷ 65536 ∷ []) [] [] [] 16 ∷ []) (0 ∷ 12 ∷ [])
+    ∷ case 12 (refusal (0 ∷ 0 ∷ 1 ∷ 0 ∷ 3 ∷ 0 ∷ []) [] [] [] 99 ∷ []) (12 ∷ [])
+    ∷ case 13 (refusal (0 ∷ 0 ∷ 0 ∷ 262144 ∷ 0 ∷ 65536 ∷ []) [] [] [] 16 ∷ refusal (0 ∷ 0 ∷ 0 ∷ 262145 ∷ 0 ∷ 65536 ∷ []) [] [] [] 16 ∷ []) (14 ∷ 13 ∷ [])
+    ∷ case 15 (refusal failedLast [] [] [] 0 ∷ refusal failedLast [] [] (0 ∷ []) 0 ∷ []) (15 ∷ 14 ∷ [])
+    ∷ case 15 (refusal partTriangle (givenPositions one) (givenPositions one) (0 ∷ 1 ∷ 2 ∷ 3 ∷ []) 0 ∷ []) (15 ∷ [])
     ∷ case 21 (refusalOf (0 ∷ 1 ∷ 2 ∷ 3 ∷ []) 99 ∷ refusalOf (0 ∷ 1 ∷ 2 ∷ []) 99 ∷ []) (21 ∷ 0 ∷ [])
     ∷ case 22 (refusalOf (0 ∷ 1 ∷ 3 ∷ []) 99 ∷ refusal (givenTable one) (givenPositions one) (replicate 9 nan) (0 ∷ 1 ∷ 3 ∷ []) 99 ∷ []) (22 ∷ 22 ∷ [])
     ∷ case 23 (refusal (givenTable one) (givenPositions one) (replicate 9 nan) (givenIndices one) 0 ∷ []) (23 ∷ [])
@@ -37,5 +48,5 @@ claims =
 
 -- The definitions yield each.
 pub claims-hold : T (all agrees claims)
-unfolding evaluation refusal one refusalOf claims
+unfolding evaluation refusal one refusalOf failedLast partTriangle claims
 claims-hold = tt

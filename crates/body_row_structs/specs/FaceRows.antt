@@ -11,7 +11,7 @@ use Rattle.body_row_structs.specs.declared.Row.{Row}
 
 -- a row of zeros: what lies past the end
 abbrev pub noRow : Row
-noRow = record { shell = 0; face = 0; outcome = 0; vertices = 0; indices = 0 }
+noRow = record { shell = 0; face = 0; outcome = 0; vertices = 0; indices = 0; bin = 0 }
 
 -- row k of the slice
 abbrev pub rowAt : List Row → ℕ → Row
@@ -23,14 +23,14 @@ faceAt rows k = record { 0 = rowAt rows k .face }
 
 -- the row of a body that it is
 abbrev pub bodyRow : Row → Body.Row
-bodyRow r = record { shell = r .shell; face = r .face; outcome = r .outcome; vertices = r .vertices; indices = r .indices }
+bodyRow r = record { shell = r .shell; face = r .face; outcome = r .outcome; vertices = r .vertices; indices = r .indices; bin = r .bin }
 
--- the same table as flat numbers, five a row
+-- the same table as flat numbers, `rowWidth` a row
 abbrev pub flat : List Row → List ℕ
 flat rows = tableOf (map bodyRow rows)
 
 -- a flat table of some rows has those rows
-table-rows : (rows : List Body.Row) → rowsOf (tableOf rows) ≡ rows
+pub table-rows : (rows : List Body.Row) → rowsOf (tableOf rows) ≡ rows
 unfolding rowsOf tableOf
 table-rows [] = refl
 table-rows (r ∷ rs) = ap (λ (rest : List Body.Row). r ∷ rest) (table-rows rs)

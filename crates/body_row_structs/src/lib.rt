@@ -13,6 +13,7 @@ pub struct Row {
     pub outcome: u32,
     pub vertices: u32,
     pub indices: u32,
+    pub bin: u32,
 }
 
 // F: how many rows the table has.
@@ -35,6 +36,7 @@ pub fn row_at(rows: &[Row], k: usize) -> Row
         outcome: 0,
         vertices: 0,
         indices: 0,
+        bin: 0,
     }
 }
 

@@ -8,23 +8,24 @@ use Rattle.lists.specs.Lists.{sumOf}
 
 -- how many numbers of the flat table make a row
 abbrev pub rowWidth : ℕ
-rowWidth = 5
+rowWidth = 6
 
 -- how far before a row's end its vertex count stands
 abbrev pub verticesBack : ℕ
-verticesBack = 2
+verticesBack = 3
 
 -- how far before a row's end its index count stands
 abbrev pub indicesBack : ℕ
-indicesBack = 1
+indicesBack = 2
 
--- A row has a shell number, a face number, an outcome (0 for a patch, 1 to 255 for an upstream failure), a vertex count and an index count.
+-- A row has a shell number, a face number, an outcome (0 for a patch, 1 to 255 for an upstream failure), a vertex count, an index count and a bin number.
 pub record Row : Type 0 where
   pub shell : ℕ
   pub face : ℕ
   pub outcome : ℕ
   pub vertices : ℕ
   pub indices : ℕ
+  pub bin : ℕ
 
 -- the rows of a flat table of whole rows
 unfoldable pub rowsOf : List ℕ → List Row
@@ -33,12 +34,13 @@ rowsOf (s ∷ []) = []
 rowsOf (s ∷ f ∷ []) = []
 rowsOf (s ∷ f ∷ o ∷ []) = []
 rowsOf (s ∷ f ∷ o ∷ v ∷ []) = []
-rowsOf (s ∷ f ∷ o ∷ v ∷ i ∷ rest) = record { shell = s; face = f; outcome = o; vertices = v; indices = i } ∷ rowsOf rest
+rowsOf (s ∷ f ∷ o ∷ v ∷ i ∷ []) = []
+rowsOf (s ∷ f ∷ o ∷ v ∷ i ∷ b ∷ rest) = record { shell = s; face = f; outcome = o; vertices = v; indices = i; bin = b } ∷ rowsOf rest
 
 -- the flat table of some rows
 unfoldable pub tableOf : List Row → List ℕ
 tableOf [] = []
-tableOf (r ∷ rs) = r .shell ∷ r .face ∷ r .outcome ∷ r .vertices ∷ r .indices ∷ tableOf rs
+tableOf (r ∷ rs) = r .shell ∷ r .face ∷ r .outcome ∷ r .vertices ∷ r .indices ∷ r .bin ∷ tableOf rs
 
 -- V: the vertices of all rows
 unfoldable pub allVertices : List Row → ℕ

@@ -9,7 +9,7 @@ use Rattle.body_rows.specs.Evaluation.{evaluation}
 
 -- of 17 words the first 16
 pub claims : List Case
-claims = case 31 (cleared (rowsOf (0 ∷ 0 ∷ 9 ∷ 0 ∷ 0 ∷ [])) (replicate 17 7)) (replicate 16 0 ++ 7 ∷ []) ∷ []
+claims = case 31 (cleared (rowsOf (0 ∷ 0 ∷ 9 ∷ 0 ∷ 0 ∷ 7 ∷ [])) (replicate 17 7)) (replicate 16 0 ++ 7 ∷ []) ∷ []
 
 -- The definitions yield it.
 pub claims-hold : T (all agrees claims)

@@ -1,6 +1,6 @@
 -- Small bodies written down for a claim: each row in one line, its points with whole coordinates. Assumes nothing.
 use mathlib.Core.List.{List, [], _∷_, map, flatMap}
-use Prim.Native.Nat.{ℕ}
+use Prim.Native.Nat.{ℕ, _+_}
 use lib.ListN.{length}
 use lib.IntN.{ℤ, pos, negℤ}
 use lib.Ieee.{Float, binary32, ofInt}
@@ -36,10 +36,14 @@ row f ps is = rowIn 0 f ps is
 abbrev pub triangle : ℕ → List ℤ → List ℤ → List ℤ → Given
 triangle f p q r = triangleIn 0 f p q r
 
+-- how far a row's bin is above its face, so that neither is taken for the other
+abbrev pub binsAbove : ℕ
+binsAbove = 100
+
 -- the flat table
 unfoldable pub givenTable : List Given → List ℕ
 givenTable [] = []
-givenTable (g ∷ gs) = g .shell ∷ g .face ∷ 0 ∷ length (g .points) ∷ length (g .indices) ∷ givenTable gs
+givenTable (g ∷ gs) = g .shell ∷ g .face ∷ 0 ∷ length (g .points) ∷ length (g .indices) ∷ (binsAbove + g .face) ∷ givenTable gs
 
 -- the flat positions
 unfoldable pub givenPositions : List Given → List Float

@@ -11,7 +11,7 @@ use Rattle.body_rows.specs.Body.{rowWidth, Row, rowsOf, tableOf, allVert
 
 -- a row of zeros: what lies past the end
 abbrev pub noRow : Row
-noRow = record { shell = 0; face = 0; outcome = 0; vertices = 0; indices = 0 }
+noRow = record { shell = 0; face = 0; outcome = 0; vertices = 0; indices = 0; bin = 0 }
 
 -- row k of the flat table
 unfoldable pub rowAt : List ℕ → ℕ → Row
@@ -28,13 +28,14 @@ unfolding tableOf
 table-length [] = refl
 table-length (r ∷ rs) = let e = table-length rs in omega arith
 
--- number j of a row, as it stands in the flat table: shell, face, outcome, vertices, indices
+-- number j of a row, as it stands in the flat table: shell, face, outcome, vertices, indices, bin
 abbrev pub column : ℕ → Row → ℕ
 column zero r = r .shell
 column (suc zero) r = r .face
 column (suc (suc zero)) r = r .outcome
 column (suc (suc (suc zero))) r = r .vertices
-column (suc (suc (suc (suc j)))) r = r .indices
+column (suc (suc (suc (suc zero)))) r = r .indices
+column (suc (suc (suc (suc (suc j))))) r = r .bin
 
 -- the sum of column j over the rows before row k
 unfoldable pub columnBefore : ℕ → List Row → ℕ → ℕ
@@ -91,7 +92,8 @@ length-rows (s ∷ []) = refl
 length-rows (s ∷ f ∷ []) = refl
 length-rows (s ∷ f ∷ o ∷ []) = refl
 length-rows (s ∷ f ∷ o ∷ v ∷ []) = refl
-length-rows (s ∷ f ∷ o ∷ v ∷ i ∷ rest) = let e = length-rows rest in omega arith
+length-rows (s ∷ f ∷ o ∷ v ∷ i ∷ []) = refl
+length-rows (s ∷ f ∷ o ∷ v ∷ i ∷ b ∷ rest) = let e = length-rows rest in omega arith
 
 -- the numbers of row k lie in the table
 pub row-room : (table : List ℕ) (k : ℕ) → k < length (rowsOf table) → rowWidth * k + rowWidth ≤ length table
@@ -106,6 +108,7 @@ pub row-flat : (table : List ℕ) (k : ℕ) → k < length (rowsOf table)
       outcome = getD table (rowWidth * k + 2) 0;
       vertices = getD table (rowWidth * k + 3) 0;
       indices = getD table (rowWidth * k + 4) 0;
+      bin = getD table (rowWidth * k + 5) 0;
     }
 unfolding rowsOf rowAt
 row-flat [] k h = absurd (not-suc-le-zero h)
@@ -113,28 +116,32 @@ row-flat (s ∷ []) k h = absurd (not-suc-le-zero h)
 row-flat (s ∷ f ∷ []) k h = absurd (not-suc-le-zero h)
 row-flat (s ∷ f ∷ o ∷ []) k h = absurd (not-suc-le-zero h)
 row-flat (s ∷ f ∷ o ∷ v ∷ []) k h = absurd (not-suc-le-zero h)
-row-flat (s ∷ f ∷ o ∷ v ∷ i ∷ rest) zero h = refl
-row-flat (s ∷ f ∷ o ∷ v ∷ i ∷ rest) (suc k) h =
+row-flat (s ∷ f ∷ o ∷ v ∷ i ∷ []) k h = absurd (not-suc-le-zero h)
+row-flat (s ∷ f ∷ o ∷ v ∷ i ∷ b ∷ rest) zero h = refl
+row-flat (s ∷ f ∷ o ∷ v ∷ i ∷ b ∷ rest) (suc k) h =
     row-flat rest k (le-of-suc-le-suc h)
-    ∙ (λ j. record { shell = at 0 (e0 j); face = at 0 (e1 j); outcome = at 0 (e2 j); vertices = at 0 (e3 j); indices = at 0 (e4 j) })
+    ∙ (λ j. record { shell = at 0 (e0 j); face = at 0 (e1 j); outcome = at 0 (e2 j); vertices = at 0 (e3 j); indices = at 0 (e4 j); bin = at 0 (e5 j) })
   where
     at : ℕ → ℕ → ℕ
-    at d n = getD (s ∷ f ∷ o ∷ v ∷ i ∷ rest) n d
+    at d n = getD (s ∷ f ∷ o ∷ v ∷ i ∷ b ∷ rest) n d
 
-    e0 : suc (suc (suc (suc (suc (rowWidth * k))))) ≡ rowWidth * suc k
+    e0 : suc (suc (suc (suc (suc (suc (rowWidth * k)))))) ≡ rowWidth * suc k
     e0 = omega arith
 
-    e1 : suc (suc (suc (suc (suc (rowWidth * k + 1))))) ≡ rowWidth * suc k + 1
+    e1 : suc (suc (suc (suc (suc (suc (rowWidth * k + 1)))))) ≡ rowWidth * suc k + 1
     e1 = omega arith
 
-    e2 : suc (suc (suc (suc (suc (rowWidth * k + 2))))) ≡ rowWidth * suc k + 2
+    e2 : suc (suc (suc (suc (suc (suc (rowWidth * k + 2)))))) ≡ rowWidth * suc k + 2
     e2 = omega arith
 
-    e3 : suc (suc (suc (suc (suc (rowWidth * k + 3))))) ≡ rowWidth * suc k + 3
+    e3 : suc (suc (suc (suc (suc (suc (rowWidth * k + 3)))))) ≡ rowWidth * suc k + 3
     e3 = omega arith
 
-    e4 : suc (suc (suc (suc (suc (rowWidth * k + 4))))) ≡ rowWidth * suc k + 4
+    e4 : suc (suc (suc (suc (suc (suc (rowWidth * k + 4)))))) ≡ rowWidth * suc k + 4
     e4 = omega arith
+
+    e5 : suc (suc (suc (suc (suc (suc (rowWidth * k + 5)))))) ≡ rowWidth * suc k + 5
+    e5 = omega arith
 
 -- number j of row k stands at rowWidth * k + j
 pub row-column : (table : List ℕ) (k j : ℕ) → k < length (rowsOf table) → j < rowWidth → getD table (rowWidth * k + j) 0 ≡ column j (rowAt table k)
@@ -143,4 +150,5 @@ row-column table k (suc zero) h l = sym (ap (λ (r : Row). r .face) (row-flat ta
 row-column table k (suc (suc zero)) h l = sym (ap (λ (r : Row). r .outcome) (row-flat table k h))
 row-column table k (suc (suc (suc zero))) h l = sym (ap (λ (r : Row). r .vertices) (row-flat table k h))
 row-column table k (suc (suc (suc (suc zero)))) h l = sym (ap (λ (r : Row). r .indices) (row-flat table k h))
-row-column table k (suc (suc (suc (suc (suc j))))) h l = absurd (omega arith)
+row-column table k (suc (suc (suc (suc (suc zero))))) h l = sym (ap (λ (r : Row). r .bin) (row-flat table k h))
+row-column table k (suc (suc (suc (suc (suc (suc j)))))) h l = absurd (omega arith)

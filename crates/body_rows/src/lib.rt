@@ -9,6 +9,7 @@ pub use bases::vertex_bases;
 pub use rows::INDICES_BACK;
 pub use rows::ROW_WIDTH;
 pub use rows::VERTICES_BACK;
+pub use rows::bin;
 pub use rows::face;
 pub use rows::indices;
 pub use rows::outcome;

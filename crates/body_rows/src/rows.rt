@@ -7,12 +7,12 @@ ghost use Rattle.body_rows.specs.Body.{rowsOf};
 ghost use Rattle.body_rows.specs.Rows.{InTable, column, rowAt};
 
 // How many numbers of the flat table make a row.
-pub const ROW_WIDTH: usize = 5;
+pub const ROW_WIDTH: usize = 6;
 
 // How far before a row's end its vertex count stands, and its index count.
-pub const VERTICES_BACK: usize = 2;
+pub const VERTICES_BACK: usize = 3;
 
-pub const INDICES_BACK: usize = 1;
+pub const INDICES_BACK: usize = 2;
 
 // How many whole rows the table has.
 pub fn row_count(rows: &[u32]) -> usize
@@ -67,4 +67,12 @@ pub fn indices(rows: &[u32], k: usize) -> u32
     ensures { λ r. ⌜ r ≡ rowAt (now (rows .entry)) k .indices ⌝ }
 {
     number(rows, k, 4)
+}
+
+// The bin number of row k.
+pub fn bin(rows: &[u32], k: usize) -> u32
+    requires { ⌜ k < length (rowsOf (now rows)) ⌝ }
+    ensures { λ r. ⌜ r ≡ rowAt (now (rows .entry)) k .bin ⌝ }
+{
+    number(rows, k, 5)
 }

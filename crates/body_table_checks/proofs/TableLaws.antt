@@ -7,7 +7,7 @@ use lib.ListN.{length}
 use lib.Dec.{ltb, eqb}
 use borrow.Author.Tests.{eq-eqb, ne-eqb, lt-ltb, le-ltb}
 use Rattle.body_rows.specs.Body.{rowWidth, Row, rowsOf}
-use Rattle.body_refusals.specs.TableChecks.{badRow, tooLarge}
+use Rattle.body_refusals.specs.TableChecks.{badRow, badBin, tooLarge}
 use Rattle.body_table_checks.specs.TableTests.{notWhole}
 use Rattle.body_rows.specs.Rows.{Total}
 
@@ -51,3 +51,9 @@ many-indices {vs} is h = rw (le-ltb 262144 vs h)
 -- the totals are the counts
 pub large-totals : {v i vs is : ℕ} {r : Bool} → Total vs v → Total is i → r ≡ tooLarge v i → r ≡ tooLarge vs is
 large-totals t s e = e ∙ (λ j. tooLarge (t .is j) (s .is j))
+
+-- ---- 15
+-- the bin decides
+pub bin-high : (r : Row) {b : ℕ} → b ≡ r .bin → ltb 65535 b ≡ badBin r
+unfolding badBin
+bin-high r e = ap (ltb 65535) e

@@ -1,4 +1,4 @@
--- The checks 11 to 14: their conditions by name, what a table has once they have passed, and which fails first.
+-- The checks 11 to 15: their conditions by name, what a table has once they have passed, and which fails first.
 pub mod TableTests
 pub mod Tabled
 pub mod TableFirst

@@ -1,4 +1,4 @@
--- Which of the checks 11 to 14 fails first. Assumes nothing.
+-- Which of the checks 11 to 15 fails first. Assumes nothing.
 use mathlib.Core.Path.{_≡_, sym, _∙_}
 use mathlib.Core.Bool.{Bool, true, false, not}
 use mathlib.Core.List.{List, []}
@@ -9,7 +9,7 @@ use lib.Ieee.{Float}
 use borrow.Author.Tests.{eq-eqb, ne-eqb}
 use Rattle.lists.specs.Lists.{any}
 use Rattle.body_rows.specs.Body.{Row, rowsOf, allVertices, allIndices, firstFailing}
-use Rattle.body_refusals.specs.TableChecks.{badRow, tooLarge, tableChecks}
+use Rattle.body_refusals.specs.TableChecks.{badRow, badBin, tooLarge, tableChecks}
 use Rattle.body_table_checks.specs.TableTests.{notWhole, wrongLengths, whole-rows}
 use Rattle.body_rows.specs.Checks.{first-here, first-next, first-none}
 use Rattle.body_rows.specs.Rows.{Total, WholeRows}
@@ -57,7 +57,13 @@ module _ (table : List ℕ) (ps ns : List Float) (is : List ℕ) {a : Bool} (ea 
         unfolding tableChecks
         fails-14 h = first-here 14 _ (sym ee ∙ h) ∙ first-next 13 _ (sym ed ∙ pd) ∙ first-next 12 _ (sym eb ∙ pb) ∙ first-next 11 _ (sym ea ∙ pa)
 
-        -- no check of the table fails
-        pub fails-none : e ≡ false → 0 ≡ firstFailing (tableChecks table (rowsOf table) ps ns is)
-        unfolding tableChecks
-        fails-none h = first-none ∙ first-next 14 [] (sym ee ∙ h) ∙ first-next 13 _ (sym ed ∙ pd) ∙ first-next 12 _ (sym eb ∙ pb) ∙ first-next 11 _ (sym ea ∙ pa)
+        module _ (pe : e ≡ false) {f : Bool} (ef : f ≡ any badBin (rowsOf table)) where
+          -- check 15 fails
+          pub fails-15 : f ≡ true → 15 ≡ firstFailing (tableChecks table (rowsOf table) ps ns is)
+          unfolding tableChecks
+          fails-15 h = first-here 15 _ (sym ef ∙ h) ∙ first-next 14 _ (sym ee ∙ pe) ∙ first-next 13 _ (sym ed ∙ pd) ∙ first-next 12 _ (sym eb ∙ pb) ∙ first-next 11 _ (sym ea ∙ pa)
+
+          -- no check of the table fails
+          pub fails-none : f ≡ false → 0 ≡ firstFailing (tableChecks table (rowsOf table) ps ns is)
+          unfolding tableChecks
+          fails-none h = first-none ∙ first-next 15 [] (sym ef ∙ h) ∙ first-next 14 _ (sym ee ∙ pe) ∙ first-next 13 _ (sym ed ∙ pd) ∙ first-next 12 _ (sym eb ∙ pb) ∙ first-next 11 _ (sym ea ∙ pa)

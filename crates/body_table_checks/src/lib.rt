@@ -1,4 +1,4 @@
-// Checks 11 to 14: the table, its sizes, and the lengths of the slices.
+// Checks 11 to 15: the table, its sizes, the lengths of the slices, and the bins.
 
 mod limits;
 mod table;

@@ -6,6 +6,9 @@ ghost use Rattle.body_refusals.specs.TableChecks.{tooLarge};
 // The largest outcome.
 pub const MOST_OUTCOME: u32 = 255;
 
+// The largest bin number.
+pub const MOST_BIN: u32 = 65535;
+
 // The most rows.
 pub const MOST_ROWS: usize = 4096;
 

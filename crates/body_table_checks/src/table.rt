@@ -1,9 +1,11 @@
-// Checks 11 to 14: the table, and the lengths of the slices.
+// Checks 11 to 15: the table, the lengths of the slices, and the bins.
 
+use crate::limits::MOST_BIN;
 use crate::limits::MOST_OUTCOME;
 use crate::limits::MOST_ROWS;
 use crate::limits::too_many;
 use body_rows::ROW_WIDTH;
+use body_rows::bin;
 use body_rows::indices;
 use body_rows::outcome;
 use body_rows::row_count;
@@ -15,7 +17,7 @@ ghost use Prim.Native.Nat.{_<_};
 ghost use lib.ListN.{length};
 ghost use Rattle.lists.specs.Lists.{any};
 ghost use Rattle.body_rows.specs.Body.{allIndices, allVertices, firstFailing, rowsOf};
-ghost use Rattle.body_refusals.specs.TableChecks.{badRow, tableChecks, tooLarge};
+ghost use Rattle.body_refusals.specs.TableChecks.{badBin, badRow, tableChecks, tooLarge};
 ghost use Rattle.body_table_checks.specs.TableTests.{notWhole, wrongLengths};
 ghost use Rattle.body_rows.specs.Rows.{WholeRows, rowAt};
 
@@ -82,7 +84,30 @@ fn wrong_lengths(table: &[u32], positions: &[f32], normals: &[f32], indices: &[u
     indices.len() != total_indices(table)
 }
 
-// The number of the first of the checks 11 to 14 that fails, or 0.
+// 15: whether row k has a bin above 65,535.
+fn bad_bin(table: &[u32], k: usize) -> bool
+    requires { ⌜ k < length (rowsOf (now table)) ⌝ }
+    ensures { λ r. ⌜ r ≡ badBin (rowAt (now (table .entry)) k) ⌝ }
+{
+    bin(table, k) > MOST_BIN
+}
+
+// 15: whether a bin is too high.
+fn any_bad_bin(table: &[u32]) -> bool
+    ensures { λ r. ⌜ r ≡ any badBin (rowsOf (now (table .entry))) ⌝ }
+{
+    let n = row_count(table);
+    let mut k = 0usize;
+    while k < n {
+        if bad_bin(table, k) {
+            return true;
+        }
+        k += 1;
+    }
+    false
+}
+
+// The number of the first of the checks 11 to 15 that fails, or 0.
 pub fn table_failing(table: &[u32], positions: &[f32], normals: &[f32], indices: &[u32]) -> u32
     ensures { λ r. ⌜ r ≡ firstFailing (tableChecks (now (table .entry)) (rowsOf (now (table .entry))) (now (positions .entry)) (now (normals .entry))
         (now (indices .entry))) ⌝ }
@@ -98,6 +123,9 @@ pub fn table_failing(table: &[u32], positions: &[f32], normals: &[f32], indices:
     }
     if wrong_lengths(table, positions, normals, indices) {
         return 14;
+    }
+    if any_bad_bin(table) {
+        return 15;
     }
     0
 }

@@ -9,7 +9,7 @@ ghost use Rattle.mesh_definition.specs.Assembled.{slicesOf};
 ghost use Rattle.cad_answers.specs.Answers.{boxOf};
 ghost use Rattle.cad_answers.specs.Assembling.{cadLeftMesh, cadMeshAnswered};
 
-// The mesh goes to the mesh slices, parts and ranges to tables of three numbers a row, failures to one of four words a row.
+// The mesh goes to the mesh slices, parts go to a table of three numbers a row, ranges to one of four, failures to one of five words a row.
 // An entry of materials is 0 for none or 1 + the material of the face; the work area needs 16 words an index and a row and 4 a vertex, which come back zero.
 #[no_mangle]
 pub extern "C" fn cad_assemble(

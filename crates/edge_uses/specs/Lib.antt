@@ -7,6 +7,7 @@ pub mod RowUses
 pub mod Counted
 pub mod FirstUsers
 pub mod UseLaws
+pub mod Seen
 pub mod Area
 pub mod AreaLaws
 pub mod Evaluation

@@ -17,9 +17,10 @@ pub record Accepted : Type 0 where
   pub patch : Patch
   pub material : ℕ
 
--- the face of a row that isn't accepted, and why
+-- the face and bin of a row that isn't accepted, and why
 pub record Failed : Type 0 where
   pub face : ℕ
+  pub bin : ℕ
   pub failure : Failure
 
 -- the accepted patches and the failures of a body
@@ -30,7 +31,7 @@ pub record Acceptance : Type 0 where
 -- a patch with its material in front of the accepted ones, or its failure in front of the failures
 unfoldable pub withPatch : Patch → ℕ → Option Failure → Acceptance → Acceptance
 withPatch p m none rest = record { accepted = record { patch = p; material = m } ∷ rest .accepted; failed = rest .failed }
-withPatch p m (some f) rest = record { accepted = rest .accepted; failed = record { face = p .row .face; failure = f } ∷ rest .failed }
+withPatch p m (some f) rest = record { accepted = rest .accepted; failed = record { face = p .row .face; bin = p .row .bin; failure = f } ∷ rest .failed }
 
 -- Accepted patches and failures go in row order.
 unfoldable pub acceptance : Aabb → List ℕ → ℕ → List Patch → Acceptance
@@ -47,12 +48,12 @@ acceptedIndices accepted = sumOf (λ a. length (a .patch .indices)) accepted
 
 -- how many numbers make a failure
 abbrev pub failureWidth : ℕ
-failureWidth = 4
+failureWidth = 5
 
--- a failure's numbers: face; case, 0 for empty, 1 to 255 for upstream, 256 for an escape; the bits of reach and span, else 0
+-- a failure's numbers: face; bin; case, 0 for empty, 1 to 255 for upstream, 256 for an escape; the bits of reach and span, else 0
 unfoldable pub failureNumbers : Failed → List ℕ
 failureNumbers f = elim (f .failure) [
-  | Empty ↦ f .face ∷ 0 ∷ 0 ∷ 0 ∷ []
-  | Upstream n ↦ f .face ∷ n ∷ 0 ∷ 0 ∷ []
-  | Escape reach span ↦ f .face ∷ 256 ∷ bits64 reach ∷ bits64 span ∷ []
+  | Empty ↦ f .face ∷ f .bin ∷ 0 ∷ 0 ∷ 0 ∷ []
+  | Upstream n ↦ f .face ∷ f .bin ∷ n ∷ 0 ∷ 0 ∷ []
+  | Escape reach span ↦ f .face ∷ f .bin ∷ 256 ∷ bits64 reach ∷ bits64 span ∷ []
 ]

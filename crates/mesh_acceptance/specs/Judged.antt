@@ -69,14 +69,14 @@ decisionsIn table W at = take (length (rowsOf table)) (drop at W)
 
 -- ---- failures
 
--- a failure with its face, if there is one
-unfoldable pub failedBy : Option Failure → ℕ → List Failed
-failedBy none face = []
-failedBy (some f) face = record { face = face; failure = f } ∷ []
+-- a failure with its face and bin, if there is one
+unfoldable pub failedBy : Option Failure → ℕ → ℕ → List Failed
+failedBy none face bin = []
+failedBy (some f) face bin = record { face = face; bin = bin; failure = f } ∷ []
 
--- the failure of a patch with its face, if it fails
+-- the failure of a patch with its face and bin, if it fails
 unfoldable pub failedOf : Aabb → Patch → List Failed
-failedOf box p = failedBy (failureOf box p) (p .row .face)
+failedOf box p = failedBy (failureOf box p) (p .row .face) (p .row .bin)
 
 -- what writing row k's failure asks: what its verdict asks, a decision d that is 0 if the row fails, and room for row j of the table
 pub record FailureReady (table : List ℕ) (ps : List Float) (is : List ℕ) (box : Aabb) (span : Float) (k base i d : ℕ) (F : List ℕ) (j : ℕ) : Type 0 where

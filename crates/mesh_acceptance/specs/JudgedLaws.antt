@@ -42,9 +42,9 @@ module _ (box : Aabb) (materials : List ℕ) (default : ℕ) where
   failed-by (p ∷ ps) = go (failureOf box p) (failed-by ps)
     where
       go : (f : Option Failure) → flatMap (failedOf box) ps ≡ acceptance box materials default ps .failed
-          → failedBy f (p .row .face) ++ flatMap (failedOf box) ps ≡ withPatch p (materialOf materials default (p .row .face)) f (acceptance box materials default ps) .failed
+          → failedBy f (p .row .face) (p .row .bin) ++ flatMap (failedOf box) ps ≡ withPatch p (materialOf materials default (p .row .face)) f (acceptance box materials default ps) .failed
       go none e = e
-      go (some g) e = ap (λ (fs : List Failed). record { face = p .row .face; failure = g } ∷ fs) e
+      go (some g) e = ap (λ (fs : List Failed). record { face = p .row .face; bin = p .row .bin; failure = g } ∷ fs) e
 
   -- normals decide nothing
   pub decisions-bare : (rows : List Row) (ps ns ms : List Float) (is : List ℕ)
@@ -123,7 +123,7 @@ pub failed-few : (box : Aabb) (p : Patch) → length (failedOf box p) ≤ 1
 unfolding failedOf failedBy
 failed-few box p = go (failureOf box p)
   where
-    go : (o : Option Failure) → length (failedBy o (p .row .face)) ≤ 1
+    go : (o : Option Failure) → length (failedBy o (p .row .face) (p .row .bin)) ≤ 1
     go none = omega arith
     go (some f) = omega arith
 

@@ -75,7 +75,7 @@ failing : AfterAssemble
 failing =
     let ps = givenPositions (row 0 (at 20 0 0 ∷ at 0 0 0 ∷ at 1 0 0 ∷ at 0 1 0 ∷ at 0 0 0 ∷ at 1 0 0 ∷ at 0 1 0 ∷ []) [] ∷ []) in
     assembleOf
-    (0 ∷ 3 ∷ 7 ∷ 0 ∷ 0 ∷ 0 ∷ 2 ∷ 0 ∷ 0 ∷ 0 ∷ 0 ∷ 1 ∷ 0 ∷ 4 ∷ 3 ∷ 0 ∷ 6 ∷ 0 ∷ 3 ∷ 3 ∷ [])
+    (0 ∷ 3 ∷ 7 ∷ 0 ∷ 0 ∷ 31 ∷ 0 ∷ 2 ∷ 0 ∷ 0 ∷ 0 ∷ 32 ∷ 0 ∷ 1 ∷ 0 ∷ 4 ∷ 3 ∷ 33 ∷ 0 ∷ 6 ∷ 0 ∷ 3 ∷ 3 ∷ 34 ∷ [])
     ps
     ps
     (1 ∷ 2 ∷ 3 ∷ 0 ∷ 1 ∷ 2 ∷ [])
@@ -91,13 +91,13 @@ refusal materials out = assembleOf (givenTable three) (givenPositions three) (gi
 -- The reach of (20, 0, 0) from (3, 4, 0) is the root of 305, and the span is 10.
 pub claims : List Case
 claims =
-    case 1 (runs three (0 ∷ 0 ∷ 0 ∷ 0 ∷ 10 ∷ []) 4) (3 ∷ 4 ∷ 5 ∷ 0 ∷ 1 ∷ 2 ∷ 6 ∷ 7 ∷ 8 ∷ 3 ∷ 0 ∷ 3 ∷ 9 ∷ 3 ∷ 6 ∷ 4 ∷ 3 ∷ 6 ∷ 5 ∷ 0 ∷ 3 ∷ 4 ∷ 6 ∷ 9 ∷ [])
-    ∷ case 2 (runs three (9 ∷ []) 0) (0 ∷ 1 ∷ 2 ∷ 3 ∷ 4 ∷ 5 ∷ 6 ∷ 7 ∷ 8 ∷ 0 ∷ 0 ∷ 9 ∷ 4 ∷ 0 ∷ 3 ∷ 5 ∷ 3 ∷ 6 ∷ 4 ∷ 6 ∷ 9 ∷ [])
+    case 1 (runs three (0 ∷ 0 ∷ 0 ∷ 0 ∷ 10 ∷ []) 4) (3 ∷ 4 ∷ 5 ∷ 0 ∷ 1 ∷ 2 ∷ 6 ∷ 7 ∷ 8 ∷ 3 ∷ 0 ∷ 3 ∷ 9 ∷ 3 ∷ 6 ∷ 4 ∷ 104 ∷ 3 ∷ 6 ∷ 5 ∷ 105 ∷ 0 ∷ 3 ∷ 4 ∷ 104 ∷ 6 ∷ 9 ∷ [])
+    ∷ case 2 (runs three (9 ∷ []) 0) (0 ∷ 1 ∷ 2 ∷ 3 ∷ 4 ∷ 5 ∷ 6 ∷ 7 ∷ 8 ∷ 0 ∷ 0 ∷ 9 ∷ 4 ∷ 104 ∷ 0 ∷ 3 ∷ 5 ∷ 105 ∷ 3 ∷ 6 ∷ 4 ∷ 104 ∷ 6 ∷ 9 ∷ [])
     ∷ case 3 (counts K6) (6 ∷ 0 ∷ 0 ∷ 1 ∷ [])
     ∷ case 4 (counts neighbours) (11 ∷ 0 ∷ 1 ∷ 0 ∷ [])
     ∷ case 5 (counts three) (9 ∷ 9 ∷ 0 ∷ 0 ∷ [])
-    ∷ case 6 (failing .slices .failures) (3 ∷ 7 ∷ 0 ∷ 0 ∷ 2 ∷ 0 ∷ 0 ∷ 0 ∷ 1 ∷ 256 ∷ 0x403176D9090C79A8 ∷ 0x4024000000000000 ∷ 9 ∷ 9 ∷ 9 ∷ 9 ∷ [])
-    ∷ case 6 (failing .vertices ∷ failing .indices ∷ failing .ranges ∷ failing .failures ∷ take (rangeWidth * 2) (failing .slices .ranges)) (3 ∷ 3 ∷ 1 ∷ 3 ∷ 6 ∷ 0 ∷ 3 ∷ 9 ∷ 9 ∷ 9 ∷ [])
+    ∷ case 6 (failing .slices .failures) (3 ∷ 31 ∷ 7 ∷ 0 ∷ 0 ∷ 2 ∷ 32 ∷ 0 ∷ 0 ∷ 0 ∷ 1 ∷ 33 ∷ 256 ∷ 0x403176D9090C79A8 ∷ 0x4024000000000000 ∷ 9 ∷ 9 ∷ 9 ∷ 9 ∷ 9 ∷ [])
+    ∷ case 6 (failing .vertices ∷ failing .indices ∷ failing .ranges ∷ failing .failures ∷ take (rangeWidth * 2) (failing .slices .ranges)) (3 ∷ 3 ∷ 1 ∷ 3 ∷ 6 ∷ 34 ∷ 0 ∷ 3 ∷ 9 ∷ 9 ∷ 9 ∷ 9 ∷ [])
     ∷ case 42 (refusal (4294967297 ∷ []) (room 0 0) ∷ refusal [] (room 99 2) ∷ refusal [] (room 26 3) ∷ refusal [] (room 27 3) ∷ refusal [] needed ∷ []) (42 ∷ 41 ∷ 41 ∷ 0 ∷ 41 ∷ [])
     ∷ []
 

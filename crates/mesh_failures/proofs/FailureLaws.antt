@@ -25,36 +25,36 @@ use Rattle.mesh_acceptance.specs.RowStarts.{AtRow, at-first, at-next, vertices-
 
 -- ---- one failure
 
-module _ {o face : ℕ} {F G : List ℕ} {f : Failure} where
+module _ {o face bin : ℕ} {F G : List ℕ} {f : Failure} where
   -- a patch without triangles
-  pub put-empty : f ≡ Empty → Appended o (face ∷ 0 ∷ 0 ∷ 0 ∷ []) F G → Appended o (failureNumbers (record { face = face; failure = f })) F G
+  pub put-empty : f ≡ Empty → Appended o (face ∷ bin ∷ 0 ∷ 0 ∷ 0 ∷ []) F G → Appended o (failureNumbers (record { face = face; bin = bin; failure = f })) F G
   unfolding failureNumbers
-  put-empty e a = subst (λ (g : Failure). Appended o (failureNumbers (record { face = face; failure = g })) F G) (sym e) a
+  put-empty e a = subst (λ (g : Failure). Appended o (failureNumbers (record { face = face; bin = bin; failure = g })) F G) (sym e) a
 
   -- an upstream failure
-  pub put-upstream : {n : ℕ} → f ≡ Upstream n → Appended o (face ∷ n ∷ 0 ∷ 0 ∷ []) F G → Appended o (failureNumbers (record { face = face; failure = f })) F G
+  pub put-upstream : {n : ℕ} → f ≡ Upstream n → Appended o (face ∷ bin ∷ n ∷ 0 ∷ 0 ∷ []) F G → Appended o (failureNumbers (record { face = face; bin = bin; failure = f })) F G
   unfolding failureNumbers
-  put-upstream e a = subst (λ (g : Failure). Appended o (failureNumbers (record { face = face; failure = g })) F G) (sym e) a
+  put-upstream e a = subst (λ (g : Failure). Appended o (failureNumbers (record { face = face; bin = bin; failure = g })) F G) (sym e) a
 
   -- an escape
-  pub put-escape : {reach span : Float} {r s : ℕ} → f ≡ Escape reach span → r ≡ bits64 reach → s ≡ bits64 span → Appended o (face ∷ 256 ∷ r ∷ s ∷ []) F G
-      → Appended o (failureNumbers (record { face = face; failure = f })) F G
+  pub put-escape : {reach span : Float} {r s : ℕ} → f ≡ Escape reach span → r ≡ bits64 reach → s ≡ bits64 span → Appended o (face ∷ bin ∷ 256 ∷ r ∷ s ∷ []) F G
+      → Appended o (failureNumbers (record { face = face; bin = bin; failure = f })) F G
   unfolding failureNumbers
-  put-escape e p q a = subst (λ (g : Failure). Appended o (failureNumbers (record { face = face; failure = g })) F G) (sym e)
-      (subst (λ (xs : List ℕ). Appended o xs F G) (λ j. face ∷ 256 ∷ p j ∷ q j ∷ []) a)
+  put-escape e p q a = subst (λ (g : Failure). Appended o (failureNumbers (record { face = face; bin = bin; failure = g })) F G) (sym e)
+      (subst (λ (xs : List ℕ). Appended o xs F G) (λ j. face ∷ bin ∷ 256 ∷ p j ∷ q j ∷ []) a)
 
--- four numbers for each
-four-numbers : (face : ℕ) (g : Failure) → length (failureNumbers (record { face = face; failure = g })) ≡ failureWidth
+-- five numbers for each
+five-numbers : (face bin : ℕ) (g : Failure) → length (failureNumbers (record { face = face; bin = bin; failure = g })) ≡ failureWidth
 unfolding failureNumbers
-four-numbers face Empty = refl
-four-numbers face (Upstream n) = refl
-four-numbers face (Escape r s) = refl
+five-numbers face bin Empty = refl
+five-numbers face bin (Upstream n) = refl
+five-numbers face bin (Escape r s) = refl
 
--- four for each of some
+-- `failureWidth` for each of some
 pub failures-long : (fs : List Failed) → length (flatMap failureNumbers fs) ≡ failureWidth * length fs
 unfolding flatMap
 failures-long [] = refl
-failures-long (f ∷ fs) = let e = failures-long fs in omega (arith, length-append (failureNumbers f) (flatMap failureNumbers fs), four-numbers (f .face) (f .failure))
+failures-long (f ∷ fs) = let e = failures-long fs in omega (arith, length-append (failureNumbers f) (flatMap failureNumbers fs), five-numbers (f .face) (f .bin) (f .failure))
 
 -- ---- a row's failure
 
@@ -63,21 +63,22 @@ module _ {box : Aabb} {p : Patch} {j : ℕ} {F : List ℕ} where
   pub failure-none : none ≡ failureOf box p → FailureWritten box p j F F j
   unfolding failedOf failedBy flatMap
   failure-none e =
-      let q : failedOf box p ≡ [] = ap (λ (o : Option Failure). failedBy o (p .row .face)) (sym e) in
+      let q : failedOf box p ≡ [] = ap (λ (o : Option Failure). failedBy o (p .row .face) (p .row .bin)) (sym e) in
       record {
         numbers = subst (λ (fs : List Failed). Appended (failureWidth * j) (flatMap failureNumbers fs) F F) (sym q) (appended-none (failureWidth * j) F);
         count = omega (arith, ap length q);
       }
 
   -- another has one
-  pub failure-one : {f : Failure} {face : ℕ} {G : List ℕ} → some f ≡ failureOf box p → face ≡ p .row .face → Appended (failureWidth * j) (failureNumbers (record { face = face; failure = f })) F G
+  pub failure-one : {f : Failure} {face bin : ℕ} {G : List ℕ} → some f ≡ failureOf box p → face ≡ p .row .face → bin ≡ p .row .bin
+      → Appended (failureWidth * j) (failureNumbers (record { face = face; bin = bin; failure = f })) F G
       → FailureWritten box p j F G (j + 1)
   unfolding failedOf failedBy flatMap
-  failure-one {f} {face} {G} e h a =
-      let q : failedOf box p ≡ record { face = face; failure = f } ∷ [] = (λ j. failedBy (sym e j) (sym h j)) in
+  failure-one {f} {face} {bin} {G} e h b a =
+      let q : failedOf box p ≡ record { face = face; bin = bin; failure = f } ∷ [] = (λ j. failedBy (sym e j) (sym h j) (sym b j)) in
       record {
         numbers = subst (λ (fs : List Failed). Appended (failureWidth * j) (flatMap failureNumbers fs) F G) (sym q)
-            (subst (λ (xs : List ℕ). Appended (failureWidth * j) xs F G) (sym (append-nil (failureNumbers (record { face = face; failure = f })))) a);
+            (subst (λ (xs : List ℕ). Appended (failureWidth * j) xs F G) (sym (append-nil (failureNumbers (record { face = face; bin = bin; failure = f })))) a);
         count = omega (arith, ap length q);
       }
 

@@ -2,6 +2,7 @@
 
 use mesh_acceptance::FAILURE_WIDTH;
 use mesh_judge::row_verdict;
+use mesh_materials::BinId;
 use mesh_materials::FaceId;
 use mesh_verdicts::Failure;
 use mesh_verdicts::Verdict;
@@ -15,21 +16,23 @@ ghost use Rattle.body_rows.specs.Patches.{patchFrom};
 ghost use Rattle.mesh_acceptance.specs.Acceptance.{failureWidth, failureNumbers};
 ghost use Rattle.mesh_acceptance.specs.Judged.{FailureReady, FailureWritten, FailuresReady, FailuresWritten};
 
-// A failure is written as row j of the table: face; case, 0 for empty, 1 to 255 for upstream, 256 for an escape; the bits of reach and span, else 0.
-fn put_failure(failures: &mut [u64], j: usize, face: FaceId, failure: Failure)
+// A failure is written as row j of the table: face; bin; case, 0 for empty, 1 to 255 for upstream, 256 for an escape; the bits of reach and span, else 0.
+fn put_failure(failures: &mut [u64], j: usize, face: FaceId, bin: BinId, failure: Failure)
     requires { ⌜ failureWidth * j + failureWidth ≤ length (now failures) ⌝ }
-    ensures { λ _. ⌜ Appended (failureWidth * j) (failureNumbers (record { face = face .0; failure = failure })) (now (failures .entry))
+    ensures { λ _. ⌜ Appended (failureWidth * j) (failureNumbers (record { face = face .0; bin = bin .0; failure = failure })) (now (failures .entry))
         (now (failures .exit)) ⌝ }
 {
-    let number = face.0 as u64;
+    let f = face.0 as u64;
+    let b = bin.0 as u64;
     let o = FAILURE_WIDTH * j;
     match failure {
-        Failure::Empty => slice_append::put_four(failures, o, number, 0, 0, 0),
-        Failure::Upstream(n) => slice_append::put_four(failures, o, number, n as u64, 0, 0),
-        Failure::Escape(reach, span) => slice_append::put_four(
+        Failure::Empty => slice_append::put_five(failures, o, f, b, 0, 0, 0),
+        Failure::Upstream(n) => slice_append::put_five(failures, o, f, b, n as u64, 0, 0),
+        Failure::Escape(reach, span) => slice_append::put_five(
             failures,
             o,
-            number,
+            f,
+            b,
             256,
             float_steps::bits_of_f64(reach),
             float_steps::bits_of_f64(span),
@@ -62,7 +65,13 @@ fn append_failure(
     match verdict {
         Verdict::Accepted => j,
         Verdict::Failed(failure) => {
-            put_failure(failures, j, FaceId(body_rows::face(rows, k)), failure);
+            put_failure(
+                failures,
+                j,
+                FaceId(body_rows::face(rows, k)),
+                BinId(body_rows::bin(rows, k)),
+                failure,
+            );
             j + 1
         }
     }

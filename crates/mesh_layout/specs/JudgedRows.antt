@@ -48,7 +48,7 @@ laidBy base (j ∷ js) is =
   where
     laidIf : ℕ → List Laid
     laidIf zero = []
-    laidIf (suc m) = record { face = j .row .face; material = m; indices = map (λ i. base + i) (take (j .row .indices) is) } ∷ []
+    laidIf (suc m) = record { face = j .row .face; bin = j .row .bin; material = m; indices = map (λ i. base + i) (take (j .row .indices) is) } ∷ []
 
 -- what a row adds to the run of the decision `wanted`
 abbrev pub sameIf : ℕ → ℕ → List ℕ → List ℕ
@@ -68,4 +68,4 @@ indicesWith wanted js = sumOf (λ j. cond (eqb (j .decision) wanted) (j .row .in
 unfoldable pub rangesWith : List ℕ → List JudgedRow → List ℕ
 rangesWith [] js = []
 rangesWith (f ∷ fs) [] = []
-rangesWith (f ∷ fs) (j ∷ js) = keptIf (j .decision) (j .row .face ∷ f ∷ (f + j .row .indices) ∷ []) ++ rangesWith fs js
+rangesWith (f ∷ fs) (j ∷ js) = keptIf (j .decision) (j .row .face ∷ j .row .bin ∷ f ∷ (f + j .row .indices) ∷ []) ++ rangesWith fs js

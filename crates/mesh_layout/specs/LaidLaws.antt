@@ -25,7 +25,7 @@ laid-by base [] rows ps ns is = refl
 laid-by base (d ∷ ds) [] ps ns is = refl
 laid-by base (zero ∷ ds) (r ∷ rs) ps ns is = laid-by base ds rs (drop (3 * r .vertices) ps) (drop (3 * r .vertices) ns) (drop (r .indices) is)
 laid-by base (suc m ∷ ds) (r ∷ rs) ps ns is =
-    ap (λ (ls : List Laid). record { face = r .face; material = m; indices = map (λ i. base + i) (take (r .indices) is) } ∷ ls)
+    ap (λ (ls : List Laid). record { face = r .face; bin = r .bin; material = m; indices = map (λ i. base + i) (take (r .indices) is) } ∷ ls)
     (laid-by (base + r .vertices) ds rs (drop (3 * r .vertices) ps) (drop (3 * r .vertices) ns) (drop (r .indices) is))
 
 -- their positions

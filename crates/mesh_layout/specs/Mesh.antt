@@ -25,9 +25,10 @@ writtenVertices vs old = record { positions = written (vs .positions) (old .posi
 
 -- ---- its indices, parts and ranges
 
--- an accepted patch in the mesh: its face, its material, and its indices, which count from 0 within the mesh
+-- an accepted patch in the mesh: its face, its bin, its material, and its indices, which count from 0 within the mesh
 pub record Laid : Type 0 where
   pub face : ℕ
+  pub bin : ℕ
   pub material : ℕ
   pub indices : List ℕ
 
@@ -35,7 +36,7 @@ pub record Laid : Type 0 where
 unfoldable pub laidFrom : ℕ → List Accepted → List Laid
 laidFrom base [] = []
 laidFrom base (a ∷ rest) =
-    record { face = a .patch .row .face; material = a .material; indices = map (λ i. base + i) (a .patch .indices) } ∷ laidFrom (base + a .patch .row .vertices) rest
+    record { face = a .patch .row .face; bin = a .patch .row .bin; material = a .material; indices = map (λ i. base + i) (a .patch .indices) } ∷ laidFrom (base + a .patch .row .vertices) rest
 
 -- a number into an ascending list, once
 unfoldable pub insertNew : ℕ → List ℕ → List ℕ
@@ -69,11 +70,11 @@ partOf ls m = m ∷ startOf ls m ∷ length (runOf ls m) ∷ []
 
 -- how many numbers make a range
 abbrev pub rangeWidth : ℕ
-rangeWidth = 3
+rangeWidth = 4
 
--- Range: face, first index, one past the last.
+-- Range: face, bin, first index, one past the last.
 unfoldable pub rangeOf : Laid → ℕ → List ℕ
-rangeOf l first = l .face ∷ first ∷ (first + length (l .indices)) ∷ []
+rangeOf l first = l .face ∷ l .bin ∷ first ∷ (first + length (l .indices)) ∷ []
 
 -- Ranges go in row order: `before` are the patches already laid, and `all` are all.
 unfoldable pub rangesFrom : List Laid → List Laid → List Laid → List ℕ

@@ -93,11 +93,11 @@ ranges-are all before bs base (f ∷ fs) (j ∷ js) is s b h =
         → (j .decision ≡ 0 → rangesWith fs js ≡ rangesFrom all before (laidBy base js (drop (j .row .indices) is)))
         → ((l : Laid) → j .decision ≡ suc (l .material) → length (l .indices) ≡ j .row .indices
         → rangesWith fs js ≡ rangesFrom all (before ++ l ∷ []) (laidBy (base + j .row .vertices) js (drop (j .row .indices) is)))
-        → keptIf d (j .row .face ∷ f ∷ (f + j .row .indices) ∷ []) ++ rangesWith fs js ≡ rangesFrom all before (laidBy base (record { decision = d; row = j .row } ∷ js) is)
+        → keptIf d (j .row .face ∷ j .row .bin ∷ f ∷ (f + j .row .indices) ∷ []) ++ rangesWith fs js ≡ rangesFrom all before (laidBy base (record { decision = d; row = j .row } ∷ js) is)
     go zero e p q = p e
     go (suc m) e p q =
-        let l : Laid = record { face = j .row .face; material = m; indices = map (λ i. base + i) (take (j .row .indices) is) } in
+        let l : Laid = record { face = j .row .face; bin = j .row .bin; material = m; indices = map (λ i. base + i) (take (j .row .indices) is) } in
         let n : length (l .indices) ≡ j .row .indices = length-map (take (j .row .indices) is) (λ i. base + i) ∙ length-take-le (j .row .indices) is (omega arith) in
         let first : f ≡ startOf all m + length (runOf before m) = b .first 0 m (omega arith) e ∙ ap (λ (xs : List JudgedRow). startOf all m + indicesWith (suc m) xs) (append-nil bs)
         ∙ ap (λ (x : ℕ). startOf all m + x) (sym (s .size m)) in
-        λ k. (j .row .face ∷ first k ∷ (first k + sym n k) ∷ []) ++ q l e n k
+        λ k. (j .row .face ∷ j .row .bin ∷ first k ∷ (first k + sym n k) ∷ []) ++ q l e n k

@@ -21,7 +21,8 @@ pub record RowRangeable (table W : List ℕ) (at starts k : ℕ) (out : List ℕ
 
 -- what it leaves: the range behind the r before it, if the row's decision isn't 0
 pub record RowRanged (table W : List ℕ) (at starts k : ℕ) (out new : List ℕ) (r s : ℕ) : Type 0 where
-  pub numbers : Appended (rangeWidth * r) (keptIf (getD W (at + k) 0) (rowAt table k .face ∷ getD W (starts + k) 0 ∷ (getD W (starts + k) 0 + rowAt table k .indices) ∷ [])) out new
+  pub numbers : Appended (rangeWidth * r)
+      (keptIf (getD W (at + k) 0) (rowAt table k .face ∷ rowAt table k .bin ∷ getD W (starts + k) 0 ∷ (getD W (starts + k) 0 + rowAt table k .indices) ∷ [])) out new
   pub end : s ≡ baseAfter r 1 (getD W (at + k) 0)
 
 -- what writing all ranges asks

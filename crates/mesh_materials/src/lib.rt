@@ -8,5 +8,8 @@ pub use materials::material_of;
 // A face number.
 pub struct FaceId(pub u32);
 
+// A bin number.
+pub struct BinId(pub u32);
+
 // A material number.
 pub struct MaterialId(pub u32);

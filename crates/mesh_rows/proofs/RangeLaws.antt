@@ -23,7 +23,7 @@ use Rattle.mesh_layout.specs.Mesh.{rangeWidth}
 pub range-no : {table W : List ℕ} {at starts k : ℕ} {out : List ℕ} {r : ℕ} → RowRangeable table W at starts k out r → getD W (at + k) 0 ≡ 0 → RowRanged table W at starts k out out r r
 unfolding keptIf baseAfter
 range-no {table} {W} {at} {starts} {k} {out} {r} g e =
-    let x = rowAt table k .face ∷ getD W (starts + k) 0 ∷ (getD W (starts + k) 0 + rowAt table k .indices) ∷ [] in
+    let x = rowAt table k .face ∷ rowAt table k .bin ∷ getD W (starts + k) 0 ∷ (getD W (starts + k) 0 + rowAt table k .indices) ∷ [] in
     record {
       numbers = subst (λ (d : ℕ). Appended (rangeWidth * r) (keptIf d x) out out) (sym e) (appended-none (rangeWidth * r) out);
       end = ap (λ (d : ℕ). baseAfter r 1 d) (sym e);
@@ -42,13 +42,13 @@ after-is zero r n = absurd (n refl)
 after-is (suc m) r n = refl
 
 -- an accepted row has one
-pub range-yes : {table W : List ℕ} {at starts k : ℕ} {out : List ℕ} {r : ℕ} {new : List ℕ} {face first end : ℕ} → RowRangeable table W at starts k out r → (getD W (at + k) 0 ≡ 0 → ⊥)
-    → face ≡ rowAt table k .face → first ≡ getD W (starts + k) 0 → end ≡ getD W (starts + k) 0 + rowAt table k .indices → Appended (rangeWidth * r) (face ∷ first ∷ end ∷ []) out new
-    → RowRanged table W at starts k out new r (r + 1)
-range-yes {table} {W} {at} {starts} {k} {out} {r} {new} g n a b e t =
+pub range-yes : {table W : List ℕ} {at starts k : ℕ} {out : List ℕ} {r : ℕ} {new : List ℕ} {face bin first end : ℕ} → RowRangeable table W at starts k out r → (getD W (at + k) 0 ≡ 0 → ⊥)
+    → face ≡ rowAt table k .face → bin ≡ rowAt table k .bin → first ≡ getD W (starts + k) 0 → end ≡ getD W (starts + k) 0 + rowAt table k .indices
+    → Appended (rangeWidth * r) (face ∷ bin ∷ first ∷ end ∷ []) out new → RowRanged table W at starts k out new r (r + 1)
+range-yes {table} {W} {at} {starts} {k} {out} {r} {new} g n a s b e t =
     record {
-      numbers = subst (λ (xs : List ℕ). Appended (rangeWidth * r) xs out new) ((λ j. a j ∷ b j ∷ e j ∷ [])
-          ∙ kept-is (getD W (at + k) 0) (rowAt table k .face ∷ getD W (starts + k) 0 ∷ (getD W (starts + k) 0 + rowAt table k .indices) ∷ []) n) t;
+      numbers = subst (λ (xs : List ℕ). Appended (rangeWidth * r) xs out new) ((λ j. a j ∷ s j ∷ b j ∷ e j ∷ [])
+          ∙ kept-is (getD W (at + k) 0) (rowAt table k .face ∷ rowAt table k .bin ∷ getD W (starts + k) 0 ∷ (getD W (starts + k) 0 + rowAt table k .indices) ∷ []) n) t;
       end = after-is (getD W (at + k) 0) r n;
     }
 
@@ -69,11 +69,11 @@ pub record Ranging (table W : List ℕ) (at starts : ℕ) (out : List ℕ) (r k 
   pub put : Appended 0 done out new
   pub long : length new ≡ length out
 
--- a row adds three numbers or none
-kept-three : (d r a b c : ℕ) → rangeWidth * r + length (keptIf d (a ∷ b ∷ c ∷ [])) ≡ rangeWidth * baseAfter r 1 d
+-- a row adds four numbers or none
+kept-four : (d r a s b c : ℕ) → rangeWidth * r + length (keptIf d (a ∷ s ∷ b ∷ c ∷ [])) ≡ rangeWidth * baseAfter r 1 d
 unfolding keptIf baseAfter
-kept-three zero r a b c = omega arith
-kept-three (suc m) r a b c = omega arith
+kept-four zero r a s b c = omega arith
+kept-four (suc m) r a s b c = omega arith
 
 after-few : (d r k : ℕ) → r ≤ k → baseAfter r 1 d ≤ k + 1
 unfolding baseAfter
@@ -107,7 +107,7 @@ module _ {table W : List ℕ} {at starts : ℕ} {out : List ℕ} where
     firsts-long = length-take-le (length (rowsOf table)) (drop starts W) (omega (arith, length-drop starts W, g .firsts))
 
     abbrev own : List ℕ
-    own = keptIf (getD W (at + k) 0) (rowAt table k .face ∷ getD W (starts + k) 0 ∷ (getD W (starts + k) 0 + rowAt table k .indices) ∷ [])
+    own = keptIf (getD W (at + k) 0) (rowAt table k .face ∷ rowAt table k .bin ∷ getD W (starts + k) 0 ∷ (getD W (starts + k) 0 + rowAt table k .indices) ∷ [])
 
     -- what is left begins with row k's
     left-here : rangesWith (drop k (firstsIn table W starts)) (drop k (judgedIn table W at)) ≡ own ++ rangesWith (drop (k + 1) (firstsIn table W starts)) (drop (k + 1) (judgedIn table W at))
@@ -121,14 +121,14 @@ module _ {table W : List ℕ} {at starts : ℕ} {out : List ℕ} where
     pub ranging-more : {new' : List ℕ} {s : ℕ} → RowRanged table W at starts k new new' r s → Ranging table W at starts out s (k + 1) new'
     ranging-more {new'} {s} w =
         let d = getD W (at + k) 0 in
-        let three = kept-three d r (rowAt table k .face) (getD W (starts + k) 0) (getD W (starts + k) 0 + rowAt table k .indices) in
+        let four = kept-four d r (rowAt table k .face) (rowAt table k .bin) (getD W (starts + k) 0) (getD W (starts + k) 0 + rowAt table k .indices) in
         let few = after-few d r k (c .few) in
         let h = decisions-here table W at k l (g .words) in
         record {
           low = omega arith;
           done = c .done ++ own;
           are = append-assoc (c .done) own (rangesWith (drop (k + 1) (firstsIn table W starts)) (drop (k + 1) (judgedIn table W at))) ∙ ap (λ (ys : List ℕ). c .done ++ ys) (sym left-here) ∙ c .are;
-          many = omega (arith, length-append (c .done) own, c .many, w .end, three);
+          many = omega (arith, length-append (c .done) own, c .many, w .end, four);
           count =
               ap (λ (x : ℕ). x + length (acceptedRows (drop (k + 1) (decisionsIn table W at)) (drop (k + 1) (rowsOf table)))) (w .end)
               ∙ after-count d r (length (acceptedRows (decisionsIn table W at) (rowsOf table))) (acceptedRows (drop k (decisionsIn table W at)) (drop k (rowsOf table)))
@@ -136,7 +136,7 @@ module _ {table W : List ℕ} {at starts : ℕ} {out : List ℕ} where
               (λ z. rows-no h (rows-here table k l) z) (λ n. rows-yes d h (rows-here table k l) n) (c .count);
           few = omega (arith, w .end, few);
           put = behind (c .put) (c .many) (w .numbers);
-          long = appended-long (w .numbers) (omega (arith, three, few, g .room, c .long)) ∙ c .long;
+          long = appended-long (w .numbers) (omega (arith, four, few, g .room, c .long)) ∙ c .long;
         }
 
   -- all are

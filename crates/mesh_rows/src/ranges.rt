@@ -1,6 +1,7 @@
 // The ranges of the mesh: where each accepted row's indices stand, in row order.
 
 use mesh_layout::RANGE_WIDTH;
+use mesh_materials::BinId;
 use mesh_materials::FaceId;
 ghost use mathlib.Core.List.{[], _∷_};
 ghost use Prim.Native.Nat.{_+_, _*_, _≤_};
@@ -9,12 +10,12 @@ ghost use Rattle.slice_append.specs.Appended.{Appended};
 ghost use Rattle.mesh_layout.specs.Ranges.{RowRangeable, RowRanged, RangesWritable, RangesWritten};
 ghost use Rattle.mesh_layout.specs.Mesh.{rangeWidth};
 
-// Range r of the table: face, first index, one past the last.
-fn put_range(ranges: &mut [u32], r: usize, face: FaceId, first: u32, end: u32)
+// Range r of the table: face, bin, first index, one past the last.
+fn put_range(ranges: &mut [u32], r: usize, face: FaceId, bin: BinId, first: u32, end: u32)
     requires { ⌜ rangeWidth * r + rangeWidth ≤ length (now ranges) ⌝ }
-    ensures { λ _. ⌜ Appended (rangeWidth * r) (face .0 ∷ first ∷ end ∷ []) (now (ranges .entry)) (now (ranges .exit)) ⌝ }
+    ensures { λ _. ⌜ Appended (rangeWidth * r) (face .0 ∷ bin .0 ∷ first ∷ end ∷ []) (now (ranges .entry)) (now (ranges .exit)) ⌝ }
 {
-    slice_append::put_three(ranges, RANGE_WIDTH * r, face.0, first, end);
+    slice_append::put_four(ranges, RANGE_WIDTH * r, face.0, bin.0, first, end);
 }
 
 // Row k's range, if its decision isn't 0, is written as range r of the table; the answer is how many there are then.
@@ -38,6 +39,7 @@ fn append_range(
         ranges,
         r,
         FaceId(body_rows::face(rows, k)),
+        BinId(body_rows::bin(rows, k)),
         first,
         first + body_rows::indices(rows, k),
     );

@@ -13,8 +13,8 @@ use Rattle.sheet_digit_writing.specs.Wrote.{wrote-then}
 use Rattle.sheet_lines.specs.Forms.{line, numbers, triangleForm}
 use Rattle.sheet_lines.specs.Pattern.{piece, pieces, split}
 use Rattle.sheet_answer_text.specs.declared.Sizes.{Sizes}
-use Rattle.sheet_answer_rows.specs.Rows.{failureLines, threes, vertexLines}
-use Rattle.sheet_answer_text.specs.Answer.{meshForm, meshText, partForm, rangeForm}
+use Rattle.sheet_answer_rows.specs.Rows.{failureLines, rangeLines, threes, vertexLines}
+use Rattle.sheet_answer_text.specs.Answer.{meshForm, meshText, partForm}
 use Rattle.sheet_answer_rows.specs.FormLaws.{as-form, as-threes}
 
 pub mesh-written : {E W1 W2 W3 W4 W5 W6 : List ℕ} {at r1 r2 r3 r4 r5 r6 : ℕ} (z : Sizes) (ps ns : List Float)
@@ -25,7 +25,7 @@ pub mesh-written : {E W1 W2 W3 W4 W5 W6 : List ℕ} {at r1 r2 r3 r4 r5 r6 : ℕ}
     → Wrote W1 r1 (vertexLines (map bits32 ps') (map bits32 ns')) W2 r2
     → Wrote W2 r2 (threes (pieces (bytes "(part###)")) parts') W3 r3
     → Wrote W3 r3 (threes (pieces (bytes "(t###)")) is') W4 r4
-    → Wrote W4 r4 (threes (pieces (bytes "(range###)")) ranges') W5 r5
+    → Wrote W4 r4 (rangeLines ranges') W5 r5
     → Wrote W5 r5 (failureLines failures') W6 r6
     → Wrote E at (meshText z ps ns is parts ranges failures) W6 r6
 unfolding meshText piece split numbers
@@ -39,5 +39,5 @@ mesh-written {E} {W1} {W2} {W3} {W4} {W5} {W6} {at} {r1} {r2} {r3} {r4} {r5} {r6
     (subst (λ (xs : List Float). Wrote W1 r1 (vertexLines (map bits32 ps') (map bits32 xs)) W2 r2) en b)))
     (as-threes partForm (bytes "(part###)") refl (take (partWidth * z .parts) parts) (subst (λ (xs : List ℕ). Wrote W2 r2 (threes (pieces (bytes "(part###)")) xs) W3 r3) ea c)))
     (as-threes triangleForm (bytes "(t###)") refl (take (z .indices) is) (subst (λ (xs : List ℕ). Wrote W3 r3 (threes (pieces (bytes "(t###)")) xs) W4 r4) ei d)))
-    (as-threes rangeForm (bytes "(range###)") refl (take (rangeWidth * z .ranges) ranges) (subst (λ (xs : List ℕ). Wrote W4 r4 (threes (pieces (bytes "(range###)")) xs) W5 r5) er e)))
+    (subst (λ (xs : List ℕ). Wrote W4 r4 (rangeLines xs) W5 r5) er e))
     (subst (λ (xs : List ℕ). Wrote W5 r5 (failureLines xs) W6 r6) ef f)

@@ -4,6 +4,7 @@ use mesh_acceptance::FAILURE_WIDTH;
 use mesh_layout::PART_WIDTH;
 use mesh_layout::RANGE_WIDTH;
 use sheet_answer_rows::put_failures;
+use sheet_answer_rows::put_ranges;
 use sheet_answer_rows::put_threes;
 use sheet_answer_rows::put_vertices;
 use sheet_answer_text::Sizes;
@@ -42,12 +43,7 @@ pub fn put_mesh(
         front(parts, PART_WIDTH * z.parts as usize),
     );
     let d = put_threes(out, c, b"(t###)", front(indices, z.indices as usize));
-    let e = put_threes(
-        out,
-        d,
-        b"(range###)",
-        front(ranges, RANGE_WIDTH * z.ranges as usize),
-    );
+    let e = put_ranges(out, d, front(ranges, RANGE_WIDTH * z.ranges as usize));
     put_failures(
         out,
         e,

@@ -8,14 +8,15 @@ use lib.Ieee.{Float, nan}
 use lib.ListN.{length, getD, drop, length-drop, length-map}
 use Rattle.float_steps.specs.Floats.{bits32}
 use Rattle.mesh_acceptance.specs.Acceptance.{failureWidth}
+use Rattle.mesh_layout.specs.Mesh.{rangeWidth}
 use Rattle.sheet_digit_writing.specs.Writing.{Wrote}
 use Rattle.sheet_digits.specs.Next.{next}
 use Rattle.sheet_digit_writing.specs.Wrote.{wrote-none, wrote-then}
 use Rattle.sheet_lines.specs.Forms.{Piece, line, vertexForm}
 use Rattle.sheet_lines.specs.Pattern.{pieces}
-use Rattle.sheet_answer_rows.specs.Rows.{cornerAt, threeAt, emptyForm, escapeForm, failureLine, failureLines, threes, upstreamForm, vertexLines}
+use Rattle.sheet_answer_rows.specs.Rows.{cornerAt, threeAt, fourAt, emptyForm, escapeForm, failureLine, failureLines, rangeForm, rangeLines, threes, upstreamForm, vertexLines}
 
--- ---- three and four items from a place on
+-- ---- three, four and five items from a place on
 module _ {A : Type 0} (d : A) where
   pub three-more : (xs : List A) (i : ℕ) → i + 3 ≤ length xs → drop i xs ≡ getD xs i d ∷ getD xs (i + 1) d ∷ getD xs (i + 2) d ∷ drop (i + 3) xs
   three-more xs i h =
@@ -33,6 +34,14 @@ module _ {A : Type 0} (d : A) where
       three-more xs i (omega arith)
       ∙ ap (λ (ys : List A). getD xs i d ∷ getD xs (i + 1) d ∷ getD xs (i + 2) d ∷ ys) (next xs (i + 3) d (omega arith))
       ∙ ap (λ (n : ℕ). getD xs i d ∷ getD xs (i + 1) d ∷ getD xs (i + 2) d ∷ getD xs (i + 3) d ∷ drop n xs) four
+
+  pub five-more : (xs : List A) (i : ℕ) → i + 5 ≤ length xs
+      → drop i xs ≡ getD xs i d ∷ getD xs (i + 1) d ∷ getD xs (i + 2) d ∷ getD xs (i + 3) d ∷ getD xs (i + 4) d ∷ drop (i + 5) xs
+  five-more xs i h =
+      let five : i + 4 + 1 ≡ i + 5 = omega arith in
+      four-more xs i (omega arith)
+      ∙ ap (λ (ys : List A). getD xs i d ∷ getD xs (i + 1) d ∷ getD xs (i + 2) d ∷ getD xs (i + 3) d ∷ ys) (next xs (i + 4) d (omega arith))
+      ∙ ap (λ (n : ℕ). getD xs i d ∷ getD xs (i + 1) d ∷ getD xs (i + 2) d ∷ getD xs (i + 3) d ∷ getD xs (i + 4) d ∷ drop n xs) five
 
 -- ---- what is written, and what is left
 pub record Going (E : List ℕ) (at : ℕ) (all W : List ℕ) (place : ℕ) (rest : List ℕ) : Type 0 where
@@ -169,17 +178,61 @@ corner-written E P N W at i r a b c d e f pa pb pc pd pe pf w = subst (λ (xs : 
         → f ≡ bits32 (getD N (i + 2) nan) → a ∷ b ∷ c ∷ d ∷ e ∷ f ∷ [] ≡ cornerAt P N i
     numbers pa pb pc pd pe pf = cc
 
+-- ---- a range a line
+pub range-written : (E values W : List ℕ) (at i r a b c d : ℕ) → a ≡ getD values i 0 → b ≡ getD values (i + 1) 0 → c ≡ getD values (i + 2) 0 → d ≡ getD values (i + 3) 0
+    → Wrote E at (line rangeForm (a ∷ b ∷ c ∷ d ∷ [])) W r → Wrote E at (line rangeForm (fourAt values i)) W r
+range-written E values W at i r a b c d p q s t w = subst (λ (xs : List ℕ). Wrote E at (line rangeForm xs) W r) (numbers p q s t) w
+  where
+    numbers : a ≡ getD values i 0 → b ≡ getD values (i + 1) 0 → c ≡ getD values (i + 2) 0 → d ≡ getD values (i + 3) 0 → a ∷ b ∷ c ∷ d ∷ [] ≡ fourAt values i
+    numbers p q s t = cc
+
+pub record Ranges (E : List ℕ) (at : ℕ) (values W : List ℕ) (place i : ℕ) : Type 0 where
+  pub inside : i ≤ length values
+  pub long : length W ≡ length E
+  pub going : Going E at (rangeLines values) W place (rangeLines (drop i values))
+
+ranges-few : (xs : List ℕ) → length xs < rangeWidth → rangeLines xs ≡ []
+unfolding rangeLines
+ranges-few [] h = refl
+ranges-few (a ∷ []) h = refl
+ranges-few (a ∷ b ∷ []) h = refl
+ranges-few (a ∷ b ∷ c ∷ []) h = refl
+ranges-few (a ∷ b ∷ c ∷ d ∷ xs) h = absurd (omega arith)
+
+pub ranges-none : (E : List ℕ) (at : ℕ) (values : List ℕ) → at ≤ length E → Ranges E at values E at 0
+ranges-none E at values h = record { inside = omega arith; long = refl; going = going-none E at (rangeLines values) h }
+
+module _ (E : List ℕ) (at : ℕ) (values W : List ℕ) (place i : ℕ) (v : Ranges E at values W place i) where
+  pub ranges-inside : i ≤ length values
+  ranges-inside = v .inside
+
+  pub ranges-room : place ≤ length W
+  ranges-room = going-room E at (rangeLines values) W place (rangeLines (drop i values)) (v .going)
+
+  pub ranges-more : (U : List ℕ) (r : ℕ) → rangeWidth ≤ length values - i → Wrote W place (line rangeForm (fourAt values i)) U r → Ranges E at values U r (i + rangeWidth)
+  unfolding rangeLines
+  ranges-more U r h w = record {
+    inside = omega arith;
+    long = w .long ∙ v .long;
+    going =
+        going-more E at (rangeLines values) W place (rangeLines (drop i values)) (line rangeForm (fourAt values i)) (rangeLines (drop (i + rangeWidth) values)) U r
+        (v .going) (ap rangeLines (four-more 0 values i (omega (arith, v .inside)))) w;
+  }
+
+  pub ranges-all : length values - i < rangeWidth → Wrote E at (rangeLines values) W place
+  ranges-all h = going-all E at (rangeLines values) W place (rangeLines (drop i values)) (v .going) (ranges-few (drop i values) (simp length-drop h))
+
 -- ---- a failure
-module _ (E : List ℕ) (at face n reach span : ℕ) (W : List ℕ) (r : ℕ) where
-  pub failed-empty : n ≡ 0 → Wrote E at (line emptyForm (face ∷ [])) W r → Wrote E at (failureLine face n reach span) W r
+module _ (E : List ℕ) (at face bin n reach span : ℕ) (W : List ℕ) (r : ℕ) where
+  pub failed-empty : n ≡ 0 → Wrote E at (line emptyForm (face ∷ bin ∷ [])) W r → Wrote E at (failureLine face bin n reach span) W r
   unfolding failureLine
   failed-empty e w = rw (eq-eqb n 0 e, failureLine) w
 
-  pub failed-escape : (n ≡ 0 → ⊥) → n ≡ 256 → Wrote E at (line escapeForm (face ∷ reach ∷ span ∷ [])) W r → Wrote E at (failureLine face n reach span) W r
+  pub failed-escape : (n ≡ 0 → ⊥) → n ≡ 256 → Wrote E at (line escapeForm (face ∷ bin ∷ reach ∷ span ∷ [])) W r → Wrote E at (failureLine face bin n reach span) W r
   unfolding failureLine
   failed-escape z e w = rw (ne-eqb n 0 z, eq-eqb n 256 e, failureLine) w
 
-  pub failed-upstream : (n ≡ 0 → ⊥) → (n ≡ 256 → ⊥) → Wrote E at (line upstreamForm (face ∷ n ∷ [])) W r → Wrote E at (failureLine face n reach span) W r
+  pub failed-upstream : (n ≡ 0 → ⊥) → (n ≡ 256 → ⊥) → Wrote E at (line upstreamForm (face ∷ bin ∷ n ∷ [])) W r → Wrote E at (failureLine face bin n reach span) W r
   unfolding failureLine
   failed-upstream z e w = rw (ne-eqb n 0 z, ne-eqb n 256 e, failureLine) w
 
@@ -194,7 +247,8 @@ failures-few [] h = refl
 failures-few (a ∷ []) h = refl
 failures-few (a ∷ b ∷ []) h = refl
 failures-few (a ∷ b ∷ c ∷ []) h = refl
-failures-few (a ∷ b ∷ c ∷ d ∷ xs) h = absurd (omega arith)
+failures-few (a ∷ b ∷ c ∷ d ∷ []) h = refl
+failures-few (a ∷ b ∷ c ∷ d ∷ e ∷ xs) h = absurd (omega arith)
 
 pub failures-none : (E : List ℕ) (at : ℕ) (values : List ℕ) → at ≤ length E → Failures E at values E at 0
 failures-none E at values h = record { inside = omega arith; long = refl; going = going-none E at (failureLines values) h }
@@ -207,16 +261,17 @@ module _ (E : List ℕ) (at : ℕ) (values W : List ℕ) (place i : ℕ) (v : Fa
   failures-room = going-room E at (failureLines values) W place (failureLines (drop i values)) (v .going)
 
   pub failures-more : (U : List ℕ) (r : ℕ) → failureWidth ≤ length values - i
-      → Wrote W place (failureLine (getD values i 0) (getD values (i + 1) 0) (getD values (i + 2) 0) (getD values (i + 3) 0)) U r
+      → Wrote W place (failureLine (getD values i 0) (getD values (i + 1) 0) (getD values (i + 2) 0) (getD values (i + 3) 0) (getD values (i + 4) 0)) U r
       → Failures E at values U r (i + failureWidth)
   unfolding failureLines
   failures-more U r h w = record {
     inside = omega arith;
     long = w .long ∙ v .long;
     going =
-        going-more E at (failureLines values) W place (failureLines (drop i values)) (failureLine (getD values i 0) (getD values (i + 1) 0) (getD values (i + 2) 0) (getD values (i + 3) 0))
+        going-more E at (failureLines values) W place (failureLines (drop i values))
+        (failureLine (getD values i 0) (getD values (i + 1) 0) (getD values (i + 2) 0) (getD values (i + 3) 0) (getD values (i + 4) 0))
         (failureLines (drop (i + failureWidth) values)) U r
-        (v .going) (ap failureLines (four-more 0 values i (omega (arith, v .inside)))) w;
+        (v .going) (ap failureLines (five-more 0 values i (omega (arith, v .inside)))) w;
   }
 
   pub failures-all : length values - i < failureWidth → Wrote E at (failureLines values) W place

@@ -1,4 +1,4 @@
--- What is printed of a slice, a line for every row: vertices, three numbers a line, failures. Assumes nothing.
+-- What is printed of a slice, a line for every row: vertices, three numbers a line, ranges, failures. Assumes nothing.
 use mathlib.Core.Bool.{true, false}
 use mathlib.Core.List.{List, [], _∷_, _++_}
 use Prim.Native.Nat.{ℕ, _+_}
@@ -7,23 +7,31 @@ use lib.Dec.{eqb}
 use lib.Ieee.{Float, nan}
 use Rattle.float_steps.specs.Floats.{bits32}
 use Rattle.sheet_digits.specs.Bytes.{bytes}
-use Rattle.sheet_lines.specs.Forms.{Piece, Word, Bits, Number, line, vertexForm}
+use Rattle.sheet_lines.specs.Forms.{Piece, Word, Bits, Number, line, numbers, vertexForm}
 
--- a failure without triangles: its face
+-- range: face, bin, first index, one past the last
+abbrev pub rangeForm : List Piece
+rangeForm = Word (bytes "(range") ∷ numbers 4
+
+-- a failure without triangles: its face and bin
 abbrev pub emptyForm : List Piece
-emptyForm = Word (bytes "(failed") ∷ Number ∷ Word (bytes " (empty))") ∷ []
+emptyForm = Word (bytes "(failed") ∷ Number ∷ Number ∷ Word (bytes " (empty))") ∷ []
 
--- an upstream failure: its face and number
+-- an upstream failure: its face, bin and number
 abbrev pub upstreamForm : List Piece
-upstreamForm = Word (bytes "(failed") ∷ Number ∷ Word (bytes " (upstream") ∷ Number ∷ Word (bytes "))") ∷ []
+upstreamForm = Word (bytes "(failed") ∷ Number ∷ Number ∷ Word (bytes " (upstream") ∷ Number ∷ Word (bytes "))") ∷ []
 
--- an escape: its face, the bits of reach and span
+-- an escape: its face and bin, the bits of reach and span
 abbrev pub escapeForm : List Piece
-escapeForm = Word (bytes "(failed") ∷ Number ∷ Word (bytes " (escape") ∷ Bits 16 ∷ Bits 16 ∷ Word (bytes "))") ∷ []
+escapeForm = Word (bytes "(failed") ∷ Number ∷ Number ∷ Word (bytes " (escape") ∷ Bits 16 ∷ Bits 16 ∷ Word (bytes "))") ∷ []
 
 -- three numbers from a place on
 abbrev pub threeAt : List ℕ → ℕ → List ℕ
 threeAt ns i = getD ns i 0 ∷ getD ns (i + 1) 0 ∷ getD ns (i + 2) 0 ∷ []
+
+-- four numbers from a place on
+abbrev pub fourAt : List ℕ → ℕ → List ℕ
+fourAt ns i = getD ns i 0 ∷ getD ns (i + 1) 0 ∷ getD ns (i + 2) 0 ∷ getD ns (i + 3) 0 ∷ []
 
 -- the bits of a position and a normal, three coordinates each from a place on
 abbrev pub cornerAt : List Float → List Float → ℕ → List ℕ
@@ -47,13 +55,21 @@ vertexLines (x ∷ y ∷ z ∷ ps) (a ∷ []) = []
 vertexLines (x ∷ y ∷ z ∷ ps) (a ∷ b ∷ []) = []
 vertexLines (x ∷ y ∷ z ∷ ps) (a ∷ b ∷ c ∷ ns) = line vertexForm (x ∷ y ∷ z ∷ a ∷ b ∷ c ∷ []) ++ vertexLines ps ns
 
--- a failure: its face; its case, 0 for empty, 256 for an escape, else upstream; the bits of reach and span
-unfoldable pub failureLine : ℕ → ℕ → ℕ → ℕ → List ℕ
-failureLine face n reach span = elim (eqb n 0) [
-  | true ↦ line emptyForm (face ∷ [])
+-- a line for every range
+unfoldable pub rangeLines : List ℕ → List ℕ
+rangeLines [] = []
+rangeLines (f ∷ []) = []
+rangeLines (f ∷ b ∷ []) = []
+rangeLines (f ∷ b ∷ m ∷ []) = []
+rangeLines (f ∷ b ∷ m ∷ n ∷ rest) = line rangeForm (f ∷ b ∷ m ∷ n ∷ []) ++ rangeLines rest
+
+-- a failure: its face and bin; its case, 0 for empty, 256 for an escape, else upstream; the bits of reach and span
+unfoldable pub failureLine : ℕ → ℕ → ℕ → ℕ → ℕ → List ℕ
+failureLine face bin n reach span = elim (eqb n 0) [
+  | true ↦ line emptyForm (face ∷ bin ∷ [])
   | false ↦ elim (eqb n 256) [
-    | true ↦ line escapeForm (face ∷ reach ∷ span ∷ [])
-    | false ↦ line upstreamForm (face ∷ n ∷ [])
+    | true ↦ line escapeForm (face ∷ bin ∷ reach ∷ span ∷ [])
+    | false ↦ line upstreamForm (face ∷ bin ∷ n ∷ [])
   ]
 ]
 
@@ -61,6 +77,7 @@ failureLine face n reach span = elim (eqb n 0) [
 unfoldable pub failureLines : List ℕ → List ℕ
 failureLines [] = []
 failureLines (f ∷ []) = []
-failureLines (f ∷ n ∷ []) = []
-failureLines (f ∷ n ∷ r ∷ []) = []
-failureLines (f ∷ n ∷ r ∷ s ∷ rest) = failureLine f n r s ++ failureLines rest
+failureLines (f ∷ b ∷ []) = []
+failureLines (f ∷ b ∷ n ∷ []) = []
+failureLines (f ∷ b ∷ n ∷ r ∷ []) = []
+failureLines (f ∷ b ∷ n ∷ r ∷ s ∷ rest) = failureLine f b n r s ++ failureLines rest

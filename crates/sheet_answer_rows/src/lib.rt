@@ -1,17 +1,19 @@
-// A line for every row of a slice that is printed: vertices, three numbers a line, failures; what passes the end of the slice is left off.
+// A line for every row of a slice that is printed: vertices, three numbers a line, ranges, failures; what passes the end of the slice is left off.
 
 use float_steps::bits_of_f32;
 use mesh_acceptance::FAILURE_WIDTH;
+use mesh_layout::RANGE_WIDTH;
 use sheet_lines::put_line;
 ghost use mathlib.Core.Path.{_≡_};
 ghost use mathlib.Core.List.{map};
 ghost use Prim.Native.Nat.{_+_, _≤_};
 ghost use lib.ListN.{length};
 ghost use Rattle.float_steps.specs.Floats.{bits32};
+ghost use Rattle.mesh_layout.specs.Mesh.{rangeWidth};
 ghost use Rattle.sheet_digit_writing.specs.Writing.{Wrote};
 ghost use Rattle.sheet_lines.specs.Forms.{line, vertexForm};
 ghost use Rattle.sheet_lines.specs.Pattern.{pieces};
-ghost use Rattle.sheet_answer_rows.specs.Rows.{cornerAt, failureLine, failureLines, threeAt, threes, vertexLines};
+ghost use Rattle.sheet_answer_rows.specs.Rows.{cornerAt, failureLine, failureLines, fourAt, rangeForm, rangeLines, threeAt, threes, vertexLines};
 
 // The same number in 64 bits.
 fn wide(n: u32) -> u64
@@ -79,18 +81,53 @@ pub fn put_vertices(out: &mut [u8], at: usize, positions: &[f32], normals: &[f32
     next
 }
 
-// The line of a failure; answers the place after it.
-fn put_failure(out: &mut [u8], at: usize, face: u64, n: u64, reach: u64, span: u64) -> usize
+// The line of the range that stands from a place on; answers the place after it.
+fn put_range(out: &mut [u8], at: usize, ranges: &[u32], i: usize) -> usize
     requires { ⌜ at ≤ length (now out) ⌝ }
-    ensures { λ r. ⌜ Wrote (now (out .entry)) at (failureLine face n reach span) (now (out .exit)) r ⌝ }
+    requires { ⌜ i + rangeWidth ≤ length (now ranges) ⌝ }
+    ensures { λ r. ⌜ Wrote (now (out .entry)) at (line rangeForm (fourAt (now (ranges .entry)) i)) (now (out .exit)) r ⌝ }
+{
+    let a = wide(ranges[i]);
+    let b = wide(ranges[i + 1]);
+    let c = wide(ranges[i + 2]);
+    let d = wide(ranges[i + 3]);
+    put_line(out, at, b"(range####)", &[a, b, c, d])
+}
+
+// A line for every range; answers the place after them.
+pub fn put_ranges(out: &mut [u8], at: usize, ranges: &[u32]) -> usize
+    requires { ⌜ at ≤ length (now out) ⌝ }
+    ensures { λ r. ⌜ Wrote (now (out .entry)) at (rangeLines (now (ranges .entry))) (now (out .exit)) r ⌝ }
+{
+    let mut next: usize = at;
+    let mut i: usize = 0;
+    while RANGE_WIDTH <= ranges.len() - i {
+        next = put_range(out, next, ranges, i);
+        i += RANGE_WIDTH;
+    }
+    next
+}
+
+// The line of a failure; answers the place after it.
+fn put_failure(
+    out: &mut [u8],
+    at: usize,
+    face: u64,
+    bin: u64,
+    n: u64,
+    reach: u64,
+    span: u64,
+) -> usize
+    requires { ⌜ at ≤ length (now out) ⌝ }
+    ensures { λ r. ⌜ Wrote (now (out .entry)) at (failureLine face bin n reach span) (now (out .exit)) r ⌝ }
 {
     if n == 0 {
-        return put_line(out, at, b"(failed# (empty))", &[face]);
+        return put_line(out, at, b"(failed## (empty))", &[face, bin]);
     }
     if n == 256 {
-        return put_line(out, at, b"(failed# (escape$$))", &[face, reach, span]);
+        return put_line(out, at, b"(failed## (escape$$))", &[face, bin, reach, span]);
     }
-    put_line(out, at, b"(failed# (upstream#))", &[face, n])
+    put_line(out, at, b"(failed## (upstream#))", &[face, bin, n])
 }
 
 // A line for every failure; answers the place after them.
@@ -108,6 +145,7 @@ pub fn put_failures(out: &mut [u8], at: usize, failures: &[u64]) -> usize
             failures[i + 1],
             failures[i + 2],
             failures[i + 3],
+            failures[i + 4],
         );
         i += FAILURE_WIDTH;
     }

@@ -10,7 +10,7 @@ use Rattle.mesh_acceptance.specs.Acceptance.{failureWidth}
 use Rattle.mesh_layout.specs.Mesh.{partWidth, rangeWidth}
 use Rattle.sheet_digits.specs.Bytes.{bytes}
 use Rattle.sheet_lines.specs.Forms.{Piece, Word, line, numbers, triangleForm}
-use Rattle.sheet_answer_rows.specs.Rows.{failureLines, threes, vertexLines}
+use Rattle.sheet_answer_rows.specs.Rows.{failureLines, rangeLines, threes, vertexLines}
 use Rattle.sheet_answer_text.specs.declared.Sizes.{Sizes}
 use Rattle.sheet_answer_text.specs.declared.Tallies.{Tallies}
 
@@ -23,10 +23,6 @@ meshForm = Word (bytes "(mesh") ∷ numbers 2
 -- part: material, start, count
 abbrev pub partForm : List Piece
 partForm = Word (bytes "(part") ∷ numbers 3
-
--- range: face, first index, one past the last
-abbrev pub rangeForm : List Piece
-rangeForm = Word (bytes "(range") ∷ numbers 3
 
 -- turned rows
 abbrev pub turnedForm : List Piece
@@ -71,7 +67,7 @@ meshText z ps ns is parts ranges failures =
     ++ vertexLines (map bits32 (take (3 * z .vertices) ps)) (map bits32 (take (3 * z .vertices) ns))
     ++ threes partForm (take (partWidth * z .parts) parts)
     ++ threes triangleForm (take (z .indices) is)
-    ++ threes rangeForm (take (rangeWidth * z .ranges) ranges)
+    ++ rangeLines (take (rangeWidth * z .ranges) ranges)
     ++ failureLines (take (failureWidth * z .failures) failures)
 
 -- the counts, in the order of the paper's example

@@ -3,3 +3,4 @@ pub mod Answer
 pub mod ReadBack
 pub mod Longest
 pub mod Evaluation
+pub mod Claims

@@ -15,7 +15,7 @@ use Rattle.sheet_lines.specs.Forms.{Piece, Word, Bits, Number, print, line, num
 use Rattle.sheet_lines.specs.Lengths.{longest}
 use Rattle.sheet_answer_text.specs.declared.Sizes.{Sizes}
 use Rattle.sheet_answer_text.specs.declared.Tallies.{Tallies}
-use Rattle.sheet_answer_rows.specs.Rows.{emptyForm, escapeForm, failureLine, failureLines, threes, upstreamForm, vertexLines}
+use Rattle.sheet_answer_rows.specs.Rows.{emptyForm, escapeForm, failureLine, failureLines, rangeForm, rangeLines, threes, upstreamForm, vertexLines}
 use Rattle.sheet_answer_text.specs.Answer.{
   againstForm,
   closedForm,
@@ -27,7 +27,6 @@ use Rattle.sheet_answer_text.specs.Answer.{
   openForm,
   overForm,
   partForm,
-  rangeForm,
   refusalLine,
   refusedForm,
   splitForm,
@@ -88,32 +87,43 @@ vertices-length (x ∷ y ∷ z ∷ ps) (a ∷ b ∷ c ∷ ns) =
     let few : length l ≤ 66 = line-length vertexForm (x ∷ y ∷ z ∷ a ∷ b ∷ c ∷ []) in
     omega (arith, length-append l (vertexLines ps ns), vertices-length ps ns)
 
-failure-length : (face n reach span : ℕ) → length (failureLine face n reach span) ≤ 73
+ranges-length : (ns : List ℕ) → rangeWidth * length (rangeLines ns) ≤ 92 * length ns
+unfolding rangeLines numbers
+ranges-length [] = omega arith
+ranges-length (f ∷ []) = omega arith
+ranges-length (f ∷ b ∷ []) = omega arith
+ranges-length (f ∷ b ∷ m ∷ []) = omega arith
+ranges-length (f ∷ b ∷ m ∷ n ∷ rest) =
+    let l : List ℕ = line rangeForm (f ∷ b ∷ m ∷ n ∷ []) in
+    omega (arith, length-append l (rangeLines rest), line-length rangeForm (f ∷ b ∷ m ∷ n ∷ []), ranges-length rest)
+
+failure-length : (face bin n reach span : ℕ) → length (failureLine face bin n reach span) ≤ 94
 unfolding failureLine
-failure-length face n reach span = go (eqb n 0) (eqb n 256)
+failure-length face bin n reach span = go (eqb n 0) (eqb n 256)
   where
     go : (b d : Bool) → length {A = ℕ} (elim b as (λ x. List ℕ) [
-      | true ↦ line emptyForm (face ∷ [])
+      | true ↦ line emptyForm (face ∷ bin ∷ [])
       | false ↦ elim d as
-          (λ x. List ℕ) [ true ↦ line escapeForm (face ∷ reach ∷ span ∷ []) | false ↦ line upstreamForm (face ∷ n ∷ []) ]
-    ]) ≤ 73
-    go true d = omega (arith, line-length emptyForm (face ∷ []))
-    go false true = omega (arith, line-length escapeForm (face ∷ reach ∷ span ∷ []))
-    go false false = omega (arith, line-length upstreamForm (face ∷ n ∷ []))
+          (λ x. List ℕ) [ true ↦ line escapeForm (face ∷ bin ∷ reach ∷ span ∷ []) | false ↦ line upstreamForm (face ∷ bin ∷ n ∷ []) ]
+    ]) ≤ 94
+    go true d = omega (arith, line-length emptyForm (face ∷ bin ∷ []))
+    go false true = omega (arith, line-length escapeForm (face ∷ bin ∷ reach ∷ span ∷ []))
+    go false false = omega (arith, line-length upstreamForm (face ∷ bin ∷ n ∷ []))
 
-failures-length : (ns : List ℕ) → failureWidth * length (failureLines ns) ≤ 73 * length ns
+failures-length : (ns : List ℕ) → failureWidth * length (failureLines ns) ≤ 94 * length ns
 unfolding failureLines
 failures-length [] = omega arith
 failures-length (f ∷ []) = omega arith
-failures-length (f ∷ n ∷ []) = omega arith
-failures-length (f ∷ n ∷ r ∷ []) = omega arith
-failures-length (f ∷ n ∷ r ∷ s ∷ rest) = omega (arith, length-append (failureLine f n r s) (failureLines rest), failure-length f n r s, failures-length rest)
+failures-length (f ∷ b ∷ []) = omega arith
+failures-length (f ∷ b ∷ n ∷ []) = omega arith
+failures-length (f ∷ b ∷ n ∷ r ∷ []) = omega arith
+failures-length (f ∷ b ∷ n ∷ r ∷ s ∷ rest) = omega (arith, length-append (failureLine f b n r s) (failureLines rest), failure-length f b n r s, failures-length rest)
 
 -- ---- the whole
 
 -- how many bytes the lines of a mesh in slices of these lengths take at the most
 unfoldable pub meshBytes : ℕ → ℕ → ℕ → ℕ → ℕ → ℕ
-meshBytes positions indices parts ranges failures = 22 * positions + 24 * (indices + parts + ranges) + 19 * failures
+meshBytes positions indices parts ranges failures = 22 * positions + 24 * (indices + parts) + 23 * ranges + 19 * failures
 
 count-length : (t : Tallies) → length (countText t) ≤ 240
 unfolding countText numbers
@@ -154,12 +164,12 @@ mesh-length z ps ns is parts ranges failures =
     let b = vertexLines (map bits32 (take n ps)) (map bits32 (take n ns)) in
     let c = threes partForm (take (partWidth * z .parts) parts) in
     let d = threes triangleForm (take (z .indices) is) in
-    let e = threes rangeForm (take (rangeWidth * z .ranges) ranges) in
+    let e = rangeLines (take (rangeWidth * z .ranges) ranges) in
     let f = failureLines (take (failureWidth * z .failures) failures) in
     let few-vertices : length b ≤ 22 * length ps = omega (arith, vertices-length (map bits32 (take n ps)) (map bits32 (take n ns)), length-map (take n ps) bits32, length-take n ps) in
     let few-parts : length c ≤ 24 * length parts = omega (arith, threes-length partForm (take (partWidth * z .parts) parts) (omega arith), length-take (partWidth * z .parts) parts) in
     let few-triangles : length d ≤ 24 * length is = omega (arith, threes-length triangleForm (take (z .indices) is) (omega arith), length-take (z .indices) is) in
-    let few-ranges : length e ≤ 24 * length ranges = omega (arith, threes-length rangeForm (take (rangeWidth * z .ranges) ranges) (omega arith), length-take (rangeWidth * z .ranges) ranges) in
+    let few-ranges : length e ≤ 23 * length ranges = omega (arith, ranges-length (take (rangeWidth * z .ranges) ranges), length-take (rangeWidth * z .ranges) ranges) in
     let few-failures : length f ≤ 19 * length failures = omega (arith, failures-length (take (failureWidth * z .failures) failures), length-take (failureWidth * z .failures) failures) in
     omega (
       arith,

@@ -7,8 +7,8 @@ use lib.Dec.{T}
 use Rattle.sheet_digits.specs.Digits.{digitOf}
 use Rattle.sheet_lines.specs.Forms.{Piece, numbers, print, read, triangleForm, vertexForm}
 use Rattle.sheet_lines.specs.ReadBack.{fits, read-print, readable}
-use Rattle.sheet_answer_rows.specs.Rows.{emptyForm, escapeForm, upstreamForm}
-use Rattle.sheet_answer_text.specs.Answer.{againstForm, closedForm, edgesForm, meshForm, okForm, openForm, overForm, partForm, rangeForm, refusedForm, splitForm, turnedForm}
+use Rattle.sheet_answer_rows.specs.Rows.{emptyForm, escapeForm, rangeForm, upstreamForm}
+use Rattle.sheet_answer_text.specs.Answer.{againstForm, closedForm, edgesForm, meshForm, okForm, openForm, overForm, partForm, refusedForm, splitForm, turnedForm}
 
 -- the forms of the lines that are printed
 pub data Printed : List Piece → Type 0 where

@@ -15,7 +15,7 @@ use Rattle.body_rows.specs.Body.{rowWidth, verticesBack, indicesBack}
 use Rattle.sheet_lines.specs.Counted.{countIn}
 use Rattle.sheet_lines.specs.Forms.{form, numbers}
 use Rattle.sheet_lines.specs.declared.Kind.{Kind}
-use Rattle.sheet_lines.specs.declared.Kind.the-variants.{Box, Sag, NoDefault, Default, Material, Face, Vertex, Triangle, Fail}
+use Rattle.sheet_lines.specs.declared.Kind.the-variants.{Box, Sag, NoDefault, Default, Material, Face, FaceBin, Vertex, Triangle, Fail, FailBin}
 use Rattle.sheet_reader_state.specs.declared.Reader.{Reader}
 use Rattle.sheet_line_order.specs.Reading.{Patterns, at, passesLimit, raised, takeUp, withLine}
 use Rattle.sheet_reader_state.specs.Slices.{Lent, boxed, defaulted, lent, lineFrom, moved, onto, over, patternsOf, sagged, stateOf, takenUp}
@@ -40,6 +40,12 @@ six P g (a ∷ b ∷ c ∷ d ∷ e ∷ f ∷ rest) h = g a b c d e f rest
 -- a number of 32 bits
 low : (n : ℕ) → Dec.T (ltb n (2 ^ 32)) → n % 2 ^ 32 ≡ n
 low n t = mod-eq-of-lt (ltb→lt n (2 ^ 32) t)
+
+-- a row at a place, by equal numbers
+row-same : {W : List ℕ} (S : List ℕ) (i : ℕ) {x x' y y' z z' b b' : ℕ} → x ≡ x' → y ≡ y' → z ≡ z' → b ≡ b' → W ≡ placed S i (x ∷ y ∷ z ∷ 0 ∷ 0 ∷ b ∷ [])
+    → W ≡ placed S i (x' ∷ y' ∷ z' ∷ 0 ∷ 0 ∷ b' ∷ [])
+row-same S i {x} {x'} {y} {y'} {z} {z'} {b} {b'} p q o t e =
+    three-same S i (0 ∷ 0 ∷ b' ∷ []) p q o (e ∙ ap (λ (n : ℕ). placed S i (x ∷ y ∷ z ∷ 0 ∷ 0 ∷ n ∷ [])) t)
 
 module _ (s : Reader) (T P N I M : List ℕ) where
   abbrev here : Lent
@@ -109,8 +115,8 @@ module _ (s : Reader) (T P N I M : List ℕ) where
         (q ∙ ap (λ (n : ℕ). set M a (n + 1)) (low b small) ∙ changed (s .limits .face + 1) M a (b + 1) (omega arith) (omega (arith, h .limits .room .materials)))
 
     -- ---- a row
-    row-more : (place x y z : ℕ) (W : List ℕ) → Held s T P N I M → s .refusal ≡ 0 → r ≡ moved s place (s .rows + 1) (s .vertices) (s .indices) (s .default) (s .sag)
-        → W ≡ placed T (rowWidth * s .rows) (x ∷ y ∷ z ∷ 0 ∷ 0 ∷ [])
+    row-more : (place x y z b : ℕ) (W : List ℕ) → Held s T P N I M → s .refusal ≡ 0 → r ≡ moved s place (s .rows + 1) (s .vertices) (s .indices) (s .default) (s .sag)
+        → W ≡ placed T (rowWidth * s .rows) (x ∷ y ∷ z ∷ 0 ∷ 0 ∷ b ∷ [])
         → lent r W P N I M ≡ over here (record {
           limits = s .limits;
           refusal = 0;
@@ -120,21 +126,21 @@ module _ (s : Reader) (T P N I M : List ℕ) where
             sag = s .sag;
             default = s .default;
             materials = take (s .limits .face + 1) M;
-            table = take (rowWidth * s .rows) T ++ x ∷ y ∷ z ∷ 0 ∷ 0
+            table = take (rowWidth * s .rows) T ++ x ∷ y ∷ z ∷ 0 ∷ 0 ∷ b
                 ∷ [];
             positions = take (3 * s .vertices) P;
             normals = take (3 * s .vertices) N;
             indices = take (s .indices) I;
           };
         })
-    row-more place x y z W h clean q e =
-        let long : length (take (rowWidth * s .rows) T ++ x ∷ y ∷ z ∷ 0 ∷ 0 ∷ []) ≡ length (take (rowWidth * s .rows) T) + rowWidth =
-        length-append (take (rowWidth * s .rows) T) (x ∷ y ∷ z ∷ 0 ∷ 0 ∷ []) in
-        let rows : s .rows + 1 ≡ length (take (rowWidth * s .rows) T ++ x ∷ y ∷ z ∷ 0 ∷ 0 ∷ []) / rowWidth = omega (arith, counts-of s T P N I M h .table) in
+    row-more place x y z b W h clean q e =
+        let long : length (take (rowWidth * s .rows) T ++ x ∷ y ∷ z ∷ 0 ∷ 0 ∷ b ∷ []) ≡ length (take (rowWidth * s .rows) T) + rowWidth =
+        length-append (take (rowWidth * s .rows) T) (x ∷ y ∷ z ∷ 0 ∷ 0 ∷ b ∷ []) in
+        let rows : s .rows + 1 ≡ length (take (rowWidth * s .rows) T ++ x ∷ y ∷ z ∷ 0 ∷ 0 ∷ b ∷ []) / rowWidth = omega (arith, counts-of s T P N I M h .table) in
         same-lent
         (q ∙ same-reader s (s .refusal) 0 place place (s .rows + 1) _ (s .vertices) _ (s .indices) _ (s .default) (s .default) (s .sag) clean refl rows (same-vertices s T P N I M h)
         (same-indices s T P N I M h) refl)
-        (e ∙ grown (rowWidth * s .rows) T (x ∷ y ∷ z ∷ 0 ∷ 0 ∷ []) (rows-fit s T P N I M h))
+        (e ∙ grown (rowWidth * s .rows) T (x ∷ y ∷ z ∷ 0 ∷ 0 ∷ b ∷ []) (rows-fit s T P N I M h))
         (kept (3 * s .vertices) P)
         (kept (3 * s .vertices) N)
         (kept (s .indices) I)
@@ -156,17 +162,29 @@ module _ (s : Reader) (T P N I M : List ℕ) where
       few-rows (ltb (s .limits .face) (at (lineFrom k ns .numbers) 1)) h (sym (is (lineFrom k ns .numbers) (patternsOf here)) ∙ ok .limit) in
       record { rows = omega (arith, h .limits .few .rows); table = omega (arith, h .limits .room .table) }
 
-  face-six : (r : Reader) (a b c d e f : ℕ) (rest W : List ℕ) → Ready here Face (a ∷ b ∷ c ∷ d ∷ e ∷ f ∷ rest) → RowAdded s T a b 0 4 r W
+  face-six : (r : Reader) (a b c d e f : ℕ) (rest W : List ℕ) → Ready here Face (a ∷ b ∷ c ∷ d ∷ e ∷ f ∷ rest) → RowAdded s T a b 0 0 4 r W
       → lent r W P N I M ≡ takenUp here Face (a ∷ b ∷ c ∷ d ∷ e ∷ f ∷ rest)
   unfolding takenUp takeUp withLine form numbers countIn passesLimit
   face-six r a b c d e f rest W v q =
       let h = held-of s T P N I M (v .fitting .roomy .held) in
       let t0 : Dec.T (ltb a (2 ^ 32)) = and-l (ltb a (2 ^ 32)) (ltb b (2 ^ 32) && true) (v .fitting .small) in
-      let t1 : Dec.T (ltb b (2 ^ 32)) = and-l (ltb b (2 ^ 32)) true (and-r (ltb a (2 ^ 32)) (ltb b (2 ^ 32) && true) (v .fitting .small)) in
-      row-more r 4 a b 0 W h (v .fitting .roomy .clean) (q .reader)
-      (three-same T (rowWidth * s .rows) (0 ∷ 0 ∷ []) (low a t0) (low b t1) refl (q .table))
+      let w1 : Dec.T (ltb b (2 ^ 32) && true) = and-r (ltb a (2 ^ 32)) (ltb b (2 ^ 32) && true) (v .fitting .small) in
+      let t1 : Dec.T (ltb b (2 ^ 32)) = and-l (ltb b (2 ^ 32)) true w1 in
+      row-more r 4 a b 0 0 W h (v .fitting .roomy .clean) (q .reader) (row-same T (rowWidth * s .rows) (low a t0) (low b t1) refl refl (q .table))
 
-  fail-six : (r : Reader) (a b c d e f : ℕ) (rest W : List ℕ) → Ready here Fail (a ∷ b ∷ c ∷ d ∷ e ∷ f ∷ rest) → RowAdded s T a b c 6 r W
+  face-bin-six : (r : Reader) (a b c d e f : ℕ) (rest W : List ℕ) → Ready here FaceBin (a ∷ b ∷ c ∷ d ∷ e ∷ f ∷ rest) → RowAdded s T a b 0 c 4 r W
+      → lent r W P N I M ≡ takenUp here FaceBin (a ∷ b ∷ c ∷ d ∷ e ∷ f ∷ rest)
+  unfolding takenUp takeUp withLine form numbers countIn passesLimit
+  face-bin-six r a b c d e f rest W v q =
+      let h = held-of s T P N I M (v .fitting .roomy .held) in
+      let t0 : Dec.T (ltb a (2 ^ 32)) = and-l (ltb a (2 ^ 32)) (ltb b (2 ^ 32) && (ltb c (2 ^ 32) && true)) (v .fitting .small) in
+      let w1 : Dec.T (ltb b (2 ^ 32) && (ltb c (2 ^ 32) && true)) = and-r (ltb a (2 ^ 32)) (ltb b (2 ^ 32) && (ltb c (2 ^ 32) && true)) (v .fitting .small) in
+      let t1 : Dec.T (ltb b (2 ^ 32)) = and-l (ltb b (2 ^ 32)) (ltb c (2 ^ 32) && true) w1 in
+      let w2 : Dec.T (ltb c (2 ^ 32) && true) = and-r (ltb b (2 ^ 32)) (ltb c (2 ^ 32) && true) w1 in
+      let t2 : Dec.T (ltb c (2 ^ 32)) = and-l (ltb c (2 ^ 32)) true w2 in
+      row-more r 4 a b 0 c W h (v .fitting .roomy .clean) (q .reader) (row-same T (rowWidth * s .rows) (low a t0) (low b t1) refl (low c t2) (q .table))
+
+  fail-six : (r : Reader) (a b c d e f : ℕ) (rest W : List ℕ) → Ready here Fail (a ∷ b ∷ c ∷ d ∷ e ∷ f ∷ rest) → RowAdded s T a b c 0 6 r W
       → lent r W P N I M ≡ takenUp here Fail (a ∷ b ∷ c ∷ d ∷ e ∷ f ∷ rest)
   unfolding takenUp takeUp withLine form numbers countIn passesLimit
   fail-six r a b c d e f rest W v q =
@@ -174,9 +192,23 @@ module _ (s : Reader) (T P N I M : List ℕ) where
       let t0 : Dec.T (ltb a (2 ^ 32)) = and-l (ltb a (2 ^ 32)) (ltb b (2 ^ 32) && (ltb c (2 ^ 32) && true)) (v .fitting .small) in
       let w1 : Dec.T (ltb b (2 ^ 32) && (ltb c (2 ^ 32) && true)) = and-r (ltb a (2 ^ 32)) (ltb b (2 ^ 32) && (ltb c (2 ^ 32) && true)) (v .fitting .small) in
       let t1 : Dec.T (ltb b (2 ^ 32)) = and-l (ltb b (2 ^ 32)) (ltb c (2 ^ 32) && true) w1 in
-      let t2 : Dec.T (ltb c (2 ^ 32)) = and-l (ltb c (2 ^ 32)) true (and-r (ltb b (2 ^ 32)) (ltb c (2 ^ 32) && true) w1) in
-      row-more r 6 a b c W h (v .fitting .roomy .clean) (q .reader)
-      (three-same T (rowWidth * s .rows) (0 ∷ 0 ∷ []) (low a t0) (low b t1) (low c t2) (q .table))
+      let w2 : Dec.T (ltb c (2 ^ 32) && true) = and-r (ltb b (2 ^ 32)) (ltb c (2 ^ 32) && true) w1 in
+      let t2 : Dec.T (ltb c (2 ^ 32)) = and-l (ltb c (2 ^ 32)) true w2 in
+      row-more r 6 a b c 0 W h (v .fitting .roomy .clean) (q .reader) (row-same T (rowWidth * s .rows) (low a t0) (low b t1) (low c t2) refl (q .table))
+
+  fail-bin-six : (r : Reader) (a b c d e f : ℕ) (rest W : List ℕ) → Ready here FailBin (a ∷ b ∷ c ∷ d ∷ e ∷ f ∷ rest) → RowAdded s T a b c d 6 r W
+      → lent r W P N I M ≡ takenUp here FailBin (a ∷ b ∷ c ∷ d ∷ e ∷ f ∷ rest)
+  unfolding takenUp takeUp withLine form numbers countIn passesLimit
+  fail-bin-six r a b c d e f rest W v q =
+      let h = held-of s T P N I M (v .fitting .roomy .held) in
+      let t0 : Dec.T (ltb a (2 ^ 32)) = and-l (ltb a (2 ^ 32)) (ltb b (2 ^ 32) && (ltb c (2 ^ 32) && (ltb d (2 ^ 32) && true))) (v .fitting .small) in
+      let w1 : Dec.T (ltb b (2 ^ 32) && (ltb c (2 ^ 32) && (ltb d (2 ^ 32) && true))) = and-r (ltb a (2 ^ 32)) (ltb b (2 ^ 32) && (ltb c (2 ^ 32) && (ltb d (2 ^ 32) && true))) (v .fitting .small) in
+      let t1 : Dec.T (ltb b (2 ^ 32)) = and-l (ltb b (2 ^ 32)) (ltb c (2 ^ 32) && (ltb d (2 ^ 32) && true)) w1 in
+      let w2 : Dec.T (ltb c (2 ^ 32) && (ltb d (2 ^ 32) && true)) = and-r (ltb b (2 ^ 32)) (ltb c (2 ^ 32) && (ltb d (2 ^ 32) && true)) w1 in
+      let t2 : Dec.T (ltb c (2 ^ 32)) = and-l (ltb c (2 ^ 32)) (ltb d (2 ^ 32) && true) w2 in
+      let w3 : Dec.T (ltb d (2 ^ 32) && true) = and-r (ltb c (2 ^ 32)) (ltb d (2 ^ 32) && true) w2 in
+      let t3 : Dec.T (ltb d (2 ^ 32)) = and-l (ltb d (2 ^ 32)) true w3 in
+      row-more r 6 a b c d W h (v .fitting .roomy .clean) (q .reader) (row-same T (rowWidth * s .rows) (low a t0) (low b t1) (low c t2) (low d t3) (q .table))
 
   material-below : (a b c d e f : ℕ) (rest : List ℕ) → Ready here Material (a ∷ b ∷ c ∷ d ∷ e ∷ f ∷ rest) → a < length M
   unfolding form numbers countIn passesLimit
@@ -323,15 +355,25 @@ module _ (s : Reader) (T P N I M : List ℕ) where
         → ((ms : List ℕ) (x : Patterns) → passesLimit (s .limits) j ms x ≡ ltb (s .limits .face) (at ms 1) || leb (rowWidth * s .limits .rows) (length (x .table))) → k ≡ j → RowRoom s T
     open-room j is e = row-room j is ns (ready j e)
 
-    pub take-face : (r : Reader) (W : List ℕ) → k ≡ Face → RowAdded s T (getD ns 0 0) (getD ns 1 0) 0 4 r W → lent r W P N I M ≡ takenUp here k ns
+    pub take-face : (r : Reader) (W : List ℕ) → k ≡ Face → RowAdded s T (getD ns 0 0) (getD ns 1 0) 0 0 4 r W → lent r W P N I M ≡ takenUp here k ns
     take-face r W e q =
-        six (λ xs. Ready here Face xs → RowAdded s T (getD xs 0 0) (getD xs 1 0) 0 4 r W → lent r W P N I M ≡ takenUp here Face xs) (λ a b c d e f rest. face-six r a b c d e f rest W) ns
-        (v .fitting .long) (ready Face e) q ∙ back-to Face e
+        six (λ xs. Ready here Face xs → RowAdded s T (getD xs 0 0) (getD xs 1 0) 0 0 4 r W → lent r W P N I M ≡ takenUp here Face xs)
+        (λ a b c d e f rest. face-six r a b c d e f rest W) ns (v .fitting .long) (ready Face e) q ∙ back-to Face e
 
-    pub take-fail : (r : Reader) (W : List ℕ) → k ≡ Fail → RowAdded s T (getD ns 0 0) (getD ns 1 0) (getD ns 2 0) 6 r W → lent r W P N I M ≡ takenUp here k ns
+    pub take-face-bin : (r : Reader) (W : List ℕ) → k ≡ FaceBin → RowAdded s T (getD ns 0 0) (getD ns 1 0) 0 (getD ns 2 0) 4 r W → lent r W P N I M ≡ takenUp here k ns
+    take-face-bin r W e q =
+        six (λ xs. Ready here FaceBin xs → RowAdded s T (getD xs 0 0) (getD xs 1 0) 0 (getD xs 2 0) 4 r W → lent r W P N I M ≡ takenUp here FaceBin xs)
+        (λ a b c d e f rest. face-bin-six r a b c d e f rest W) ns (v .fitting .long) (ready FaceBin e) q ∙ back-to FaceBin e
+
+    pub take-fail : (r : Reader) (W : List ℕ) → k ≡ Fail → RowAdded s T (getD ns 0 0) (getD ns 1 0) (getD ns 2 0) 0 6 r W → lent r W P N I M ≡ takenUp here k ns
     take-fail r W e q =
-        six (λ xs. Ready here Fail xs → RowAdded s T (getD xs 0 0) (getD xs 1 0) (getD xs 2 0) 6 r W → lent r W P N I M ≡ takenUp here Fail xs) (λ a b c d e f rest. fail-six r a b c d e f rest W) ns
-        (v .fitting .long) (ready Fail e) q ∙ back-to Fail e
+        six (λ xs. Ready here Fail xs → RowAdded s T (getD xs 0 0) (getD xs 1 0) (getD xs 2 0) 0 6 r W → lent r W P N I M ≡ takenUp here Fail xs)
+        (λ a b c d e f rest. fail-six r a b c d e f rest W) ns (v .fitting .long) (ready Fail e) q ∙ back-to Fail e
+
+    pub take-fail-bin : (r : Reader) (W : List ℕ) → k ≡ FailBin → RowAdded s T (getD ns 0 0) (getD ns 1 0) (getD ns 2 0) (getD ns 3 0) 6 r W → lent r W P N I M ≡ takenUp here k ns
+    take-fail-bin r W e q =
+        six (λ xs. Ready here FailBin xs → RowAdded s T (getD xs 0 0) (getD xs 1 0) (getD xs 2 0) (getD xs 3 0) 6 r W → lent r W P N I M ≡ takenUp here FailBin xs)
+        (λ a b c d e f rest. fail-bin-six r a b c d e f rest W) ns (v .fitting .long) (ready FailBin e) q ∙ back-to FailBin e
 
     pub vertex-room : k ≡ Vertex → VertexRoom s T P N ns
     vertex-room e = six (λ xs. Ready here Vertex xs → VertexRoom s T P N xs) vertex-six-room ns (v .fitting .long) (ready Vertex e)
@@ -353,7 +395,8 @@ module _ (s : Reader) (T P N I M : List ℕ) where
 pub material-set : (M : List ℕ) (face material x : ℕ) → x ≡ material % 2 ^ 32 + 1 → set M face x ≡ set M face (material % 2 ^ 32 + 1)
 material-set M face material x e = ap (set M face) e
 
-pub row-added : (s : Reader) (T W : List ℕ) (shell face outcome place a b c : ℕ) → a ≡ shell % 2 ^ 32 → b ≡ face % 2 ^ 32 → c ≡ outcome % 2 ^ 32
-    → W ≡ placed T (rowWidth * s .rows) (a ∷ b ∷ c ∷ 0 ∷ 0 ∷ []) → RowAdded s T shell face outcome place (moved s place (s .rows + 1) (s .vertices) (s .indices) (s .default) (s .sag)) W
-row-added s T W shell face outcome place a b c p q r e =
-    record { reader = refl; table = three-same T (rowWidth * s .rows) (0 ∷ 0 ∷ []) p q r e }
+pub row-added : (s : Reader) (T W : List ℕ) (shell face outcome bin place a b c d : ℕ) → a ≡ shell % 2 ^ 32 → b ≡ face % 2 ^ 32 → c ≡ outcome % 2 ^ 32 → d ≡ bin % 2 ^ 32
+    → W ≡ placed T (rowWidth * s .rows) (a ∷ b ∷ c ∷ 0 ∷ 0 ∷ d ∷ [])
+    → RowAdded s T shell face outcome bin place (moved s place (s .rows + 1) (s .vertices) (s .indices) (s .default) (s .sag)) W
+row-added s T W shell face outcome bin place a b c d p q r t e =
+    record { reader = refl; table = row-same T (rowWidth * s .rows) p q r t e }

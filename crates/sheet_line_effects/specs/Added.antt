@@ -38,9 +38,9 @@ pub record RowRoom (r : Reader) (T : List ℕ) : Type 0 where
   pub table : rowWidth * r .rows + rowWidth ≤ length T
 
 -- a row was added
-pub record RowAdded (r : Reader) (T : List ℕ) (shell face outcome place : ℕ) (s : Reader) (W : List ℕ) : Type 0 where
+pub record RowAdded (r : Reader) (T : List ℕ) (shell face outcome bin place : ℕ) (s : Reader) (W : List ℕ) : Type 0 where
   pub reader : s ≡ moved r place (r .rows + 1) (r .vertices) (r .indices) (r .default) (r .sag)
-  pub table : W ≡ placed T (rowWidth * r .rows) (shell % 2 ^ 32 ∷ face % 2 ^ 32 ∷ outcome % 2 ^ 32 ∷ 0 ∷ 0 ∷ [])
+  pub table : W ≡ placed T (rowWidth * r .rows) (shell % 2 ^ 32 ∷ face % 2 ^ 32 ∷ outcome % 2 ^ 32 ∷ 0 ∷ 0 ∷ bin % 2 ^ 32 ∷ [])
 
 -- room for a vertex more
 pub record VertexRoom (r : Reader) (T P N numbers : List ℕ) : Type 0 where

@@ -67,12 +67,27 @@ fn set_material(materials: &mut [u64], face: u64, material: u64)
 }
 
 // A row without a vertex, and the place after it.
-fn add_row(s: Reader, table: &mut [u32], shell: u64, face: u64, outcome: u64, place: u32) -> Reader
+fn add_row(
+    s: Reader,
+    table: &mut [u32],
+    shell: u64,
+    face: u64,
+    outcome: u64,
+    bin: u64,
+    place: u32,
+) -> Reader
     requires { ⌜ RowRoom s (now table) ⌝ }
-    ensures { λ r. ⌜ RowAdded s (now (table .entry)) shell face outcome place r (now (table .exit)) ⌝ }
+    ensures { λ r. ⌜ RowAdded s (now (table .entry)) shell face outcome bin place r (now (table .exit)) ⌝ }
 {
     let rows = s.rows;
-    store_row(table, ROW_WIDTH * rows, low(shell), low(face), low(outcome));
+    store_row(
+        table,
+        ROW_WIDTH * rows,
+        low(shell),
+        low(face),
+        low(outcome),
+        low(bin),
+    );
     let mut t = s;
     t.rows = rows + 1;
     t.place = place;
@@ -141,9 +156,11 @@ pub fn take_up(
             set_material(materials, numbers[0], numbers[1]);
             s
         }
-        Kind::Face => add_row(s, table, numbers[0], numbers[1], 0, 4),
+        Kind::Face => add_row(s, table, numbers[0], numbers[1], 0, 0, 4),
+        Kind::FaceBin => add_row(s, table, numbers[0], numbers[1], 0, numbers[2], 4),
         Kind::Vertex => add_vertex(s, table, positions, normals, numbers),
         Kind::Triangle => add_triangle(s, table, indices, numbers),
-        Kind::Fail => add_row(s, table, numbers[0], numbers[1], numbers[2], 6),
+        Kind::Fail => add_row(s, table, numbers[0], numbers[1], numbers[2], 0, 6),
+        Kind::FailBin => add_row(s, table, numbers[0], numbers[1], numbers[2], numbers[3], 6),
     }
 }

@@ -49,8 +49,16 @@ claims =
     ∷ case 8 (reading (times 16 face) ∷ reading (times 17 face) ∷ reading (face ∷ times 32 triangle) ∷ reading (face ∷ times 33 triangle) ∷ []) (0 ∷ 52 ∷ 0 ∷ 52 ∷ [])
     ∷ case 9 (sheetOf benchLimits (sheet (bytes "(material 1 5)" ∷ bytes "(material 2 0)" ∷ bytes "(material 1 6)" ∷ [])) .sheet .default
     ∷ take 4 (sheetOf benchLimits (sheet (bytes "(material 1 5)" ∷ bytes "(material 2 0)" ∷ bytes "(material 1 6)" ∷ [])) .sheet .materials)) (3 ∷ 0 ∷ 7 ∷ 1 ∷ 0 ∷ [])
-    ∷ case 10 (sheetOf benchLimits (sheet (face ∷ vertex ∷ vertex ∷ triangle ∷ bytes "(fail 8 9 3)" ∷ [])) .sheet .table) (0 ∷ 63 ∷ 0 ∷ 2 ∷ 3 ∷ 8 ∷ 9 ∷ 3 ∷ 0 ∷ 0 ∷ [])
+    ∷ case 10 (sheetOf benchLimits (sheet (face ∷ vertex ∷ vertex ∷ triangle ∷ bytes "(fail 8 9 3)" ∷ [])) .sheet .table) (0 ∷ 63 ∷ 0 ∷ 2 ∷ 3 ∷ 0 ∷ 8 ∷ 9 ∷ 3 ∷ 0 ∷ 0 ∷ 0 ∷ [])
     ∷ case 11 (yard (bytes "(face 0 4095)" ∷ []) ∷ yard (bytes "(face 0 4096)" ∷ []) ∷ yard (times 256 (bytes "(fail 0 64 1)")) ∷ yard (times 257 (bytes "(fail 0 64 1)")) ∷ []) (0 ∷ 52 ∷ 0 ∷ 52 ∷ [])
+    ∷ case 12 (sheetOf benchLimits (sheet (bytes "(face 0 7 65535)" ∷ vertex ∷ triangle ∷ bytes "(fail 8 9 3 6)" ∷ bytes "(face 0 0 0)" ∷ [])) .sheet .table)
+    (0 ∷ 7 ∷ 0 ∷ 1 ∷ 3 ∷ 65535 ∷ 8 ∷ 9 ∷ 3 ∷ 0 ∷ 0 ∷ 6 ∷ 0 ∷ 0 ∷ 0 ∷ 0 ∷ 0 ∷ 0 ∷ [])
+    ∷ case 13 (reading (bytes "(face 0 7 65536)" ∷ []) ∷ reading (bytes "(face 0 7 4294967295)" ∷ []) ∷ reading (bytes "(face 0 7 4294967296)" ∷ [])
+    ∷ reading (bytes "(fail 0 7 256 65536)" ∷ []) ∷ reading (bytes "(fail 0 7 3 4294967296)" ∷ []) ∷ []) (0 ∷ 0 ∷ 51 ∷ 0 ∷ 51 ∷ [])
+    ∷ case 14 (reading (bytes "(face 0 64 65536)" ∷ []) ∷ reading (bytes "(fail 0 64 3 0)" ∷ []) ∷ reading (bytes "(fail 0 7 0 3)" ∷ []) ∷ reading (bytes "(fail 0 64 0 3)" ∷ [])
+    ∷ reading (bytes "(face 0 7 65536)" ∷ bytes "(face" ∷ []) ∷ []) (52 ∷ 52 ∷ 51 ∷ 51 ∷ 51 ∷ [])
+    ∷ case 15 (reading (bytes "(face 0 7 3 0)" ∷ []) ∷ reading (bytes "(fail 0 7 3 0 0)" ∷ []) ∷ reading (bytes "(face 0 7 03)" ∷ []) ∷ reading (bytes "(face 0 7 )" ∷ [])
+    ∷ reading (bytes "(fail 0 7)" ∷ []) ∷ reading (bytes "(fail 8 9 3 6)" ∷ vertex ∷ []) ∷ reading (times 17 (bytes "(face 0 7 1)")) ∷ []) (51 ∷ 51 ∷ 51 ∷ 51 ∷ 51 ∷ 51 ∷ 52 ∷ [])
     ∷ []
 
 -- The definitions yield each.

@@ -8,7 +8,7 @@ use lib.Dec.{leb, ltb, eqb}
 use Rattle.body_rows.specs.Body.{rowWidth, verticesBack, indicesBack, check, firstFailing}
 use Rattle.sheet_lines.specs.Forms.{Line, lineOf}
 use Rattle.sheet_lines.specs.declared.Kind.{Kind}
-use Rattle.sheet_lines.specs.declared.Kind.the-variants.{Box, Sag, NoDefault, Default, Material, Face, Vertex, Triangle, Fail}
+use Rattle.sheet_lines.specs.declared.Kind.the-variants.{Box, Sag, NoDefault, Default, Material, Face, FaceBin, Vertex, Triangle, Fail, FailBin}
 use Rattle.sheet_line_order.specs.declared.Limits.{Limits}
 
 -- the sheet as its lines give it: floats are bits, the box's minimum and maximum three each; of default and materials 0 is none, n + 1 is material n
@@ -43,9 +43,11 @@ orderOf NoDefault = order 2 2 3
 orderOf Default = order 2 2 3
 orderOf Material = order 3 3 3
 orderOf Face = order 3 6 4
+orderOf FaceBin = order 3 6 4
 orderOf Vertex = order 4 4 4
 orderOf Triangle = order 4 5 5
 orderOf Fail = order 3 6 6
+orderOf FailBin = order 3 6 6
 
 -- whether a kind may stand at a place
 abbrev pub inOrder : ℕ → Kind → Bool
@@ -57,7 +59,7 @@ inOrder place k = leb (orderOf k .first) place && leb place (orderOf k .last)
 abbrev pub at : List ℕ → ℕ → ℕ
 at ns i = getD ns i 0
 
--- the table with n more in the last row's count that stands `back` from the end: 2 for vertices, 1 for indices
+-- the table with n more in the last row's count that stands `back` from the end
 unfoldable pub raised : ℕ → ℕ → List ℕ → List ℕ
 raised back n table = let i = length table - back in set table i (at table i + n)
 
@@ -66,7 +68,12 @@ abbrev pub patterns : List ℕ → ℕ → ℕ → List ℕ → List ℕ → Lis
 patterns box sag default materials table ps ns is =
     record { box = box; sag = sag; default = default; materials = materials; table = table; positions = ps; normals = ns; indices = is }
 
--- What each line means; a later material line replaces.
+-- a row without a vertex behind the table: its shell, face, outcome and bin
+abbrev pub withRow : ℕ → ℕ → ℕ → ℕ → Patterns → Patterns
+withRow shell face outcome bin x =
+    patterns (x .box) (x .sag) (x .default) (x .materials) (x .table ++ shell ∷ face ∷ outcome ∷ 0 ∷ 0 ∷ bin ∷ []) (x .positions) (x .normals) (x .indices)
+
+-- What each line means; a later material line replaces, and without its number the bin is 0.
 unfoldable pub withLine : Kind → List ℕ → Patterns → Patterns
 withLine Box ns x = patterns ns (x .sag) (x .default) (x .materials) (x .table) (x .positions) (x .normals) (x .indices)
 withLine Sag ns x = patterns (x .box) (at ns 0) (x .default) (x .materials) (x .table) (x .positions) (x .normals) (x .indices)
@@ -74,14 +81,18 @@ withLine NoDefault ns x = patterns (x .box) (x .sag) 0 (x .materials) (x .table)
 withLine Default ns x = patterns (x .box) (x .sag) (at ns 0 + 1) (x .materials) (x .table) (x .positions) (x .normals) (x .indices)
 withLine Material ns x =
     patterns (x .box) (x .sag) (x .default) (set (x .materials) (at ns 0) (at ns 1 + 1)) (x .table) (x .positions) (x .normals) (x .indices)
-withLine Face ns x =
-    patterns (x .box) (x .sag) (x .default) (x .materials) (x .table ++ at ns 0 ∷ at ns 1 ∷ 0 ∷ 0 ∷ 0 ∷ []) (x .positions) (x .normals) (x .indices)
+withLine Face ns x = withRow (at ns 0) (at ns 1) 0 0 x
+withLine FaceBin ns x = withRow (at ns 0) (at ns 1) 0 (at ns 2) x
 withLine Vertex ns x =
     patterns (x .box) (x .sag) (x .default) (x .materials) (raised verticesBack 1 (x .table)) (x .positions ++ take 3 ns) (x .normals ++ drop 3 ns) (x .indices)
 withLine Triangle ns x =
     patterns (x .box) (x .sag) (x .default) (x .materials) (raised indicesBack 3 (x .table)) (x .positions) (x .normals) (x .indices ++ ns)
-withLine Fail ns x =
-    patterns (x .box) (x .sag) (x .default) (x .materials) (x .table ++ at ns 0 ∷ at ns 1 ∷ at ns 2 ∷ 0 ∷ 0 ∷ []) (x .positions) (x .normals) (x .indices)
+withLine Fail ns x = withRow (at ns 0) (at ns 1) (at ns 2) 0 x
+withLine FailBin ns x = withRow (at ns 0) (at ns 1) (at ns 2) (at ns 3) x
+
+-- a row more, of that face number, passes a limit
+abbrev pub rowPasses : Limits → ℕ → Patterns → Bool
+rowPasses limits face x = ltb (limits .face) face || leb (rowWidth * limits .rows) (length (x .table))
 
 -- 52: it passes a program limit: a face number above its limit, or a row, a vertex or three indices more than the limit
 unfoldable pub passesLimit : Limits → Kind → List ℕ → Patterns → Bool
@@ -90,10 +101,12 @@ passesLimit limits Sag ns x = false
 passesLimit limits NoDefault ns x = false
 passesLimit limits Default ns x = false
 passesLimit limits Material ns x = ltb (limits .face) (at ns 0)
-passesLimit limits Face ns x = ltb (limits .face) (at ns 1) || leb (rowWidth * limits .rows) (length (x .table))
+passesLimit limits Face ns x = rowPasses limits (at ns 1) x
+passesLimit limits FaceBin ns x = rowPasses limits (at ns 1) x
 passesLimit limits Vertex ns x = leb (3 * limits .vertices) (length (x .positions))
 passesLimit limits Triangle ns x = ltb (limits .indices) (length (x .indices) + 3)
-passesLimit limits Fail ns x = ltb (limits .face) (at ns 1) || leb (rowWidth * limits .rows) (length (x .table))
+passesLimit limits Fail ns x = rowPasses limits (at ns 1) x
+passesLimit limits FailBin ns x = rowPasses limits (at ns 1) x
 
 -- a fail line with number 0
 unfoldable pub failsWithZero : Kind → List ℕ → Bool
@@ -103,9 +116,11 @@ failsWithZero NoDefault ns = false
 failsWithZero Default ns = false
 failsWithZero Material ns = false
 failsWithZero Face ns = false
+failsWithZero FaceBin ns = false
 failsWithZero Vertex ns = false
 failsWithZero Triangle ns = false
 failsWithZero Fail ns = eqb (at ns 2) 0
+failsWithZero FailBin ns = eqb (at ns 2) 0
 
 -- ---- line by line
 

@@ -13,7 +13,7 @@ use Rattle.body_rows.specs.Body.{rowWidth, firstFailing}
 use Rattle.sheet_lines.specs.Counted.{countIn}
 use Rattle.sheet_lines.specs.Forms.{form, numbers}
 use Rattle.sheet_lines.specs.declared.Kind.{Kind}
-use Rattle.sheet_lines.specs.declared.Kind.the-variants.{Material, Vertex, Triangle, Fail}
+use Rattle.sheet_lines.specs.declared.Kind.the-variants.{Material, Vertex, Triangle, Fail, FailBin}
 use Rattle.sheet_line_order.specs.declared.Limits.{Limits}
 use Rattle.sheet_line_order.specs.Reading.{Patterns, State, failsWithZero, inOrder, lineRefusal, orderOf, passesLimit}
 use Rattle.sheet_line_order.specs.Refusals.{Limit, Refusal}
@@ -34,6 +34,11 @@ fails-as j N b k e q = subst (λ (i : Kind). b ≡ failsWithZero i (take (countI
 pub fails-fail : (N : List ℕ) → eqb (getD N 2 0) 0 ≡ failsWithZero Fail (take (countIn (form Fail)) N)
 unfolding failsWithZero form numbers countIn
 fails-fail N = ap (λ (n : ℕ). eqb n 0) (sym (getD-take 3 N 2 0 (omega arith)))
+
+-- the same with a bin
+pub fails-bin : (N : List ℕ) → eqb (getD N 2 0) 0 ≡ failsWithZero FailBin (take (countIn (form FailBin)) N)
+unfolding failsWithZero form numbers countIn
+fails-bin N = ap (λ (n : ℕ). eqb n 0) (sym (getD-take 4 N 2 0 (omega arith)))
 
 -- ---- limits
 

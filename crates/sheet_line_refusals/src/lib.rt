@@ -23,9 +23,11 @@ fn first_place(k: Kind) -> u32
         Kind::Default => 2,
         Kind::Material => 3,
         Kind::Face => 3,
+        Kind::FaceBin => 3,
         Kind::Vertex => 4,
         Kind::Triangle => 4,
         Kind::Fail => 3,
+        Kind::FailBin => 3,
     }
 }
 
@@ -40,9 +42,11 @@ fn last_place(k: Kind) -> u32
         Kind::Default => 2,
         Kind::Material => 3,
         Kind::Face => 6,
+        Kind::FaceBin => 6,
         Kind::Vertex => 4,
         Kind::Triangle => 5,
         Kind::Fail => 6,
+        Kind::FailBin => 6,
     }
 }
 
@@ -68,9 +72,11 @@ fn fails_with_zero(k: Kind, numbers: &[u64]) -> bool
         Kind::Default => false,
         Kind::Material => false,
         Kind::Face => false,
+        Kind::FaceBin => false,
         Kind::Vertex => false,
         Kind::Triangle => false,
         Kind::Fail => numbers[2] == 0,
+        Kind::FailBin => numbers[2] == 0,
     }
 }
 
@@ -113,9 +119,11 @@ fn passes_limit(
         Kind::Default => false,
         Kind::Material => limits.face < numbers[0],
         Kind::Face => row_passes(limits, rows, numbers[1]),
+        Kind::FaceBin => row_passes(limits, rows, numbers[1]),
         Kind::Vertex => limits.vertices <= vertices,
         Kind::Triangle => triangle_passes(limits.indices, indices),
         Kind::Fail => row_passes(limits, rows, numbers[1]),
+        Kind::FailBin => row_passes(limits, rows, numbers[1]),
     }
 }
 

@@ -6,7 +6,7 @@ use mathlib.Core.Path.{_≡_, refl, sym, _∙_, ap}
 use Prim.Native.Nat.{ℕ}
 use lib.ListN.{take}
 use Rattle.sheet_lines.specs.declared.Kind.{Kind}
-use Rattle.sheet_lines.specs.declared.Kind.the-variants.{Box, Sag, NoDefault, Default, Material, Face, Vertex, Triangle, Fail}
+use Rattle.sheet_lines.specs.declared.Kind.the-variants.{Box, Sag, NoDefault, Default, Material, Face, FaceBin, Vertex, Triangle, Fail, FailBin}
 use Rattle.sheet_lines.specs.declared.kinds.Given.{Given}
 use Rattle.sheet_lines.specs.declared.kinds.Given.the-variants as Given
 use Rattle.sheet_lines.specs.Forms.{Line, form, lineAmong, lineOf, numbers, read}
@@ -22,9 +22,11 @@ pattern-count NoDefault = refl
 pattern-count Default = refl
 pattern-count Material = refl
 pattern-count Face = refl
+pattern-count FaceBin = refl
 pattern-count Vertex = refl
 pattern-count Triangle = refl
 pattern-count Fail = refl
+pattern-count FailBin = refl
 
 module _ (k : Kind) (line N : List ℕ) (r : Bool) (v : Scanned (pieces (pattern k)) line N r) where
   -- the line has not this kind's form
@@ -67,7 +69,7 @@ past-rest all ks line o p e = e ∙ sym (p .left)
 
 -- all kinds
 abbrev pub kinds : List Kind
-kinds = Box ∷ Sag ∷ NoDefault ∷ Default ∷ Material ∷ Face ∷ Vertex ∷ Triangle ∷ Fail ∷ []
+kinds = Box ∷ Sag ∷ NoDefault ∷ Default ∷ Material ∷ Vertex ∷ Triangle ∷ Face ∷ FaceBin ∷ Fail ∷ FailBin ∷ []
 
 pub of-any : (line : List ℕ) (o : Option Line) → o ≡ lineAmong kinds line → o ≡ lineOf line
 unfolding lineOf

@@ -5,7 +5,7 @@ use mathlib.Core.Option.{Option, none, some}
 use Prim.Native.Nat.{ℕ, zero, suc}
 use lib.Dec.{eqb}
 use Rattle.sheet_lines.specs.declared.Kind.{Kind}
-use Rattle.sheet_lines.specs.declared.Kind.the-variants.{Box, Sag, NoDefault, Default, Material, Face, Vertex, Triangle, Fail}
+use Rattle.sheet_lines.specs.declared.Kind.the-variants.{Box, Sag, NoDefault, Default, Material, Face, FaceBin, Vertex, Triangle, Fail, FailBin}
 use Rattle.sheet_digits.specs.Bytes.{bytes}
 use Rattle.sheet_digits.specs.Digits.{Found, hex, decimal, readHex, readDecimal}
 
@@ -68,7 +68,7 @@ numbers (suc k) = Number ∷ numbers k
 abbrev pub triangleForm : List Piece
 triangleForm = Word (bytes "(t") ∷ numbers 3
 
--- The form of each kind: floats are upper-case hex bits, other numbers decimal below 2^32 without leading zeros; - is no default.
+-- The form of each kind: floats are upper-case hex bits, other numbers decimal below 2^32 without leading zeros; - is no default, and a face or a fail line may have a bin as its last number.
 unfoldable pub form : Kind → List Piece
 form Box = Word (bytes "(box") ∷ Bits 16 ∷ Bits 16 ∷ Bits 16 ∷ Bits 16 ∷ Bits 16 ∷ Bits 16 ∷ Word (bytes ")") ∷ []
 form Sag = Word (bytes "(sag") ∷ Bits 16 ∷ Word (bytes ")") ∷ []
@@ -76,9 +76,11 @@ form NoDefault = Word (bytes "(default -)") ∷ []
 form Default = Word (bytes "(default") ∷ numbers 1
 form Material = Word (bytes "(material") ∷ numbers 2
 form Face = Word (bytes "(face") ∷ numbers 2
+form FaceBin = Word (bytes "(face") ∷ numbers 3
 form Vertex = vertexForm
 form Triangle = triangleForm
 form Fail = Word (bytes "(fail") ∷ numbers 3
+form FailBin = Word (bytes "(fail") ∷ numbers 4
 
 -- a line that was read: its kind and its numbers
 pub record Line : Type 0 where
@@ -92,4 +94,4 @@ lineAmong (k ∷ ks) xs = elim (read (form k) xs) [ none ↦ lineAmong ks xs | s
 
 -- a line of the sheet; at most one form fits
 unfoldable pub lineOf : List ℕ → Option Line
-lineOf xs = lineAmong (Box ∷ Sag ∷ NoDefault ∷ Default ∷ Material ∷ Face ∷ Vertex ∷ Triangle ∷ Fail ∷ []) xs
+lineOf xs = lineAmong (Box ∷ Sag ∷ NoDefault ∷ Default ∷ Material ∷ Vertex ∷ Triangle ∷ Face ∷ FaceBin ∷ Fail ∷ FailBin ∷ []) xs

@@ -11,7 +11,7 @@ use Rattle.sheet_digits.specs.Lengths.{hex-length, number-length}
 use Rattle.sheet_digits.specs.Digits.{Found, readHex, readDecimal}
 use Rattle.sheet_lines.specs.Forms.{Piece, Word, Bits, Number, Line, afterWord, spaced, read, form, numbers, lineAmong, lineOf}
 use Rattle.sheet_lines.specs.declared.Kind.{Kind}
-use Rattle.sheet_lines.specs.declared.Kind.the-variants.{Box, Sag, NoDefault, Default, Material, Face, Vertex, Triangle, Fail}
+use Rattle.sheet_lines.specs.declared.Kind.the-variants.{Box, Sag, NoDefault, Default, Material, Face, FaceBin, Vertex, Triangle, Fail, FailBin}
 
 pub word-length : (w xs rest : List ℕ) → afterWord w xs ≡ some rest → length xs ≡ length w + length rest
 unfolding afterWord
@@ -75,9 +75,11 @@ form-length NoDefault = omega arith
 form-length Default = omega arith
 form-length Material = omega arith
 form-length Face = omega arith
+form-length FaceBin = omega arith
 form-length Vertex = omega arith
 form-length Triangle = omega arith
 form-length Fail = omega arith
+form-length FailBin = omega arith
 
 among-length : (ks : List Kind) (xs : List ℕ) (l : Line) → lineAmong ks xs ≡ some l → length xs ≤ 107
 unfolding lineAmong

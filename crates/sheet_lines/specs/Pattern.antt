@@ -9,7 +9,7 @@ use lib.Dec.{eqb}
 use Rattle.sheet_digits.specs.Bytes.{bytes}
 use Rattle.sheet_digits.specs.Digits.{Found, found, hex, decimal, readHex, readDecimal}
 use Rattle.sheet_lines.specs.declared.Kind.{Kind}
-use Rattle.sheet_lines.specs.declared.Kind.the-variants.{Box, Sag, NoDefault, Default, Material, Face, Vertex, Triangle, Fail}
+use Rattle.sheet_lines.specs.declared.Kind.the-variants.{Box, Sag, NoDefault, Default, Material, Face, FaceBin, Vertex, Triangle, Fail, FailBin}
 use Rattle.sheet_lines.specs.Forms.{Piece, Word, Bits, Number, print, line, afterWord, spaced, read, form, numbers}
 
 -- what a byte of such a text stands for
@@ -28,13 +28,19 @@ pattern NoDefault = bytes "(default -)"
 pattern Default = bytes "(default#)"
 pattern Material = bytes "(material##)"
 pattern Face = bytes "(face##)"
+pattern FaceBin = bytes "(face###)"
 pattern Vertex = bytes "(v (p***) (n***))"
 pattern Triangle = bytes "(t###)"
 pattern Fail = bytes "(fail###)"
+pattern FailBin = bytes "(fail####)"
+
+-- the kinds of the lines that open a row
+abbrev pub opening : List Kind
+opening = Face ∷ FaceBin ∷ Fail ∷ FailBin ∷ []
 
 -- the kinds of the lines after the default
 abbrev pub later : List Kind
-later = Material ∷ Face ∷ Vertex ∷ Triangle ∷ Fail ∷ []
+later = Material ∷ Vertex ∷ Triangle ∷ opening
 
 -- ---- one piece
 
@@ -141,9 +147,11 @@ pattern-form NoDefault = refl
 pattern-form Default = refl
 pattern-form Material = refl
 pattern-form Face = refl
+pattern-form FaceBin = refl
 pattern-form Vertex = refl
 pattern-form Triangle = refl
 pattern-form Fail = refl
+pattern-form FailBin = refl
 
 pub pattern-read : (k : Kind) (xs : List ℕ) → read (pieces (pattern k)) xs ≡ read (form k) xs
 pattern-read k xs = ap (λ (ps : List Piece). read ps xs) (pattern-form k) ∙ read-split (form k) xs

@@ -11,7 +11,7 @@ use Rattle.sheet_digits.specs.ReadBack.{readHex-hex, readDecimal-decimal, noDig
 use Rattle.sheet_digits.specs.Digits.{digitOf}
 use Rattle.sheet_lines.specs.Forms.{Piece, Word, Bits, Number, print, afterWord, spaced, read, form, numbers}
 use Rattle.sheet_lines.specs.declared.Kind.{Kind}
-use Rattle.sheet_lines.specs.declared.Kind.the-variants.{Box, Sag, NoDefault, Default, Material, Face, Vertex, Triangle, Fail}
+use Rattle.sheet_lines.specs.declared.Kind.the-variants.{Box, Sag, NoDefault, Default, Material, Face, FaceBin, Vertex, Triangle, Fail, FailBin}
 
 -- ---- lines
 
@@ -80,6 +80,8 @@ forms-read-back NoDefault = tt
 forms-read-back Default = tt
 forms-read-back Material = tt
 forms-read-back Face = tt
+forms-read-back FaceBin = tt
 forms-read-back Vertex = tt
 forms-read-back Triangle = tt
 forms-read-back Fail = tt
+forms-read-back FailBin = tt

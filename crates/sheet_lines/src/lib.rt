@@ -12,7 +12,7 @@ pub use kinds::line_of;
 pub use scanning::scan;
 pub use writing::put_line;
 
-// The kinds of lines of a sheet, in their order.
+// The kinds of lines of a sheet, in their order; a face or a fail line with a bin is a kind of its own.
 pub enum Kind {
     Box,
     Sag,
@@ -20,7 +20,9 @@ pub enum Kind {
     Default,
     Material,
     Face,
+    FaceBin,
     Vertex,
     Triangle,
     Fail,
+    FailBin,
 }

@@ -13,7 +13,7 @@ use Rattle.body_rows.specs.Body.{rowWidth, verticesBack, indicesBack}
 use Rattle.sheet_lines.specs.Counted.{countIn, line-count}
 use Rattle.sheet_lines.specs.Forms.{Line, form, lineOf, numbers}
 use Rattle.sheet_lines.specs.declared.Kind.{Kind}
-use Rattle.sheet_lines.specs.declared.Kind.the-variants.{Box, Sag, NoDefault, Default, Material, Face, Vertex, Triangle, Fail}
+use Rattle.sheet_lines.specs.declared.Kind.the-variants.{Box, Sag, NoDefault, Default, Material, Face, FaceBin, Vertex, Triangle, Fail, FailBin}
 use Rattle.sheet_reader_state.specs.declared.Reader.{Reader}
 use Rattle.sheet_line_order.specs.declared.Limits.{Limits}
 use Rattle.sheet_line_order.specs.Laws.{line-limits}
@@ -120,13 +120,14 @@ module _ (s : State) (v : Sized s) where
       }
 
   -- a row more
-  row-more : (x : Patterns) (place a b c : ℕ) → x .box ≡ s .sheet .box → x .materials ≡ s .sheet .materials → x .table ≡ s .sheet .table ++ a ∷ b ∷ c ∷ 0 ∷ 0 ∷ [] → x .positions ≡ s .sheet .positions
+  row-more : (x : Patterns) (place a b c bin : ℕ) → x .box ≡ s .sheet .box → x .materials ≡ s .sheet .materials
+      → x .table ≡ s .sheet .table ++ a ∷ b ∷ c ∷ 0 ∷ 0 ∷ bin ∷ [] → x .positions ≡ s .sheet .positions
       → x .normals ≡ s .sheet .normals → x .indices ≡ s .sheet .indices
       → (d : Bool) → d || leb (rowWidth * s .limits .rows) (length (s .sheet .table)) ≡ false → Sized (record { limits = s .limits; refusal = 0; place = place; sheet = x })
-  row-more x place a b c e m t p n i d l =
+  row-more x place a b c bin e m t p n i d l =
       let few : length (s .sheet .table) < rowWidth * s .limits .rows =
       leb-false (rowWidth * s .limits .rows) (length (s .sheet .table)) (or-right d (leb (rowWidth * s .limits .rows) (length (s .sheet .table))) l) in
-      let row : List ℕ = a ∷ b ∷ c ∷ 0 ∷ 0 ∷ [] in
+      let row : List ℕ = a ∷ b ∷ c ∷ 0 ∷ 0 ∷ bin ∷ [] in
       let three : rowWidth * (v .rows + 1) - verticesBack ≡ rowWidth * v .rows + 3 = omega arith in
       let four : rowWidth * (v .rows + 1) - indicesBack ≡ rowWidth * v .rows + 4 = omega arith in
       record {
@@ -234,10 +235,12 @@ module _ (s : State) (v : Sized s) where
   sized-take NoDefault ns c p = header NoDefault (withLine NoDefault ns (s .sheet)) (v .box) (v .materials) refl refl refl refl (omega arith)
   sized-take Default ns c p = header Default (withLine Default ns (s .sheet)) (v .box) (v .materials) refl refl refl refl (omega arith)
   sized-take Material ns c p = header Material (withLine Material ns (s .sheet)) (v .box) (length-set (s .sheet .materials) (at ns 0) (at ns 1 + 1) ∙ v .materials) refl refl refl refl (omega arith)
-  sized-take Face ns c p = row-more (withLine Face ns (s .sheet)) 4 (at ns 0) (at ns 1) 0 refl refl refl refl refl refl (ltb (s .limits .face) (at ns 1)) (p .limit)
+  sized-take Face ns c p = row-more (withLine Face ns (s .sheet)) 4 (at ns 0) (at ns 1) 0 0 refl refl refl refl refl refl (ltb (s .limits .face) (at ns 1)) (p .limit)
+  sized-take FaceBin ns c p = row-more (withLine FaceBin ns (s .sheet)) 4 (at ns 0) (at ns 1) 0 (at ns 2) refl refl refl refl refl refl (ltb (s .limits .face) (at ns 1)) (p .limit)
   sized-take Vertex ns c p = vertex-more ns c (omega (arith, leb-true 4 (s .place) (and-left (leb 4 (s .place)) (leb (s .place) 4) (p .order)))) (p .limit)
   sized-take Triangle ns c p = triangle-more ns c (omega (arith, leb-true 4 (s .place) (and-left (leb 4 (s .place)) (leb (s .place) 5) (p .order)))) (p .limit)
-  sized-take Fail ns c p = row-more (withLine Fail ns (s .sheet)) 6 (at ns 0) (at ns 1) (at ns 2) refl refl refl refl refl refl (ltb (s .limits .face) (at ns 1)) (p .limit)
+  sized-take Fail ns c p = row-more (withLine Fail ns (s .sheet)) 6 (at ns 0) (at ns 1) (at ns 2) 0 refl refl refl refl refl refl (ltb (s .limits .face) (at ns 1)) (p .limit)
+  sized-take FailBin ns c p = row-more (withLine FailBin ns (s .sheet)) 6 (at ns 0) (at ns 1) (at ns 2) (at ns 3) refl refl refl refl refl refl (ltb (s .limits .face) (at ns 1)) (p .limit)
 
   sized-form : (l : Line) → length (l .numbers) ≡ countIn (form (l .kind)) → Sized (withForm s l)
   unfolding withForm

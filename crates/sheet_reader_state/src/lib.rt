@@ -1,6 +1,6 @@
 // What has been read of a sheet so far.
 //
-// Floats are kept as their bits. The table has five numbers a row, positions and normals three a vertex; each face number within the limits has a
+// Floats are kept as their bits. The table has six numbers a row, positions and normals three a vertex; each face number within the limits has a
 // material, 0 for none and n + 1 for material n.
 
 use sheet_line_order::Limits;

@@ -37,15 +37,16 @@ pub fn store_low(s: &mut [u32], at: usize, numbers: &[u64], i: usize)
 }
 
 // A row from a place on, its counts 0.
-pub fn store_row(s: &mut [u32], at: usize, shell: u32, face: u32, outcome: u32)
+pub fn store_row(s: &mut [u32], at: usize, shell: u32, face: u32, outcome: u32, bin: u32)
     requires { ⌜ at + rowWidth ≤ length (now s) ⌝ }
-    ensures { λ r. ⌜ now (s .exit) ≡ placed (now (s .entry)) at (shell ∷ face ∷ outcome ∷ 0 ∷ 0 ∷ []) ⌝ }
+    ensures { λ r. ⌜ now (s .exit) ≡ placed (now (s .entry)) at (shell ∷ face ∷ outcome ∷ 0 ∷ 0 ∷ bin ∷ []) ⌝ }
 {
     s[at] = shell;
     s[at + 1] = face;
     s[at + 2] = outcome;
     s[at + 3] = 0;
     s[at + 4] = 0;
+    s[at + 5] = bin;
 }
 
 // n more at a place.

@@ -1,9 +1,9 @@
--- Three and four stores, one behind the other. Assumes nothing.
+-- Three, four and five stores, one behind the other. Assumes nothing.
 use mathlib.Core.List.{List, [], _∷_}
 use Prim.Native.Nat.{ℕ, _+_, _≤_}
 use native.Mathlib.Omega.{arith}
 use lib.ListN.{length, set}
-use Rattle.lists.specs.Sets.{three-stored, four-stored}
+use Rattle.lists.specs.Sets.{three-stored, four-stored, five-stored}
 use Rattle.slice_append.specs.Appended.{Appended, appended-sets}
 
 -- three stores
@@ -13,3 +13,8 @@ three-stores out o a b c h = appended-sets (omega arith) (three-stored out o a b
 -- four stores
 pub four-stores : (out : List ℕ) (o a b c d : ℕ) → o + 4 ≤ length out → Appended o (a ∷ b ∷ c ∷ d ∷ []) out (set (set (set (set out o a) (o + 1) b) (o + 2) c) (o + 3) d)
 four-stores out o a b c d h = appended-sets (omega arith) (four-stored out o a b c d)
+
+-- five stores
+pub five-stores : (out : List ℕ) (o a b c d e : ℕ) → o + 5 ≤ length out
+    → Appended o (a ∷ b ∷ c ∷ d ∷ e ∷ []) out (set (set (set (set (set out o a) (o + 1) b) (o + 2) c) (o + 3) d) (o + 4) e)
+five-stores out o a b c d e h = appended-sets (omega arith) (five-stored out o a b c d e)

@@ -42,8 +42,8 @@ pub fn put_three(out: &mut [u32], o: usize, a: u32, b: u32, c: u32)
     out[o + 2] = c;
 }
 
-// Four words are written to `out` from place o on.
-pub fn put_four(out: &mut [u64], o: usize, a: u64, b: u64, c: u64, d: u64)
+// Four numbers are written to `out` from place o on.
+pub fn put_four(out: &mut [u32], o: usize, a: u32, b: u32, c: u32, d: u32)
     requires { ⌜ o + 4 ≤ length (now out) ⌝ }
     ensures { λ _. ⌜ Appended o (a ∷ b ∷ c ∷ d ∷ []) (now (out .entry)) (now (out .exit)) ⌝ }
 {
@@ -51,4 +51,16 @@ pub fn put_four(out: &mut [u64], o: usize, a: u64, b: u64, c: u64, d: u64)
     out[o + 1] = b;
     out[o + 2] = c;
     out[o + 3] = d;
+}
+
+// Five words are written to `out` from place o on.
+pub fn put_five(out: &mut [u64], o: usize, a: u64, b: u64, c: u64, d: u64, e: u64)
+    requires { ⌜ o + 5 ≤ length (now out) ⌝ }
+    ensures { λ _. ⌜ Appended o (a ∷ b ∷ c ∷ d ∷ e ∷ []) (now (out .entry)) (now (out .exit)) ⌝ }
+{
+    out[o] = a;
+    out[o + 1] = b;
+    out[o + 2] = c;
+    out[o + 3] = d;
+    out[o + 4] = e;
 }

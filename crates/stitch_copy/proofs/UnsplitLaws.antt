@@ -104,6 +104,6 @@ module _ (sag : Float) (ps : List Float) (nms gs : List ℕ) where
       let whole : length (take n is) % 3 ≡ 0 = ap (λ (m : ℕ). m % 3) long ∙ threes 0 (omega arith) in
       let same : length (rowIndices (r .vertices) vs) ≡ n = ap length (row-indices-none sag ps nms gs base (r .vertices) (take n flags) (take n is) (omega arith) whole (omega arith)) ∙ long in
       let many : r .vertices + keptIn vs ≡ r .vertices = omega arith in
-      (λ i. record { shell = r .shell; face = r .face; outcome = r .outcome; vertices = many i; indices = same i }
+      (λ i. record { shell = r .shell; face = r .face; outcome = r .outcome; vertices = many i; indices = same i; bin = r .bin }
       ∷ rows-none (base + r .vertices) (drop n flags) rs (drop n is) (omega (arith, length-drop n is)) (omega (arith, length-drop n is, length-drop n flags)) (λ k h. threes (suc k) (omega arith))
       (omega arith) i)

@@ -77,7 +77,8 @@ flat-table (s ∷ []) h = absurd (omega arith)
 flat-table (s ∷ f ∷ []) h = absurd (omega arith)
 flat-table (s ∷ f ∷ o ∷ []) h = absurd (omega arith)
 flat-table (s ∷ f ∷ o ∷ v ∷ []) h = absurd (omega arith)
-flat-table (s ∷ f ∷ o ∷ v ∷ i ∷ rest) h = ap (λ (xs : List ℕ). s ∷ f ∷ o ∷ v ∷ i ∷ xs) (flat-table rest (omega arith))
+flat-table (s ∷ f ∷ o ∷ v ∷ i ∷ []) h = absurd (omega arith)
+flat-table (s ∷ f ∷ o ∷ v ∷ i ∷ b ∷ rest) h = ap (λ (xs : List ℕ). s ∷ f ∷ o ∷ v ∷ i ∷ b ∷ xs) (flat-table rest (omega arith))
 
 -- ---- the copy
 

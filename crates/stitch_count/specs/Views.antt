@@ -75,7 +75,7 @@ rowIndices next (x ∷ xs) = fanGo (x .a) false 0 (ringAfter (x .b) (x .c) next 
 
 -- a row with its new counts
 abbrev pub viewedRow : Row → List View → Row
-viewedRow r vs = record { shell = r .shell; face = r .face; outcome = r .outcome; vertices = r .vertices + keptIn vs; indices = length (rowIndices (r .vertices) vs) }
+viewedRow r vs = record { shell = r .shell; face = r .face; outcome = r .outcome; vertices = r .vertices + keptIn vs; indices = length (rowIndices (r .vertices) vs); bin = r .bin }
 
 -- all rows
 unfoldable pub viewedRows : List Row → List (List View) → List Row

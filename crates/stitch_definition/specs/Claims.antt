@@ -41,7 +41,7 @@ tight = record { table = replicate (rowWidth * 9) 9; positions = []; normals = r
 
 -- a row beyond the limit of 13, with more indices than there is room for
 wide : Row
-wide = record { shell = 0; face = 0; outcome = 0; vertices = 262145; indices = 300 }
+wide = record { shell = 0; face = 0; outcome = 0; vertices = 262145; indices = 300; bin = 0 }
 
 -- 0.25
 quarter : Float
@@ -134,6 +134,7 @@ claims =
     ∷ case 16 (stitched 6 apex quarter) (1 ∷ 8 ∷ 15 ∷ 0 ∷ 3 ∷ 1 ∷ 0 ∷ 1 ∷ 2 ∷ [])
     ∷ case 18 (sameKeySplits ∷ []) (0 ∷ [])
     ∷ case 17 mixedNormal (0x3F785B42 ∷ 0x3E785B42 ∷ 0 ∷ [])
+    ∷ case 19 (take (rowWidth * 2) (stitchGiven K8 quarter .slices .table)) (0 ∷ 0 ∷ 0 ∷ 4 ∷ 6 ∷ 100 ∷ 0 ∷ 1 ∷ 0 ∷ 6 ∷ 6 ∷ 101 ∷ [])
     ∷ case 20 (take 2 (drop 12 (stitchGiven K8 quarter .slices .indices))) (9 ∷ 9 ∷ [])
     ∷ case 32 refused (32 ∷ 9 ∷ 9 ∷ [])
     ∷ case 33 (firstFailing (stitchChecks (wide ∷ []) roomy) ∷ []) (33 ∷ [])

@@ -42,6 +42,7 @@ stitchedPatch p cs =
         outcome = p .row .outcome;
         vertices = p .row .vertices + sumOf (λ c. length (c .kept)) cs;
         indices = length indices;
+        bin = p .row .bin;
       };
       positions = p .positions ++ flatMap (λ c. flatMap (λ k. coordinates (k .point)) (c .kept)) cs;
       normals = p .normals ++ flatMap (λ c. flatMap (newNormal (p .normals)) (c .kept)) cs;

@@ -13,11 +13,11 @@ use Rattle.stitch_faces.specs.Faces.{rowIndices, isStitched, faceIndices
 
 -- two rows of a triangle each
 before : List ℕ
-before = 0 ∷ 7 ∷ 0 ∷ 3 ∷ 3 ∷ 0 ∷ 8 ∷ 0 ∷ 3 ∷ 3 ∷ []
+before = 0 ∷ 7 ∷ 0 ∷ 3 ∷ 3 ∷ 1 ∷ 0 ∷ 8 ∷ 0 ∷ 3 ∷ 3 ∷ 2 ∷ []
 
 -- the first with a new vertex, and what a slice holds behind them
 after : List ℕ
-after = 0 ∷ 7 ∷ 0 ∷ 4 ∷ 6 ∷ 0 ∷ 8 ∷ 0 ∷ 3 ∷ 3 ∷ 9 ∷ 9 ∷ 9 ∷ 9 ∷ 9 ∷ []
+after = 0 ∷ 7 ∷ 0 ∷ 4 ∷ 6 ∷ 1 ∷ 0 ∷ 8 ∷ 0 ∷ 3 ∷ 3 ∷ 2 ∷ 9 ∷ 9 ∷ 9 ∷ 9 ∷ 9 ∷ 9 ∷ []
 
 -- row k of them, of the old list or the new
 told : ℕ → List ℕ

@@ -76,7 +76,7 @@ unfolding stitchedPatch
 patch-is r qs ts is from seen =
     λ k.
     record {
-      row = record { shell = r .shell; face = r .face; outcome = r .outcome; vertices = r .vertices + row-kept seen k; indices = length (row-indices (r .vertices) seen k) };
+      row = record { shell = r .shell; face = r .face; outcome = r .outcome; vertices = r .vertices + row-kept seen k; indices = length (row-indices (r .vertices) seen k); bin = r .bin };
       positions = qs ++ row-positions seen k;
       normals = ts ++ row-normals from seen k;
       indices = row-indices (r .vertices) seen k;

@@ -243,7 +243,7 @@ module _ {table : List ℕ} {ps ns : List Float} {is : List ℕ} {sag beyond : F
         size : end - i ≡ rowAt table k .indices
         size = omega arith
 
-    -- there is room for its five numbers
+    -- there is room for its numbers
     pub row-room : rowWidth * k + rowWidth ≤ length S
     row-room = omega (arith, more, g .room-rows, c .rows-long)
 
@@ -256,11 +256,12 @@ module _ {table : List ℕ} {ps ns : List Float} {is : List ℕ} {sag beyond : F
       indices-small = omega (arith, d .indices-end, indices-fit, g .small-indices)
 
       -- one row more is written
-      pub writing-more : {shell face outcome a b : ℕ} {S' : List ℕ} → shell ≡ rowAt table k .shell → face ≡ rowAt table k .face → outcome ≡ rowAt table k .outcome → a ≡ x - vo → b ≡ y - io
-          → Appended (rowWidth * k) (shell ∷ face ∷ outcome ∷ a ∷ b ∷ []) S S' → length F ≡ length E → length S' ≡ length S → length Q' ≡ length Q → length M' ≡ length M → length J' ≡ length J
+      pub writing-more : {shell face outcome a b bin : ℕ} {S' : List ℕ} → shell ≡ rowAt table k .shell → face ≡ rowAt table k .face → outcome ≡ rowAt table k .outcome → a ≡ x - vo → b ≡ y - io
+          → bin ≡ rowAt table k .bin
+          → Appended (rowWidth * k) (shell ∷ face ∷ outcome ∷ a ∷ b ∷ bin ∷ []) S S' → length F ≡ length E → length S' ≡ length S → length Q' ≡ length Q → length M' ≡ length M → length J' ≡ length J
           → WritingRows table ps ns is sag v list count at ts flags W R P N I x y (base + vertices) end (k + 1) F S' Q' M' J'
       unfolding rowAt
-      writing-more {shell} {face} {outcome} {a} {b} {S'} es ef eo ea eb put lf ls lq lm lj =
+      writing-more {shell} {face} {outcome} {a} {b} {bin} {S'} es ef eo ea eb en put lf ls lq lm lj =
           record {
             low = omega arith;
             at-v = omega (arith, c .at-v, ev, vertices-next table k more);
@@ -277,7 +278,7 @@ module _ {table : List ℕ} {ps ns : List Float} {is : List ℕ} {sag beyond : F
             positions-many = omega (arith, length-append (c .done-positions) own-positions, c .positions-many, own-positions-long, d .vertices-end);
             normals-many = omega (arith, length-append (c .done-normals) own-normals, c .normals-many, own-normals-long, d .vertices-end);
             indices-many = omega (arith, length-append (c .done-indices) (rowIndices vertices vs), c .indices-many, d .indices-end);
-            rows-put = subst (λ (xs : List ℕ). Appended 0 xs R S') (sym (table-more (c .done-rows) r)) (behind (c .rows-put) (omega (arith, table-length (c .done-rows), c .rows-many)) five);
+            rows-put = subst (λ (xs : List ℕ). Appended 0 xs R S') (sym (table-more (c .done-rows) r)) (behind (c .rows-put) (omega (arith, table-length (c .done-rows), c .rows-many)) numbers);
             positions-put = behind (c .positions-put) (c .positions-many) (d .positions);
             normals-put = behind (c .normals-put) (c .normals-many) (d .normals);
             indices-put = behind (c .indices-put) (c .indices-many) (d .indices-are);
@@ -299,8 +300,8 @@ module _ {table : List ℕ} {ps ns : List Float} {is : List ℕ} {sag beyond : F
           threes : b ≡ length (rowIndices (rowAt table k .vertices) vs)
           threes = let e : b ≡ length (rowIndices vertices vs) = omega (arith, d .indices-end) in e ∙ ap (λ (z : ℕ). length (rowIndices z vs)) ev
 
-          five : Appended (rowWidth * k) (r .shell ∷ r .face ∷ r .outcome ∷ r .vertices ∷ r .indices ∷ []) S S'
-          five = subst (λ (xs : List ℕ). Appended (rowWidth * k) xs S S') (λ j. es j ∷ ef j ∷ eo j ∷ many j ∷ threes j ∷ []) put
+          numbers : Appended (rowWidth * k) (r .shell ∷ r .face ∷ r .outcome ∷ r .vertices ∷ r .indices ∷ r .bin ∷ []) S S'
+          numbers = subst (λ (xs : List ℕ). Appended (rowWidth * k) xs S S') (λ j. es j ∷ ef j ∷ eo j ∷ many j ∷ threes j ∷ en j ∷ []) put
 
   -- all are
   pub writing-all : {vo io base i k m : ℕ} {E S : List ℕ} {Q M : List Float} {J : List ℕ} → WritingRows table ps ns is sag v list count at ts flags W R P N I vo io base i k E S Q M J

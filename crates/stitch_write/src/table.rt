@@ -1,4 +1,4 @@
-// A row's five numbers in the flat table.
+// A row's numbers in the flat table.
 
 use body_rows::ROW_WIDTH;
 ghost use mathlib.Core.List.{[], _∷_};
@@ -8,7 +8,7 @@ ghost use Rattle.body_rows.specs.Body.{rowWidth, rowsOf};
 ghost use Rattle.body_rows.specs.Rows.{rowAt};
 ghost use Rattle.slice_append.specs.Appended.{Appended};
 
-// The five numbers of row k are written to the table `out`, behind the k rows before it.
+// The numbers of row k are written to the table `out`, behind the k rows before it.
 fn put_row(
     out: &mut [u32],
     k: usize,
@@ -17,9 +17,10 @@ fn put_row(
     outcome: u32,
     vertices: u32,
     indices: u32,
+    bin: u32,
 )
     requires { ⌜ rowWidth * k + rowWidth ≤ length (now out) ⌝ }
-    ensures { λ _. ⌜ Appended (rowWidth * k) (shell ∷ face ∷ outcome ∷ vertices ∷ indices ∷ []) (now (out .entry)) (now (out .exit)) ⌝ }
+    ensures { λ _. ⌜ Appended (rowWidth * k) (shell ∷ face ∷ outcome ∷ vertices ∷ indices ∷ bin ∷ []) (now (out .entry)) (now (out .exit)) ⌝ }
 {
     let o = ROW_WIDTH * k;
     out[o] = shell;
@@ -27,6 +28,7 @@ fn put_row(
     out[o + 2] = outcome;
     out[o + 3] = vertices;
     out[o + 4] = indices;
+    out[o + 5] = bin;
 }
 
 // Row k of `rows` is written as row k of the table `out`, with the counts that it has now.
@@ -34,11 +36,12 @@ pub fn put_counts(rows: &[u32], k: usize, vertices: u32, indices: u32, out: &mut
     requires { ⌜ k < length (rowsOf (now rows)) ⌝ }
     requires { ⌜ rowWidth * k + rowWidth ≤ length (now out) ⌝ }
     ensures { λ _. ⌜ Appended (rowWidth * k) (rowAt (now (rows .entry)) k .shell ∷ rowAt (now (rows .entry)) k .face ∷ rowAt (now (rows .entry)) k .outcome
-        ∷ vertices ∷ indices ∷ [])
+        ∷ vertices ∷ indices ∷ rowAt (now (rows .entry)) k .bin ∷ [])
         (now (out .entry)) (now (out .exit)) ⌝ }
 {
     let shell = body_rows::shell(rows, k);
     let face = body_rows::face(rows, k);
     let outcome = body_rows::outcome(rows, k);
-    put_row(out, k, shell, face, outcome, vertices, indices);
+    let bin = body_rows::bin(rows, k);
+    put_row(out, k, shell, face, outcome, vertices, indices, bin);
 }

@@ -1,31 +1,30 @@
 -- Walks look at no normal: a body without its normals has the same. Assumes nothing.
 use mathlib.Core.Path.{_≡_, refl, sym, ap, _∙_}
-use mathlib.Core.List.{List, [], _∷_, _++_, map}
-use Prim.Native.Nat.{ℕ, suc}
-use lib.ListN.{length, drop, replicate, length-map}
+use mathlib.Core.List.{List, [], _∷_, map}
+use Prim.Native.Nat.{ℕ, _*_}
+use lib.ListN.{take, drop}
+use lib.Seq.{take-nil, drop-nil}
 use lib.Ieee.{Float}
-use Rattle.body_rows.specs.Body.{Row, Patch, trianglesOf, patchesOf}
-use Rattle.edge_uses.specs.Edges.{Use, triangleUses, usesFrom}
-use Rattle.turn_walk.specs.Walk.{unvisited}
-use Rattle.turn_definition.specs.Pairs.{pairsOf}
-use Rattle.turn_definition.specs.Groups.{walksFrom}
+use Rattle.body_rows.specs.Body.{Row, Patch, patchesOf}
+use Rattle.edge_uses.specs.Seen.{seen}
 use Rattle.turn_definition.specs.Orient.{walksOf}
-use Rattle.turn_groups.specs.Bare.{bare, bodies-bare, walks-bare}
+use Rattle.turn_definition.specs.Seen.{walks-seen}
 
--- the uses
-uses-bare : (f : Row → ℕ) (row : ℕ) (points : List ℕ) (patches : List Patch) → usesFrom f row points (map bare patches) ≡ usesFrom f row points patches
-unfolding usesFrom
-uses-bare f row points [] = refl
-uses-bare f row points (p ∷ ps) = ap (λ (us : List Use). triangleUses (f (p .row)) row points (trianglesOf (p .indices)) ++ us) (uses-bare f (suc row) (drop (p .row .vertices) points) ps)
+-- a patch without its normals
+abbrev bare : Patch → Patch
+bare = seen (λ r. r) (λ ns. [])
+
+-- a body that has none
+bodies-bare : (rows : List Row) (ps ns : List Float) (is : List ℕ) → map bare (patchesOf rows ps ns is) ≡ patchesOf rows ps [] is
+unfolding patchesOf
+bodies-bare [] ps ns is = refl
+bodies-bare (r ∷ rs) ps ns is =
+    (λ i. record { row = r; positions = take (3 * r .vertices) ps; normals = sym (take-nil {A = Float} (3 * r .vertices)) i; indices = take (r .indices) is }
+    ∷ bodies-bare rs (drop (3 * r .vertices) ps) (drop (3 * r .vertices) ns) (drop (r .indices) is) i)
+    ∙ ap (λ (l : List Float). record { row = r; positions = take (3 * r .vertices) ps; normals = take (3 * r .vertices) []; indices = take (r .indices) is }
+    ∷ patchesOf rs (drop (3 * r .vertices) ps) l (drop (r .indices) is)) (sym (drop-nil {A = Float} (3 * r .vertices)))
 
 -- The walks of a body are those of the body without its normals.
 pub walks-any-normals : (rows : List Row) (ps ns : List Float) (is points : List ℕ) → walksOf (patchesOf rows ps [] is) points ≡ walksOf (patchesOf rows ps ns is) points
-unfolding walksOf
 walks-any-normals rows ps ns is points =
-    let body = patchesOf rows ps ns is in
-    ap (λ (b : List Patch). walksOf b points) (sym (bodies-bare rows ps ns is))
-    ∙ ap (λ (us : List Use). walksFrom (map bare body) (pairsOf us) 0 (map bare body) (record { groups = []; colours = replicate (length (map bare body)) unvisited; against = 0 }))
-    (uses-bare (λ r. r .shell) 0 points body)
-    ∙ ap (λ (m : ℕ). walksFrom (map bare body) (pairsOf (usesFrom (λ r. r .shell) 0 points body)) 0 (map bare body) (record { groups = []; colours = replicate m unvisited; against = 0 }))
-    (length-map body bare)
-    ∙ walks-bare body (pairsOf (usesFrom (λ r. r .shell) 0 points body)) 0 body (record { groups = []; colours = replicate (length body) unvisited; against = 0 })
+    ap (λ (b : List Patch). walksOf b points) (sym (bodies-bare rows ps ns is)) ∙ walks-seen (λ r. r) (λ ns. []) (λ r. refl) (λ r. refl) (patchesOf rows ps ns is) points

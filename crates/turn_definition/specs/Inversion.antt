@@ -15,7 +15,7 @@ use Rattle.turn_walk.specs.Walk.{unvisited, plain, coloured}
 unfoldable pub patchAt : List Patch → ℕ → Patch
 patchAt patches n =
     getD patches n
-    (record { row = record { shell = 0; face = 0; outcome = 0; vertices = 0; indices = 0 }; positions = []; normals = []; indices = [] })
+    (record { row = record { shell = 0; face = 0; outcome = 0; vertices = 0; indices = 0; bin = 0 }; positions = []; normals = []; indices = [] })
 
 -- V is the sum, in walk order, of the patch volumes with coloured rows reversed.
 unfoldable pub volumeFrom : List Patch → List ℕ → Float → List ℕ → Float

@@ -1,4 +1,3 @@
--- A group settled, all groups settled, and walks without normals.
+-- A group settled, and all groups settled.
 pub mod Settled
 pub mod Walked
-pub mod Bare

@@ -29,4 +29,4 @@ nil = fin false 0 (pos 0)
 pub unpremised-false : Unpremised → ⊥
 unfolding evaluation KeepsVolume Unpremised far nil
 unpremised-false rule =
-    rule key (0 ∷ 0 ∷ 0 ∷ 3 ∷ 3 ∷ []) (far ∷ nil ∷ nil ∷ nil ∷ far ∷ nil ∷ nil ∷ nil ∷ far ∷ []) (replicate 9 nil) (0 ∷ 1 ∷ 2 ∷ []) (replicate 76 0) refl
+    rule key (0 ∷ 0 ∷ 0 ∷ 3 ∷ 3 ∷ 7 ∷ []) (far ∷ nil ∷ nil ∷ nil ∷ far ∷ nil ∷ nil ∷ nil ∷ far ∷ []) (replicate 9 nil) (0 ∷ 1 ∷ 2 ∷ []) (replicate 76 0) refl

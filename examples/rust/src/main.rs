@@ -3,7 +3,7 @@
 
 use std::error::Error;
 
-use body_finisher::{Aabb, Body, Entry, FaceId, Finisher, MaterialId, Point, RowError, Setting};
+use body_finisher::{Aabb, BinId, Body, Entry, FaceId, Finisher, MaterialId, Point, RowError, Setting};
 
 /// A box's walls by their corners, seen from outside; bit 0 of a corner is x, bit 1 is y, bit 2 is z.
 const WALLS: [([u32; 4], Point); 6] = [
@@ -25,11 +25,11 @@ fn add_bin(body: &mut Body, shell: u32, [front, back]: [f32; 2], inward: &[usize
         let mut positions = corners.map(corner).to_vec();
         if wall == LID && cracked_lid {
             positions.insert(1, [1500.0, front, 6000.0]);
-            body.push_patch(shell, face, &positions, &[*normal; 5], &[0, 1, 4, 1, 2, 3, 1, 3, 4])?;
+            body.push_patch(shell, face, BinId(shell + 1), &positions, &[*normal; 5], &[0, 1, 4, 1, 2, 3, 1, 3, 4])?;
         } else if inward.contains(&wall) {
-            body.push_patch(shell, face, &positions, &[normal.map(|x| -x); 4], &[0, 2, 1, 0, 3, 2])?;
+            body.push_patch(shell, face, BinId(shell + 1), &positions, &[normal.map(|x| -x); 4], &[0, 2, 1, 0, 3, 2])?;
         } else {
-            body.push_patch(shell, face, &positions, &[*normal; 4], &[0, 1, 2, 0, 2, 3])?;
+            body.push_patch(shell, face, BinId(shell + 1), &positions, &[*normal; 4], &[0, 1, 2, 0, 2, 3])?;
         }
     }
     Ok(())

@@ -1,12 +1,13 @@
 //! The ways to break a body that document 01's table lists, each with its number.
 
-use driver::check::{MOST_INDICES, MOST_ROWS, MOST_VERTICES};
+use driver::check::{MOST_BIN, MOST_INDICES, MOST_ROWS, MOST_VERTICES};
 use driver::flat::{Flat, ROW};
 use driver::random::Random;
 
 const OUTCOME: usize = 2;
 const VERTICES: usize = 3;
 const INDICES: usize = 4;
+const BIN: usize = 5;
 
 /// A body that is being broken, with the length of its work area.
 pub struct Case {
@@ -45,6 +46,10 @@ pub const FAULTS: &[Fault] = &[
     fault(14, "normals one long", |c, _| push(&mut c.body.normals, 0.0)),
     fault(14, "indices one short", |c, _| c.body.indices.pop().map(|_| ())),
     fault(14, "indices one long", |c, _| push(&mut c.body.indices, 0)),
+    fault(15, "bin 65,536", |c, r| bin(c, r, |_| true, &[MOST_BIN + 1])),
+    fault(15, "a bin far above 65,535", |c, r| bin(c, r, |_| true, &[131_072, 0x8000_0000, u32::MAX])),
+    fault(15, "a failed row's bin", |c, r| bin(c, r, |row| row[OUTCOME] != 0, &[MOST_BIN + 1, u32::MAX])),
+    fault(15, "the last row's bin", |c, _| last_bin(c)),
     fault(21, "an index more on a row", index_more),
     fault(21, "an index less on a row", index_less),
     fault(22, "an index that is its row's vertex count", |c, r| index(c, r, |own, _| Some(own))),
@@ -87,6 +92,17 @@ fn row_with(c: &Case, r: &mut Random, holds: impl Fn(&[u32]) -> bool) -> Option<
 fn outcome(c: &mut Case, r: &mut Random, numbers: &[u32]) -> Option<()> {
     let row = row_with(c, r, |_| true)?;
     c.body.rows[row + OUTCOME] = *r.pick(numbers);
+    Some(())
+}
+
+fn bin(c: &mut Case, r: &mut Random, holds: fn(&[u32]) -> bool, numbers: &[u32]) -> Option<()> {
+    let row = row_with(c, r, holds)?;
+    c.body.rows[row + BIN] = *r.pick(numbers);
+    Some(())
+}
+
+fn last_bin(c: &mut Case) -> Option<()> {
+    *c.body.rows.last_mut()? = MOST_BIN + 1;
     Some(())
 }
 

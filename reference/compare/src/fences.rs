@@ -32,7 +32,7 @@ pub fn fence() -> usize {
 }
 
 /// A number that slices are made of.
-pub trait Word: Copy + Debug {
+pub trait Word: Copy + Debug + Default {
     /// A word of a fence, by its place.
     fn fence(place: usize) -> Self;
     fn changed(self) -> Self;
@@ -143,6 +143,10 @@ impl<'a, T: Word> Fenced<'a, T> {
 /// What a planted fault may change.
 pub trait Spoil {
     fn spoil(&mut self, place: Place);
+    fn length(&self) -> usize;
+    /// The lent element k becomes 0, or what another one is.
+    fn set(&mut self, k: usize, as_other: Option<usize>);
+    fn exchange(&mut self, k: usize, other: usize);
 }
 
 impl<T: Word> Spoil for Fenced<'_, T> {
@@ -158,5 +162,17 @@ impl<T: Word> Spoil for Fenced<'_, T> {
         if let Some(word) = self.all.get_mut(k) {
             *word = word.changed();
         }
+    }
+
+    fn length(&self) -> usize {
+        self.len()
+    }
+
+    fn set(&mut self, k: usize, as_other: Option<usize>) {
+        self.all[self.fence + k] = as_other.map_or(T::default(), |other| self.all[self.fence + other]);
+    }
+
+    fn exchange(&mut self, k: usize, other: usize) {
+        self.all.swap(self.fence + k, self.fence + other);
     }
 }

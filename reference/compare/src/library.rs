@@ -183,11 +183,11 @@ pub fn face_indices(before: &Flat, stitched: &Flat, k: usize, out: &mut [u32]) -
 /// How many numbers a part takes: material, start, count.
 pub const PART: usize = 3;
 
-/// How many numbers a range takes: face, first index, one past the last.
-pub const RANGE: usize = 3;
+/// How many numbers a range takes: face, bin, first index, one past the last.
+pub const RANGE: usize = 4;
 
-/// How many numbers a failure takes: face, case, reach, span.
-pub const FAILURE: usize = 4;
+/// How many numbers a failure takes: face, bin, case, reach, span.
+pub const FAILURE: usize = 5;
 
 /// The slices that assembling writes: three numbers a vertex, and tables of parts, ranges and failures.
 #[derive(Debug, Clone, Default)]

@@ -2,19 +2,19 @@
 
 use cad_ir::brep::FaceId;
 use cad_tess::face::Patch;
-use driver::flat::Flat;
+use driver::flat::{Flat, table_row};
 use driver::sheet::Sheet;
 
 /// The Rust's rows.
 pub type Faces = Vec<(usize, FaceId, Result<Patch, String>)>;
 
-/// A sheet's rows with the patches that the Rust left.
+/// A sheet's rows, with their bins, and the patches that the Rust left.
 pub fn flat_of(faces: &Faces, sheet: &Sheet) -> Flat {
     let mut body = Flat::default();
     for (row, (_, _, result)) in sheet.rows.iter().zip(faces) {
         let none = Patch::default();
         let patch = result.as_ref().unwrap_or(&none);
-        body.rows.extend([row.shell, row.face, row.outcome, patch.positions.len() as u32, patch.indices.len() as u32]);
+        body.rows.extend(table_row(row, patch.positions.len(), patch.indices.len()));
         body.positions.extend(patch.positions.iter().flatten());
         body.normals.extend(patch.normals.iter().flatten());
         body.indices.extend(&patch.indices);

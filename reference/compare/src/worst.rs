@@ -3,7 +3,7 @@
 use crate::stitching::{Case, case, differs, refusal, shortened, written, wrong};
 use crate::work::Work;
 use compare::library::{self, Stitched};
-use driver::check::{MOST_INDICES, MOST_VERTICES};
+use driver::check::{MOST_BIN, MOST_INDICES, MOST_VERTICES};
 use driver::condition::{Condition, condition};
 use driver::flat::Flat;
 use driver::random::Random;
@@ -13,11 +13,11 @@ use std::time::Instant;
 
 type Point = [f32; 3];
 
-/// A row of triangles, each with three vertices of its own, and normals along z.
+/// A row of triangles, each with three vertices of its own, and normals along z; its bin is unlike its face.
 fn row(face: u32, triangles: &[[Point; 3]]) -> Row {
     let positions: Vec<[u32; 3]> = triangles.iter().flatten().map(|p| p.map(f32::to_bits)).collect();
     let normals = vec![[0.0f32, 0.0, 1.0].map(f32::to_bits); positions.len()];
-    Row { face, indices: (0..positions.len() as u32).collect(), positions, normals, ..Row::default() }
+    Row { face, bin: MOST_BIN - face, indices: (0..positions.len() as u32).collect(), positions, normals, ..Row::default() }
 }
 
 fn sheet(rows: Vec<Row>, sag: f64) -> Sheet {

@@ -7,6 +7,7 @@ use crate::sheet::{Refusal, Row, Sheet};
 pub const MOST_ROWS: usize = 4096;
 pub const MOST_VERTICES: usize = 262_144;
 pub const MOST_INDICES: usize = 786_432;
+pub const MOST_BIN: u32 = 65_535;
 
 fn finite(bits: u32) -> bool {
     bits & 0x7f80_0000 != 0x7f80_0000
@@ -27,6 +28,9 @@ pub fn check(sheet: &Sheet) -> Result<(), Refusal> {
     }
     if sheet.vertices() > MOST_VERTICES || sheet.indices() > MOST_INDICES {
         return Err(Refusal::new(13, "more than 262,144 vertices or 786,432 indices"));
+    }
+    if let Some(i) = rows.iter().position(|r| r.bin > MOST_BIN) {
+        return Err(Refusal::new(15, format!("row {i}: bin {} is above 65,535", rows[i].bin)));
     }
     if let Some(i) = rows.iter().position(|r| r.indices.len() % 3 != 0) {
         return Err(Refusal::new(21, format!("row {i}: an index count is no multiple of 3")));
@@ -66,6 +70,9 @@ pub fn refusal(body: &Flat, words: usize) -> u32 {
     }
     if body.positions.len() != 3 * vertices || body.normals.len() != 3 * vertices || body.indices.len() != indices {
         return 14;
+    }
+    if table.iter().any(|row| row[5] > MOST_BIN) {
+        return 15;
     }
     if table.iter().any(|row| row[4] % 3 != 0) {
         return 21;

@@ -30,9 +30,10 @@ pub struct Finished {
     pub indices: Vec<u32>,
     /// Material, start, count.
     pub parts: Vec<(u32, u32, u32)>,
-    /// Face, first index, one past the last.
-    pub ranges: Vec<(u32, usize, usize)>,
-    pub failures: Vec<(u32, Failure)>,
+    /// Face, bin, first index, one past the last. The bin is the row's own, set beside what the Rust says.
+    pub ranges: Vec<(u32, u32, usize, usize)>,
+    /// Face, bin, why.
+    pub failures: Vec<(u32, u32, Failure)>,
     pub turned: usize,
     pub against: usize,
     pub splits: usize,
@@ -106,22 +107,16 @@ fn numbers(lines: &[String], start: &str, word: &str) -> Vec<usize> {
     line[start.len()..].split(|c: char| !c.is_ascii_digit()).filter_map(|n| n.parse().ok()).collect()
 }
 
-/// Why the rows that the source does not accept fail, in row order. Its report has the reach and the span only as words.
-fn failures(stitched: &[(usize, FaceId, Result<Patch, String>)], reference: &Aabb) -> Vec<(u32, Failure)> {
-    stitched
-        .iter()
-        .filter_map(|(_, face, result)| {
-            let failure = match result {
-                Err(number) => Failure::Upstream(number.parse().expect("an upstream number")),
-                Ok(patch) if patch.indices.is_empty() => Failure::Empty,
-                Ok(patch) if probe::escapes_body(patch, reference) => {
-                    Failure::Escape(probe::farthest(patch, reference), reference.diagonal())
-                }
-                Ok(_) => return None,
-            };
-            Some((face.0, failure))
-        })
-        .collect()
+/// Why a row fails that the source does not accept. Its report has the reach and the span only as words.
+fn failure(result: &Result<Patch, String>, reference: &Aabb) -> Option<Failure> {
+    match result {
+        Err(number) => Some(Failure::Upstream(number.parse().expect("an upstream number"))),
+        Ok(patch) if patch.indices.is_empty() => Some(Failure::Empty),
+        Ok(patch) if probe::escapes_body(patch, reference) => {
+            Some(Failure::Escape(probe::farthest(patch, reference), reference.diagonal()))
+        }
+        Ok(_) => None,
+    }
 }
 
 /// Whether a failure is the one that the source reports in words.
@@ -135,14 +130,39 @@ fn is_reported(failure: &Failure, reason: &str) -> bool {
     }
 }
 
-/// The failures with their floats, held to the words of the source's report.
-pub fn reported_failures(faces: &[(usize, FaceId, Result<Patch, String>)], reference: &Aabb, report: &Report) -> Vec<(u32, Failure)> {
-    let failures = failures(faces, reference);
+/// The failures in row order with their floats, held to the words of the source's report, each with the bin of its row.
+pub fn reported_failures(
+    faces: &[(usize, FaceId, Result<Patch, String>)],
+    rows: &[Row],
+    reference: &Aabb,
+    report: &Report,
+) -> Vec<(u32, u32, Failure)> {
+    let of_row = |(row, (_, face, result)): (&Row, &(usize, FaceId, Result<Patch, String>))| {
+        failure(result, reference).map(|failure| (face.0, row.bin, failure))
+    };
+    let failures: Vec<(u32, u32, Failure)> = rows.iter().zip(faces).filter_map(of_row).collect();
     assert_eq!(failures.len(), report.failed.len(), "each reported failure is known");
-    for ((face, failure), reported) in failures.iter().zip(&report.failed) {
+    for ((face, _, failure), reported) in failures.iter().zip(&report.failed) {
         assert!(*face == reported.face.0 && is_reported(failure, &reported.reason), "row failures are the reported ones");
     }
     failures
+}
+
+/// The source's ranges, one for each accepted row in row order, each with the bin of its row.
+pub fn ranges_with_bins(
+    faces: &[(usize, FaceId, Result<Patch, String>)],
+    rows: &[Row],
+    reference: &Aabb,
+    ranges: Vec<(u32, usize, usize)>,
+) -> Vec<(u32, u32, usize, usize)> {
+    let accepted: Vec<&Row> =
+        rows.iter().zip(faces).filter(|(_, (_, _, result))| failure(result, reference).is_none()).map(|(row, _)| row).collect();
+    assert_eq!(accepted.len(), ranges.len(), "a range for each accepted row");
+    let of_row = |(row, (face, first, past)): (&Row, (u32, usize, usize))| {
+        assert_eq!(row.face, face, "ranges are in row order");
+        (face, row.bin, first, past)
+    };
+    accepted.into_iter().zip(ranges).map(of_row).collect()
 }
 
 /// The body finished, or refusal 33 where the stitched body passes the limits.
@@ -170,7 +190,7 @@ pub fn finish(sheet: &Sheet) -> Result<Finished, Refusal> {
     let wind = numbers(&printed, "[wind] body: ", "flipped");
     assert_eq!(wind, [turned, against, splits], "the steps alone and the whole agree");
     let cracks = numbers(&printed, "[cracks] body: ", "open");
-    let failures = reported_failures(&faces, &reference, &report);
+    let failures = reported_failures(&faces, &sheet.rows, &reference, &report);
     assert_eq!(ranges.len(), report.faces_ok, "a range for each accepted row");
 
     Ok(Finished {
@@ -178,7 +198,7 @@ pub fn finish(sheet: &Sheet) -> Result<Finished, Refusal> {
         normals: mesh.normals,
         parts: mesh.parts.iter().map(|p| (p.material, p.start, p.count)).collect(),
         indices: mesh.indices.into_vec(),
-        ranges,
+        ranges: ranges_with_bins(&faces, &sheet.rows, &reference, ranges),
         failures,
         turned,
         against,

@@ -1,9 +1,9 @@
 //! A body as the library's calls take it: the row table, and the patches one after another.
 
-use crate::sheet::Sheet;
+use crate::sheet::{Row, Sheet};
 
-/// How many numbers of the table a row takes: shell, face, outcome, vertices, indices.
-pub const ROW: usize = 5;
+/// How many numbers of the table a row takes: shell, face, outcome, vertices, indices, bin.
+pub const ROW: usize = 6;
 
 /// The table, three coordinates a vertex for positions and normals, and indices that count from 0 within their patch.
 #[derive(Debug, Clone, Default)]
@@ -19,11 +19,16 @@ pub fn coordinates(points: &[[u32; 3]]) -> impl Iterator<Item = f32> + '_ {
     points.iter().flatten().map(|bits| f32::from_bits(*bits))
 }
 
+/// A row's numbers in the table, with the counts of a patch that it has now; its bin is the last.
+pub fn table_row(row: &Row, vertices: usize, indices: usize) -> [u32; ROW] {
+    [row.shell, row.face, row.outcome, vertices as u32, indices as u32, row.bin]
+}
+
 impl Flat {
     pub fn of(sheet: &Sheet) -> Flat {
         let mut body = Flat::default();
         for row in &sheet.rows {
-            body.rows.extend([row.shell, row.face, row.outcome, row.positions.len() as u32, row.indices.len() as u32]);
+            body.rows.extend(table_row(row, row.positions.len(), row.indices.len()));
             body.positions.extend(coordinates(&row.positions));
             body.normals.extend(coordinates(&row.normals));
             body.indices.extend(&row.indices);

@@ -14,12 +14,17 @@ fn triangle_lines(out: &mut String, indices: &[u32]) {
     }
 }
 
+/// A row's bin as its line names it: bin 0 by no number.
+fn bin_word(row: &Row) -> String {
+    if row.bin == 0 { String::new() } else { format!(" {}", row.bin) }
+}
+
 fn row_lines(out: &mut String, row: &Row) {
     if row.outcome != 0 {
-        writeln!(out, "(fail {} {} {})", row.shell, row.face, row.outcome).expect("text");
+        writeln!(out, "(fail {} {} {}{})", row.shell, row.face, row.outcome, bin_word(row)).expect("text");
         return;
     }
-    writeln!(out, "(face {} {})", row.shell, row.face).expect("text");
+    writeln!(out, "(face {} {}{})", row.shell, row.face, bin_word(row)).expect("text");
     for (p, n) in row.positions.iter().zip(&row.normals) {
         vertex_line(out, *p, *n);
     }
@@ -46,12 +51,12 @@ pub fn sheet(sheet: &Sheet) -> String {
     out
 }
 
-fn failure_line(out: &mut String, face: u32, failure: &Failure) {
+fn failure_line(out: &mut String, face: u32, bin: u32, failure: &Failure) {
     match failure {
-        Failure::Empty => writeln!(out, "(failed {face} (empty))"),
-        Failure::Upstream(number) => writeln!(out, "(failed {face} (upstream {number}))"),
+        Failure::Empty => writeln!(out, "(failed {face} {bin} (empty))"),
+        Failure::Upstream(number) => writeln!(out, "(failed {face} {bin} (upstream {number}))"),
         Failure::Escape(reach, span) => {
-            writeln!(out, "(failed {face} (escape {:016X} {:016X}))", reach.to_bits(), span.to_bits())
+            writeln!(out, "(failed {face} {bin} (escape {:016X} {:016X}))", reach.to_bits(), span.to_bits())
         }
     }
     .expect("text");
@@ -68,11 +73,11 @@ pub fn finished(f: &Finished) -> String {
         writeln!(out, "(part {material} {start} {count})").expect("text");
     }
     triangle_lines(&mut out, &f.indices);
-    for (face, first, past) in &f.ranges {
-        writeln!(out, "(range {face} {first} {past})").expect("text");
+    for (face, bin, first, past) in &f.ranges {
+        writeln!(out, "(range {face} {bin} {first} {past})").expect("text");
     }
-    for (face, failure) in &f.failures {
-        failure_line(&mut out, *face, failure);
+    for (face, bin, failure) in &f.failures {
+        failure_line(&mut out, *face, *bin, failure);
     }
     writeln!(out, "(turned {})\n(against {})\n(split {})\n(ok {})", f.turned, f.against, f.splits, f.ok).expect("text");
     writeln!(out, "(edges {})\n(open {})\n(over {})\n(closed {})", f.edges, f.open, f.over, f.closed() as u32).expect("text");

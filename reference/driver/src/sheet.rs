@@ -10,12 +10,14 @@ pub struct Sheet {
     pub rows: Vec<Row>,
 }
 
-/// A face line with its vertices and triangles, or a fail line: its outcome is 0, or the upstream failure's number.
+/// A face line with its vertices and triangles, or a fail line: its outcome is 0, or the upstream failure's number. Its bin is 0 where
+/// the line names none; the Rust knows nothing of it.
 #[derive(Debug, Default, Clone, PartialEq)]
 pub struct Row {
     pub shell: u32,
     pub face: u32,
     pub outcome: u32,
+    pub bin: u32,
     pub positions: Vec<[u32; 3]>,
     pub normals: Vec<[u32; 3]>,
     pub indices: Vec<u32>,
@@ -62,10 +64,10 @@ pub enum Line {
     Sag(u64),
     Default(Option<u32>),
     Material(u32, u32),
-    Face(u32, u32),
+    Face(u32, u32, u32),
     Vertex([u32; 3], [u32; 3]),
     Triangle([u32; 3]),
-    Fail(u32, u32, u32),
+    Fail(u32, u32, u32, u32),
 }
 
 /// The rest of a line that is being read.
@@ -110,6 +112,11 @@ impl Cursor<'_> {
         u32::try_from(value).ok()
     }
 
+    /// Such a number, or 0 where the line ends here.
+    fn number_or_none(&mut self) -> Option<u32> {
+        if self.0 == b")" { Some(0) } else { self.number() }
+    }
+
     fn point(&mut self) -> Option<[u32; 3]> {
         Some([self.bits(8)? as u32, self.bits(8)? as u32, self.bits(8)? as u32])
     }
@@ -138,8 +145,8 @@ pub fn line_of(bytes: &[u8]) -> Option<Line> {
         }
         b"(default" => Line::Default(Some(c.number()?)),
         b"(material" => Line::Material(c.number()?, c.number()?),
-        b"(face" => Line::Face(c.number()?, c.number()?),
-        b"(fail" => Line::Fail(c.number()?, c.number()?, c.number()?),
+        b"(face" => Line::Face(c.number()?, c.number()?, c.number_or_none()?),
+        b"(fail" => Line::Fail(c.number()?, c.number()?, c.number()?, c.number_or_none()?),
         b"(t" => Line::Triangle([c.number()?, c.number()?, c.number()?]),
         b"(v" => {
             c.word(" (p")?;
@@ -177,7 +184,7 @@ fn next_place(place: Place, line: &Line) -> Option<Place> {
         (Line::Default(_), WantsDefault) => Some(Materials),
         (Line::Material(..), Materials) => Some(Materials),
         (Line::Face(..), Materials | Vertices | Triangles | Failed) => Some(Vertices),
-        (Line::Fail(_, _, number), Materials | Vertices | Triangles | Failed) if *number != 0 => Some(Failed),
+        (Line::Fail(_, _, number, _), Materials | Vertices | Triangles | Failed) if *number != 0 => Some(Failed),
         (Line::Vertex(..), Vertices) => Some(Vertices),
         (Line::Triangle(..), Vertices | Triangles) => Some(Triangles),
         _ => None,
@@ -188,7 +195,7 @@ fn next_place(place: Place, line: &Line) -> Option<Place> {
 fn passes(limits: &Limits, sheet: &Sheet, line: &Line) -> bool {
     match line {
         Line::Material(face, _) => *face > limits.face,
-        Line::Face(_, face) | Line::Fail(_, face, _) => *face > limits.face || sheet.rows.len() == limits.rows,
+        Line::Face(_, face, _) | Line::Fail(_, face, _, _) => *face > limits.face || sheet.rows.len() == limits.rows,
         Line::Vertex(..) => sheet.vertices() == limits.vertices,
         Line::Triangle(..) => sheet.indices() + 3 > limits.indices,
         _ => false,
@@ -201,8 +208,8 @@ fn add(sheet: &mut Sheet, line: Line) {
         Line::Sag(sag) => sheet.sag = sag,
         Line::Default(default) => sheet.default = default,
         Line::Material(face, material) => sheet.materials.push((face, material)),
-        Line::Face(shell, face) => sheet.rows.push(Row { shell, face, ..Row::default() }),
-        Line::Fail(shell, face, outcome) => sheet.rows.push(Row { shell, face, outcome, ..Row::default() }),
+        Line::Face(shell, face, bin) => sheet.rows.push(Row { shell, face, bin, ..Row::default() }),
+        Line::Fail(shell, face, outcome, bin) => sheet.rows.push(Row { shell, face, outcome, bin, ..Row::default() }),
         Line::Vertex(position, normal) => {
             let row = sheet.rows.last_mut().expect("a face line stands before");
             row.positions.push(position);

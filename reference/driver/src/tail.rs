@@ -1,7 +1,7 @@
 //! A body laid into a mesh by the unchanged Rust as it stands, neither turned nor stitched: the end of `tessellate_solid`, cut out of
 //! it at build time.
 
-use crate::finish::{Finished, box_of, face_materials, reported_failures};
+use crate::finish::{Finished, box_of, face_materials, ranges_with_bins, reported_failures};
 use crate::sheet::Sheet;
 use cad_ir::brep::{FaceId, Solid};
 use cad_ir::mesh::{Mesh, MeshPart};
@@ -34,13 +34,14 @@ pub fn assemble(faces: Faces, sheet: &Sheet) -> Finished {
     let rows = faces.clone();
     let Tail { mesh, report, ranges, edges, open, over } =
         tail("body", &solid, faces, sheet.default.map(MaterialId), &face_materials(sheet));
+    let ranges = ranges.into_iter().map(|(face, first, past)| (face.0, first, past)).collect();
     Finished {
         positions: mesh.positions,
         normals: mesh.normals,
         parts: mesh.parts.iter().map(|p| (p.material, p.start, p.count)).collect(),
         indices: mesh.indices.into_vec(),
-        ranges: ranges.into_iter().map(|(face, first, past)| (face.0, first, past)).collect(),
-        failures: reported_failures(&rows, &reference, &report),
+        ranges: ranges_with_bins(&rows, &sheet.rows, &reference, ranges),
+        failures: reported_failures(&rows, &sheet.rows, &reference, &report),
         ok: report.faces_ok,
         edges,
         open,

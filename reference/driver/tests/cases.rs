@@ -3,7 +3,7 @@
 use cad_tess::face::{patch_of, probe};
 use driver::check::{check, refusal};
 use driver::command::answer;
-use driver::finish::outcome_of;
+use driver::finish::{finish, outcome_of};
 use driver::flat::{Flat, ROW};
 use driver::generate::{KINDS, LARGE, SEAMS, body_of, generate, kind};
 use driver::print;
@@ -53,8 +53,32 @@ fn stored_answers_say_what_the_paper_says() {
     says("K7", &["(turned 0)", "(against 2)"]);
     says("K8", &["(split 1)", "(t 0 3 1)", "(t 0 1 2)"]);
     says("K9-stays", &["(ok 1)"]);
-    says("K9-escapes", &["(ok 0)", "(failed 0 (escape 4024000020000000 4024000000000000))"]);
+    says("K9-escapes", &["(ok 0)", "(failed 0 0 (escape 4024000020000000 4024000000000000))"]);
     says("K10", &["(ok 1)"]);
+}
+
+/// The bins of a body's rows stand in its ranges and failures, and cover nothing else.
+#[test]
+fn bins_stand_beside_what_the_rust_says() {
+    let mut failed = 0;
+    for seed in 0..40 {
+        let sheet = body_of(kind("failed").expect("a kind"), seed, 0).expect("a body");
+        let done = finish(&sheet).expect("a body within the limits");
+        let mut bare = sheet.clone();
+        bare.rows.iter_mut().for_each(|row| row.bin = 0);
+        let mut covered = done.clone();
+        covered.ranges.iter_mut().for_each(|range| range.1 = 0);
+        covered.failures.iter_mut().for_each(|failure| failure.1 = 0);
+        assert_eq!(finish(&bare).expect("a body within the limits"), covered, "seed {seed}");
+        let shown = done.ranges.iter().map(|r| (r.0, r.1)).chain(done.failures.iter().map(|f| (f.0, f.1)));
+        let mut shown: Vec<(u32, u32)> = shown.collect();
+        let mut given: Vec<(u32, u32)> = sheet.rows.iter().map(|row| (row.face, row.bin)).collect();
+        shown.sort();
+        given.sort();
+        assert_eq!(shown, given, "seed {seed}");
+        failed += done.failures.len();
+    }
+    assert!(failed > 0);
 }
 
 #[test]
@@ -95,6 +119,24 @@ fn refusals_have_their_numbers() {
         ("(face 0 00)\n", 51),
         ("(face 0 4294967296)\n", 51),
         ("(face 0 64)\n", 52),
+        ("(face 0 0 0)\n", 0),
+        ("(face 0 0 65535)\n", 0),
+        ("(face 0 0 65536)\n", 15),
+        ("(face 0 0 4294967295)\n", 15),
+        ("(face 0 0 4294967296)\n", 51),
+        ("(face 0 0 00)\n", 51),
+        ("(face 0 0 )\n", 51),
+        ("(face 0 0 0 0)\n", 51),
+        ("(face 0 64 65536)\n", 52),
+        ("(face 0 0 65536)\n(face 0 64)\n", 52),
+        ("(face 0 0 65536)\n(face)\n", 51),
+        ("(face 0 0 65536)\n(t 0 1 2)\n", 15),
+        ("(face 0 0 65536)\n(v (p 7F800000 00000000 00000000) (n 00000000 00000000 00000000))\n", 15),
+        ("(fail 0 7 1 65536)\n", 15),
+        ("(fail 0 7 255 65535)\n", 0),
+        ("(fail 0 7 256 65536)\n", 12),
+        ("(face 0 0 65536)\n(fail 0 7 256)\n", 12),
+        ("(fail 0 7 0 65536)\n", 51),
         ("(material 64 1)\n", 52),
         ("(material 1 4294967295)\n", 0),
         ("(fail 0 1 0)\n", 51),
@@ -140,7 +182,7 @@ type Change = (fn(&mut Flat), u32);
 fn slices_are_refused_with_their_numbers() {
     let body = Flat::of(&parse(&sheet_text("K7"), None).expect("a sheet"));
     let words = body.words();
-    let changes: [Change; 10] = [
+    let changes: [Change; 14] = [
         (|_| (), 0),
         (|b| b.rows.truncate(2 * ROW - 1), 11),
         (|b| b.rows.resize(ROW * 4097, 0), 11),
@@ -148,6 +190,10 @@ fn slices_are_refused_with_their_numbers() {
         (|b| b.rows[2] = 1, 12),
         (|b| b.rows[3] = u32::MAX, 13),
         (|b| b.normals.push(0.0), 14),
+        (|b| (b.rows[ROW - 1], b.rows[2 * ROW - 1]) = (65_535, 1), 0),
+        (|b| b.rows[2 * ROW - 1] = 65_536, 15),
+        (|b| (b.rows[4], b.rows[ROW + 4], b.rows[ROW - 1]) = (4, 5, u32::MAX), 15),
+        (|b| (b.rows[ROW - 1], b.normals) = (65_536, Vec::new()), 14),
         (|b| (b.rows[4], b.rows[ROW + 4]) = (4, 5), 21),
         (|b| b.indices[2] = 3, 22),
         (|b| b.positions[0] = f32::NEG_INFINITY, 23),

@@ -1,9 +1,10 @@
--- `body_row_structs::row_at` meets its contract: a walk of its MIR, by hand. Within the slice the place of `rows[k]` is k times the 20 bytes of a row past the slice's pointer, and the row is read there whole; past the end a row of zeros is made.
+-- `body_row_structs::row_at` meets its contract: a walk of its MIR, by hand. Within the slice the place of `rows[k]` is k times the bytes of a row past the slice's pointer, and the row is read there whole; past the end a row of zeros is made.
 -- A `&[Row]` is Copy: what it owns is had twice, one copy is kept whole for the exit, and of the other the fractured borrow is looked into.
 -- Assumes nothing.
 use mathlib.Core.Path.{_≡_, refl, sym}
 use Prim.Native.Nat.{ℕ, _*_, _<_, _^_}
 use native.Mathlib.Omega.{arith}
+use Rattle.body_rows.specs.Body.{rowWidth}
 use Rattle.body_row_structs.specs.FaceRows.{noRow, rowAt}
 use mathlib.Core.List.{List, [], _∷_}
 use lib.Dec.{ltb→lt, nltb→le, lit<}
@@ -57,13 +58,17 @@ S κ = ShrSlice (named 0) κ R
 
 -- a row of zeros has the struct's type
 zeros : Is R noRow (T′.lowered noRow ∷ [])
-zeros = LL.owes T.the-type T′.the-laws noRow ((refl, lit< tt), ((refl, lit< tt), ((refl, lit< tt), ((refl, lit< tt), ((refl, lit< tt), tt)))))
+zeros = LL.owes T.the-type T′.the-laws noRow ((refl, lit< tt), ((refl, lit< tt), ((refl, lit< tt), ((refl, lit< tt), ((refl, lit< tt), ((refl, lit< tt), tt))))))
 
 abbrev stayed : Stays (rowat.ended .signature .params) (rowat.ended .kept)
 stayed = (stay-none-slice (0 ∷ []) tt (plain (λ _. R)) yes, (stay-none (λ _. usize) yes, tt))
 
+-- how many bytes a row takes: four a number
+abbrev rowBytes : ℕ
+rowBytes = 4 * rowWidth
+
 -- k rows' bytes fit a usize, since the slice's bytes fit an isize
-offset : (k n : ℕ) → k < n → n * 20 < 2 ^ 63 → k * 20 < 2 ^ 64
+offset : (k n : ℕ) → k < n → n * rowBytes < 2 ^ 63 → k * rowBytes < 2 ^ 64
 offset k n l g = omega arith
 
 module _ {M : Type 1} (𝓤 : URA M) (H : Heap 𝓤) (A : Atoms 𝓤) (W : Given 𝓤 H A) (mem : Memory → SProp 𝓤) (run : Routine → Fun 𝓤) (κ : Lft) (q : Share) (b o : ℕ) (γ : GName) (ys : List Row) (k : ℕ) where
@@ -117,7 +122,7 @@ module _ {M : Type 1} (𝓤 : URA M) (H : Heap 𝓤) (A : Atoms 𝓤) (W : Given
         let ok = offset k (length ys) l (p .0 .1 .1) in
         assigns ! (bin ! (load ! (from ! (stop !)) (look ! 10 refl)) (lit ! tt) (record { fits = ok })) (from ! (stop !)) (init ! 4 refl (tt, record { fits = ok })) $
         assigns ! (bin ! (load ! (from ! (fld ! refl (stop !))) (look-in ! 12 (sub ! 0 refl (whole !)))) (load ! (from ! (stop !)) (look ! 4 refl)) tt) (from ! (stop !)) (init ! 2 refl (tt, tt)) $
-        rewrite ! 2 (λ (p′ : ℕ). ‵ (fat fullShare tyPtr l₆ 0 (vptr b p′))) (sym (place-is 20 o k)) refl $
+        rewrite ! 2 (λ (p′ : ℕ). ‵ (fat fullShare tyPtr l₆ 0 (vptr b p′))) (sym (place-is rowBytes o k)) refl $
         -- one copy of what the slice owns is kept for the exit; of the other the fractured borrow is kept
         move ! (17 ∷ []) $ fsplit ! $ use1 W (‵ Own ⊛ ‵ Own) (shr-slice-copy 𝓤 H A W (named 0) κ R .twice x (v ∷ [])) $ split ! $
         fsplit ! $ drop ! $ fsplit ! $ drop ! $ move ! (19 ∷ []) $ split ! $ move ! (2 ∷ 0 ∷ []) $
@@ -131,7 +136,7 @@ module _ {M : Type 1} (𝓤 : URA M) (H : Heap 𝓤) (A : Atoms 𝓤) (W : Given
         move ! (4 ∷ []) $ fsplit ! $ keep ! (2 ∷ 5 ∷ 0 ∷ []) $ by ! (exits elem refl g))))
         -- [_7; …; _6; …; _5; …; _4; …; _3; …; _2; …; _1; …; _0; …; the token; what rows and k own]
         (λ beyond. skips ! $ exec ! C Λ (En l₀ l₁ l₂ l₃ l₄ l₅ l₆ l₇) mir-code.t-4 (atRet (En l₀ l₁ l₂ l₃ l₄ l₅ l₆ l₇) Post) $
-        assigns ! (agg ! (and-then ! (lit ! tt) (and-then ! (lit ! tt) (and-then ! (lit ! tt) (and-then ! (lit ! tt) (and-then ! (lit ! tt) (no-more !))))))) (from ! (stop !)) (init ! 14 refl (LL.lawful T.the-type T′.the-laws 𝓤 H A W .typed noRow (T′.lowered noRow ∷ []) zeros .0)) $
+        assigns ! (agg ! (and-then ! (lit ! tt) (and-then ! (lit ! tt) (and-then ! (lit ! tt) (and-then ! (lit ! tt) (and-then ! (lit ! tt) (and-then ! (lit ! tt) (no-more !)))))))) (from ! (stop !)) (init ! 14 refl (LL.lawful T.the-type T′.the-laws 𝓤 H A W .typed noRow (T′.lowered noRow ∷ []) zeros .0)) $
         returns ! (look ! 14 refl) $ forget ! 6 refl $ forget ! 8 refl $ forget ! 10 refl $ forget ! 12 refl $ forget ! 14 refl $
         move ! (14 ∷ 15 ∷ []) $ free1 ! $ move ! (12 ∷ 13 ∷ []) $ free1 ! $ move ! (10 ∷ 11 ∷ []) $ free1 ! $ move ! (8 ∷ 9 ∷ []) $ free1 ! $ move ! (6 ∷ 7 ∷ []) $ free1 ! $ move ! (4 ∷ 5 ∷ []) $ free1 ! $ move ! (2 ∷ 3 ∷ []) $ free1 ! $ free1 ! $ free0 ! $
         split ! $ move ! (2 ∷ []) $ fsplit ! $ move ! (1 ∷ []) $ fsplit ! $ keep ! (3 ∷ 2 ∷ 0 ∷ []) $ by ! (exits noRow (sym (List·getD-eq-default ys noRow (nltb→le k (length ys) beyond))) zeros))))))))))

@@ -14,11 +14,11 @@ mul-n c = search needs
 slice-aggregate-put-line : tie.Need-slice-aggregate-put-line
 slice-aggregate-put-line c = search needs
 
+cast-t25 : tie.Need-cast-t25
+cast-t25 c = search needs
+
 cast-t26 : tie.Need-cast-t26
 cast-t26 c = search needs
-
-cast-t27 : tie.Need-cast-t27
-cast-t27 c = search needs
 
 slice-aggregate-put-line-2 : tie.Need-slice-aggregate-put-line-2
 slice-aggregate-put-line-2 c = search needs
@@ -62,9 +62,6 @@ front-requires-2 c κs = search needs
 put-threes-requires-2 : tie.Need-put-threes-requires-2
 put-threes-requires-2 c κs = search needs
 
-slice-aggregate-put-threes-3 : tie.Need-slice-aggregate-put-threes-3
-slice-aggregate-put-threes-3 c = search needs
-
 cast-front-3 : tie.Need-cast-front-3
 cast-front-3 c = search needs
 
@@ -74,8 +71,8 @@ mul-front-2 c = search needs
 front-requires-3 : tie.Need-front-requires-3
 front-requires-3 c κs = search needs
 
-put-threes-requires-3 : tie.Need-put-threes-requires-3
-put-threes-requires-3 c κs = search needs
+put-ranges-requires : tie.Need-put-ranges-requires
+put-ranges-requires c κs = search needs
 
 cast-front-long : tie.Need-cast-front-long
 cast-front-long c = search needs
@@ -90,10 +87,10 @@ put-failures-requires : tie.Need-put-failures-requires
 put-failures-requires c κs = search needs
 
 same-length : tie.Need-same-length
-same-length c = c .before .before .put-failures .ensures .long ∙ c .before .before .before .before .before .before .before .before .put-threes3 .ensures .long ∙ c .before .before .before .before .before .before .before .before .before .before .before .before .before .before .before .put-threes2 .ensures .long ∙ c .before .before .before .before .before .before .before .before .before .before .before .before .before .before .before .before .before .before .before .before .before .before .put-threes .ensures .long ∙ c .before .before .before .before .before .before .before .before .before .before .before .before .before .before .before .before .before .before .before .before .before .before .before .before .before .before .before .before .before .put-vertices .ensures .long ∙ c .before .before .before .before .before .before .before .before .before .before .before .before .before .before .before .before .before .before .before .before .before .before .before .before .before .before .before .before .before .before .before .before .before .before .before .put-line .ensures .long
+same-length c = c .before .before .put-failures .ensures .long ∙ c .before .before .before .before .before .before .before .before .put-ranges .ensures .long ∙ c .before .before .before .before .before .before .before .before .before .before .before .before .before .before .put-threes2 .ensures .long ∙ c .before .before .before .before .before .before .before .before .before .before .before .before .before .before .before .before .before .before .before .before .before .put-threes .ensures .long ∙ c .before .before .before .before .before .before .before .before .before .before .before .before .before .before .before .before .before .before .before .before .before .before .before .before .before .before .before .before .put-vertices .ensures .long ∙ c .before .before .before .before .before .before .before .before .before .before .before .before .before .before .before .before .before .before .before .before .before .before .before .before .before .before .before .before .before .before .before .before .before .before .put-line .ensures .long
 
 returns : tie.Need-returns
-returns c = mesh-written _ _ _ _ _ _ _ (c .before .before .before .before .before .before .before .before .before .before .before .before .before .before .before .before .before .before .before .before .before .before .before .before .before .before .before .before .before .before .before .front-floats .ensures) (c .before .before .before .before .before .before .before .before .before .before .before .before .before .before .before .before .before .before .before .before .before .before .before .before .before .before .before .before .before .before .front-floats2 .ensures) (c .before .before .before .before .before .before .before .before .before .before .before .before .before .before .before .before .before .before .before .before .before .before .before .front .ensures) (c .before .before .before .before .before .before .before .before .before .before .before .before .before .before .before .before .front2 .ensures) (c .before .before .before .before .before .before .before .before .before .front3 .ensures) (c .before .before .before .front-long .ensures) (c .before .before .before .before .before .before .before .before .before .before .before .before .before .before .before .before .before .before .before .before .before .before .before .before .before .before .before .before .before .before .before .before .before .before .before .put-line .ensures) (c .before .before .before .before .before .before .before .before .before .before .before .before .before .before .before .before .before .before .before .before .before .before .before .before .before .before .before .before .before .put-vertices .ensures) (c .before .before .before .before .before .before .before .before .before .before .before .before .before .before .before .before .before .before .before .before .before .before .put-threes .ensures) (c .before .before .before .before .before .before .before .before .before .before .before .before .before .before .before .put-threes2 .ensures) (c .before .before .before .before .before .before .before .before .put-threes3 .ensures) (c .before .before .put-failures .ensures)
+returns c = mesh-written _ _ _ _ _ _ _ (c .before .before .before .before .before .before .before .before .before .before .before .before .before .before .before .before .before .before .before .before .before .before .before .before .before .before .before .before .before .before .front-floats .ensures) (c .before .before .before .before .before .before .before .before .before .before .before .before .before .before .before .before .before .before .before .before .before .before .before .before .before .before .before .before .before .front-floats2 .ensures) (c .before .before .before .before .before .before .before .before .before .before .before .before .before .before .before .before .before .before .before .before .before .before .front .ensures) (c .before .before .before .before .before .before .before .before .before .before .before .before .before .before .before .front2 .ensures) (c .before .before .before .before .before .before .before .before .before .front3 .ensures) (c .before .before .before .front-long .ensures) (c .before .before .before .before .before .before .before .before .before .before .before .before .before .before .before .before .before .before .before .before .before .before .before .before .before .before .before .before .before .before .before .before .before .before .put-line .ensures) (c .before .before .before .before .before .before .before .before .before .before .before .before .before .before .before .before .before .before .before .before .before .before .before .before .before .before .before .before .put-vertices .ensures) (c .before .before .before .before .before .before .before .before .before .before .before .before .before .before .before .before .before .before .before .before .before .put-threes .ensures) (c .before .before .before .before .before .before .before .before .before .before .before .before .before .before .put-threes2 .ensures) (c .before .before .before .before .before .before .before .before .put-ranges .ensures) (c .before .before .put-failures .ensures)
 
 pub put-mesh-spec : {M : Type 1} → statement M
 put-mesh-spec =
@@ -102,8 +99,8 @@ put-mesh-spec =
     cast-n
     mul-n
     slice-aggregate-put-line
+    cast-t25
     cast-t26
-    cast-t27
     slice-aggregate-put-line-2
     put-line-requires
     front-floats-requires
@@ -118,11 +115,10 @@ put-mesh-spec =
     cast-front-2
     front-requires-2
     put-threes-requires-2
-    slice-aggregate-put-threes-3
     cast-front-3
     mul-front-2
     front-requires-3
-    put-threes-requires-3
+    put-ranges-requires
     cast-front-long
     mul-front-long
     front-long-requires

@@ -24,7 +24,7 @@ same-length c = search needs
 
 returns : tie.Need-returns
 unfolding piece split numbers
-returns c = search (needs, failed-empty, as-form emptyForm (bytes "(failed# (empty))") refl)
+returns c = search (needs, failed-empty, as-form emptyForm (bytes "(failed## (empty))") refl)
 
 slice-aggregate-put-line-3 : tie.Need-slice-aggregate-put-line-3
 slice-aggregate-put-line-3 c = search needs
@@ -40,7 +40,7 @@ same-length-2 c = search needs
 
 returns-2 : tie.Need-returns-2
 unfolding piece split numbers
-returns-2 c = search (needs, failed-escape, as-form escapeForm (bytes "(failed# (escape$$))") refl)
+returns-2 c = search (needs, failed-escape, as-form escapeForm (bytes "(failed## (escape$$))") refl)
 
 slice-aggregate-put-line-5 : tie.Need-slice-aggregate-put-line-5
 slice-aggregate-put-line-5 c = search needs
@@ -56,7 +56,7 @@ same-length-3 c = search needs
 
 returns-3 : tie.Need-returns-3
 unfolding piece split numbers
-returns-3 c = search (needs, failed-upstream, as-form upstreamForm (bytes "(failed# (upstream#))") refl)
+returns-3 c = search (needs, failed-upstream, as-form upstreamForm (bytes "(failed## (upstream#))") refl)
 
 pub put-failure-spec : {M : Type 1} → statement M
 put-failure-spec =

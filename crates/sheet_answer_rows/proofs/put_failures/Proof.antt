@@ -51,6 +51,15 @@ mul-put-failure-4 c = search needs
 shared-slice-read-put-failure-4 : tie.Need-shared-slice-read-put-failure-4 Inv-loop μ-loop
 shared-slice-read-put-failure-4 c = search needs
 
+add-put-failure-4 : tie.Need-add-put-failure-4 Inv-loop μ-loop
+add-put-failure-4 c = search needs
+
+mul-put-failure-5 : tie.Need-mul-put-failure-5 Inv-loop μ-loop
+mul-put-failure-5 c = search needs
+
+shared-slice-read-put-failure-5 : tie.Need-shared-slice-read-put-failure-5 Inv-loop μ-loop
+shared-slice-read-put-failure-5 c = search needs
+
 put-failure-requires : tie.Need-put-failure-requires Inv-loop μ-loop
 put-failure-requires c κs = search (needs, failures-room)
 
@@ -88,6 +97,9 @@ put-failures-spec =
     add-put-failure-3
     mul-put-failure-4
     shared-slice-read-put-failure-4
+    add-put-failure-4
+    mul-put-failure-5
+    shared-slice-read-put-failure-5
     put-failure-requires
     add-i
     loop-less

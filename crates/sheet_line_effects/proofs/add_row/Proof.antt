@@ -16,6 +16,9 @@ low-requires-2 c κs = search needs
 low-requires-3 : tie.Need-low-requires-3
 low-requires-3 c κs = search needs
 
+low-requires-4 : tie.Need-low-requires-4
+low-requires-4 c κs = search needs
+
 store-row-requires : tie.Need-store-row-requires
 store-row-requires c κs = search needs
 
@@ -36,6 +39,7 @@ add-row-spec =
     low-requires
     low-requires-2
     low-requires-3
+    low-requires-4
     store-row-requires
     add-t
     same-length

@@ -1,8 +1,8 @@
 -- `fails_with_zero` meets its contract. Assumes nothing.
 use mathlib.Core.Path.{refl}
-use Rattle.sheet_lines.specs.declared.Kind.the-variants.{Box, Sag, NoDefault, Default, Material, Face, Vertex, Triangle, Fail}
+use Rattle.sheet_lines.specs.declared.Kind.the-variants.{Box, Sag, NoDefault, Default, Material, Face, FaceBin, Vertex, Triangle, Fail, FailBin}
 use Rattle.sheet_line_order.specs.Reading.{failsWithZero}
-use Rattle.sheet_line_refusals.proofs.OrderLaws.{fails-as, fails-fail}
+use Rattle.sheet_line_refusals.proofs.OrderLaws.{fails-as, fails-bin, fails-fail}
 use borrow.Author.Needs.{needs}
 use Rattle.sheet_line_refusals.proofs.fails_with_zero.Statement.{statement}
 use Rattle.sheet_line_refusals.proofs.fails_with_zero.Tie as tie
@@ -34,8 +34,17 @@ enum-told-8 c = search needs
 enum-told-9 : tie.Need-enum-told-9
 enum-told-9 c = search needs
 
+enum-told-10 : tie.Need-enum-told-10
+enum-told-10 c = search needs
+
 shared-slice-read-result : tie.Need-shared-slice-read-result
 shared-slice-read-result c = search needs
+
+enum-told-11 : tie.Need-enum-told-11
+enum-told-11 c = search needs
+
+shared-slice-read-result-2 : tie.Need-shared-slice-read-result-2
+shared-slice-read-result-2 c = search needs
 
 returns : tie.Need-returns
 unfolding failsWithZero
@@ -63,14 +72,21 @@ returns-6 c = fails-as Face _ _ _ (c .enum-told6 .given .1) refl
 
 returns-7 : tie.Need-returns-7
 unfolding failsWithZero
-returns-7 c = fails-as Vertex _ _ _ (c .enum-told7 .given .1) refl
+returns-7 c = fails-as FaceBin _ _ _ (c .enum-told7 .given .1) refl
 
 returns-8 : tie.Need-returns-8
 unfolding failsWithZero
-returns-8 c = fails-as Triangle _ _ _ (c .enum-told8 .given .1) refl
+returns-8 c = fails-as Vertex _ _ _ (c .enum-told8 .given .1) refl
 
 returns-9 : tie.Need-returns-9
-returns-9 c = fails-as Fail _ _ _ (c .before .enum-told9 .given .1) (fails-fail _)
+unfolding failsWithZero
+returns-9 c = fails-as Triangle _ _ _ (c .enum-told9 .given .1) refl
+
+returns-10 : tie.Need-returns-10
+returns-10 c = fails-as Fail _ _ _ (c .before .enum-told10 .given .1) (fails-fail _)
+
+returns-11 : tie.Need-returns-11
+returns-11 c = fails-as FailBin _ _ _ (c .before .enum-told11 .given .1) (fails-bin _)
 
 pub fails-with-zero-spec : {M : Type 1} → statement M
 fails-with-zero-spec =
@@ -85,7 +101,10 @@ fails-with-zero-spec =
     enum-told-7
     enum-told-8
     enum-told-9
+    enum-told-10
     shared-slice-read-result
+    enum-told-11
+    shared-slice-read-result-2
     returns
     returns-2
     returns-3
@@ -94,4 +113,6 @@ fails-with-zero-spec =
     returns-6
     returns-7
     returns-8
-    returns-9)
+    returns-9
+    returns-10
+    returns-11)

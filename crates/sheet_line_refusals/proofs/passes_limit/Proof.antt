@@ -3,7 +3,7 @@ use mathlib.Core.Path.{refl}
 use native.Mathlib.Omega.{arith}
 use Rattle.sheet_lines.specs.Counted.{countIn}
 use Rattle.sheet_lines.specs.Forms.{form, numbers}
-use Rattle.sheet_lines.specs.declared.Kind.the-variants.{Box, Sag, NoDefault, Default, Face, Fail}
+use Rattle.sheet_lines.specs.declared.Kind.the-variants.{Box, Sag, NoDefault, Default, Face, FaceBin, Fail, FailBin}
 use Rattle.sheet_line_order.specs.Reading.{passesLimit}
 use Rattle.sheet_line_refusals.proofs.OrderLaws.{limit-material, limit-none, limit-row, limit-triangle, limit-vertex}
 use borrow.Author.Needs.{needs}
@@ -40,20 +40,38 @@ row-passes-requires c κs = search needs
 enum-told-7 : tie.Need-enum-told-7
 enum-told-7 c = search needs
 
-enum-told-8 : tie.Need-enum-told-8
-enum-told-8 c = search needs
-
-triangle-passes-requires : tie.Need-triangle-passes-requires
-triangle-passes-requires c κs = search needs
-
-enum-told-9 : tie.Need-enum-told-9
-enum-told-9 c = search needs
-
 shared-slice-read-row-passes-2 : tie.Need-shared-slice-read-row-passes-2
 shared-slice-read-row-passes-2 c = search needs
 
 row-passes-requires-2 : tie.Need-row-passes-requires-2
 row-passes-requires-2 c κs = search needs
+
+enum-told-8 : tie.Need-enum-told-8
+enum-told-8 c = search needs
+
+enum-told-9 : tie.Need-enum-told-9
+enum-told-9 c = search needs
+
+triangle-passes-requires : tie.Need-triangle-passes-requires
+triangle-passes-requires c κs = search needs
+
+enum-told-10 : tie.Need-enum-told-10
+enum-told-10 c = search needs
+
+shared-slice-read-row-passes-3 : tie.Need-shared-slice-read-row-passes-3
+shared-slice-read-row-passes-3 c = search needs
+
+row-passes-requires-3 : tie.Need-row-passes-requires-3
+row-passes-requires-3 c κs = search needs
+
+enum-told-11 : tie.Need-enum-told-11
+enum-told-11 c = search needs
+
+shared-slice-read-row-passes-4 : tie.Need-shared-slice-read-row-passes-4
+shared-slice-read-row-passes-4 c = search needs
+
+row-passes-requires-4 : tie.Need-row-passes-requires-4
+row-passes-requires-4 c κs = search needs
 
 returns : tie.Need-returns
 unfolding passesLimit
@@ -79,14 +97,22 @@ unfolding passesLimit form numbers countIn
 returns-6 c = limit-row _ _ _ _ _ _ Face (omega arith) (λ ns x. refl) _ (c .before .before .enum-told6 .given .1) (c .row-passes .ensures)
 
 returns-7 : tie.Need-returns-7
-returns-7 c = search (needs, limit-vertex)
+unfolding passesLimit form numbers countIn
+returns-7 c = limit-row _ _ _ _ _ _ FaceBin (omega arith) (λ ns x. refl) _ (c .before .before .enum-told7 .given .1) (c .row-passes2 .ensures)
 
 returns-8 : tie.Need-returns-8
-returns-8 c = search (needs, limit-triangle)
+returns-8 c = search (needs, limit-vertex)
 
 returns-9 : tie.Need-returns-9
+returns-9 c = search (needs, limit-triangle)
+
+returns-10 : tie.Need-returns-10
 unfolding passesLimit form numbers countIn
-returns-9 c = limit-row _ _ _ _ _ _ Fail (omega arith) (λ ns x. refl) _ (c .before .before .enum-told9 .given .1) (c .row-passes2 .ensures)
+returns-10 c = limit-row _ _ _ _ _ _ Fail (omega arith) (λ ns x. refl) _ (c .before .before .enum-told10 .given .1) (c .row-passes3 .ensures)
+
+returns-11 : tie.Need-returns-11
+unfolding passesLimit form numbers countIn
+returns-11 c = limit-row _ _ _ _ _ _ FailBin (omega arith) (λ ns x. refl) _ (c .before .before .enum-told11 .given .1) (c .row-passes4 .ensures)
 
 pub passes-limit-spec : {M : Type 1} → statement M
 passes-limit-spec =
@@ -102,11 +128,17 @@ passes-limit-spec =
     shared-slice-read-row-passes
     row-passes-requires
     enum-told-7
-    enum-told-8
-    triangle-passes-requires
-    enum-told-9
     shared-slice-read-row-passes-2
     row-passes-requires-2
+    enum-told-8
+    enum-told-9
+    triangle-passes-requires
+    enum-told-10
+    shared-slice-read-row-passes-3
+    row-passes-requires-3
+    enum-told-11
+    shared-slice-read-row-passes-4
+    row-passes-requires-4
     returns
     returns-2
     returns-3
@@ -115,4 +147,6 @@ passes-limit-spec =
     returns-6
     returns-7
     returns-8
-    returns-9)
+    returns-9
+    returns-10
+    returns-11)

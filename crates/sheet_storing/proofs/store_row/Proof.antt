@@ -48,6 +48,15 @@ mul-s-5 c = search needs
 slice-write-s-5 : tie.Need-slice-write-s-5
 slice-write-s-5 c = simp length-set (omega arith)
 
+add-s-5 : tie.Need-add-s-5
+add-s-5 c = search needs
+
+mul-s-6 : tie.Need-mul-s-6
+mul-s-6 c = search needs
+
+slice-write-s-6 : tie.Need-slice-write-s-6
+slice-write-s-6 c = simp length-set (omega arith)
+
 same-length : tie.Need-same-length
 same-length c = search needs
 
@@ -72,5 +81,8 @@ store-row-spec =
     add-s-4
     mul-s-5
     slice-write-s-5
+    add-s-5
+    mul-s-6
+    slice-write-s-6
     same-length
     returns)

@@ -2,7 +2,7 @@
 //!
 //! The mesh and its parts are what the Rust returns; the counts are those it prints, the ranges those by which it slices its indices.
 //! The reach and the span of an escape it reports in words, with one decimal: their bits come from its own `farthest` and `diagonal`,
-//! held to those words. Closed is document 01's own.
+//! held to those words. Closed is document 01's own. The Rust knows nothing of bins: a range and a failure have that of their row.
 
 use super::settings::setting;
 use super::slices::{Lengths, filled, lengths};
@@ -24,13 +24,17 @@ pub struct Case {
     pub mesh: Mesh,
 }
 
-fn failure_numbers((face, failure): &(u32, Failure)) -> [u64; FAILURE] {
+fn failure_numbers((face, bin, failure): &(u32, u32, Failure)) -> [u64; FAILURE] {
     let (case, reach, span) = match failure {
         Failure::Empty => (0, 0, 0),
         Failure::Upstream(number) => (*number as u64, 0, 0),
         Failure::Escape(reach, span) => (256, reach.to_bits(), span.to_bits()),
     };
-    [*face as u64, case, reach, span]
+    [*face as u64, *bin as u64, case, reach, span]
+}
+
+fn range_numbers((face, bin, first, past): &(u32, u32, usize, usize)) -> [u32; RANGE] {
+    [*face, *bin, *first as u32, *past as u32]
 }
 
 pub fn mesh_of(done: &Finished) -> Mesh {
@@ -39,7 +43,7 @@ pub fn mesh_of(done: &Finished) -> Mesh {
         normals: done.normals.as_flattened().to_vec(),
         indices: done.indices.clone(),
         parts: done.parts.iter().flat_map(|(material, start, count)| [*material, *start, *count]).collect(),
-        ranges: done.ranges.iter().flat_map(|(face, first, past)| [*face, *first as u32, *past as u32]).collect(),
+        ranges: done.ranges.iter().flat_map(range_numbers).collect(),
         failures: done.failures.iter().flat_map(failure_numbers).collect(),
     }
 }

@@ -1,7 +1,7 @@
 //! The box, materials and default that a body is assembled with, varied at random, and some of its rows.
 
 use compare::library::Setting;
-use driver::check::{MOST_ROWS, MOST_VERTICES};
+use driver::check::{MOST_BIN, MOST_ROWS, MOST_VERTICES};
 use driver::finish::{box_of, face_materials};
 use driver::random::Random;
 use driver::sheet::{Row, Sheet};
@@ -142,7 +142,8 @@ fn add_failed_rows(sheet: &mut Sheet, r: &mut Random) {
             return;
         }
         let (shell, face) = (r.below(3) as u32, r.below(64) as u32);
-        let bare = Row { shell, face, ..Row::default() };
+        let bin = *r.pick(&[0, 1, 256, MOST_BIN]);
+        let bare = Row { shell, face, bin, ..Row::default() };
         let row = match r.below(3) {
             0 => bare,
             1 => Row { outcome: *r.pick(&[1, 2, 254, 255]), ..bare },

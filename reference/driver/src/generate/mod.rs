@@ -1,5 +1,6 @@
 //! Sheets made up at random, each a function of its kind, a seed and a size.
 
+mod bins;
 mod bodies;
 mod edges;
 pub mod large;
@@ -14,8 +15,8 @@ use crate::sheet::Sheet;
 enum Maker {
     /// A body of about so many pieces on each shape, or of so many triangles at most.
     Body(fn(&mut Random, usize) -> Sheet),
-    /// A text that may be no sheet at all.
-    Text(fn(&mut Random) -> Vec<u8>),
+    /// A text that may be no sheet at all, of random numbers and of others for its bins.
+    Text(fn(&mut Random, &mut Random) -> Vec<u8>),
 }
 
 /// A kind of sheet: its name, what it shows, and how it is made.
@@ -29,7 +30,7 @@ const fn body(name: &'static str, shows: &'static str, make: fn(&mut Random, usi
     Kind { name, shows, maker: Maker::Body(make) }
 }
 
-const fn text(name: &'static str, shows: &'static str, make: fn(&mut Random) -> Vec<u8>) -> Kind {
+const fn text(name: &'static str, shows: &'static str, make: fn(&mut Random, &mut Random) -> Vec<u8>) -> Kind {
     Kind { name, shows, maker: Maker::Text(make) }
 }
 
@@ -62,6 +63,7 @@ pub const KINDS: &[Kind] = &[
     body("same-cell", "loose points of one key with other bits", edges::same_cell),
     body("tie", "points that tie on an edge", edges::tie),
     text("refused", "sheets whose body fails a check: 12, 22, 23", texts::refused),
+    text("bins", "sheets whose bins are named, left out, at the limit and past it, alone and with other faults: 15", texts::bins),
     text("limits", "sheets at the bench program's limits and past them: 52, 32", texts::limits),
     text("malformed", "texts that are no sheet: 51", texts::malformed),
 ];
@@ -98,14 +100,14 @@ pub const LARGE: &[Kind] = &[
 pub fn generate(kind: &Kind, seed: u64, size: usize) -> Vec<u8> {
     match kind.maker {
         Maker::Body(_) => print::sheet(&body_of(kind, seed, size).expect("a body")).into_bytes(),
-        Maker::Text(make) => make(&mut random(kind, seed)),
+        Maker::Text(make) => make(&mut random(kind, seed), &mut bins::random(kind.name, seed)),
     }
 }
 
 /// The body of a kind and a seed, if the kind makes bodies.
 pub fn body_of(kind: &Kind, seed: u64, size: usize) -> Option<Sheet> {
     match kind.maker {
-        Maker::Body(make) => Some(make(&mut random(kind, seed), size)),
+        Maker::Body(make) => Some(bins::given(make(&mut random(kind, seed), size), &mut bins::random(kind.name, seed))),
         Maker::Text(_) => None,
     }
 }
@@ -116,6 +118,10 @@ pub fn kind(name: &str) -> Option<&'static Kind> {
 
 /// Each kind has random numbers of its own.
 fn random(kind: &Kind, seed: u64) -> Random {
-    let name = kind.name.bytes().fold(0u64, |n, c| n.wrapping_mul(31).wrapping_add(c as u64));
+    random_of(kind.name, seed)
+}
+
+fn random_of(name: &str, seed: u64) -> Random {
+    let name = name.bytes().fold(0u64, |n, c| n.wrapping_mul(31).wrapping_add(c as u64));
     Random::new(seed.wrapping_mul(0x1_0000_0001).wrapping_add(name))
 }

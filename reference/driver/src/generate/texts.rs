@@ -1,40 +1,82 @@
 //! Texts that a reader must refuse: no sheet at all, past a limit, or a body that fails a check.
 
-use super::{bodies, edges};
+use super::{bins as named, bodies, edges};
 use crate::print;
 use crate::random::Random;
-use crate::sheet::Sheet;
+use crate::sheet::{Row, Sheet};
 
 fn some_body(r: &mut Random) -> Sheet {
     if r.chance(50) { bodies::boxes(r, 0) } else { bodies::failed(r, 0) }
 }
 
 /// A body that fails check 12, 22 or 23, or two of them.
-pub fn refused(r: &mut Random) -> Vec<u8> {
+pub fn refused(r: &mut Random, of_bins: &mut Random) -> Vec<u8> {
     let mut body = some_body(r);
     for _ in 0..r.size(1, 2) {
         let k = body.rows.iter().position(|row| !row.indices.is_empty()).expect("a row with triangles");
         match r.below(4) {
             0 => {
                 let outcome = *r.pick(&[256, 1000, u32::MAX]);
-                body.rows.push(crate::sheet::Row { outcome, ..Default::default() });
+                body.rows.push(Row { outcome, ..Row::default() });
             }
             1 => body.rows[k].indices[1] = *r.pick(&[body.rows[k].positions.len() as u32, u32::MAX, 200]),
             2 => body.rows[k].positions[0][r.below(3) as usize] = *r.pick(&[0x7f80_0000, 0xff80_0000, 0x7fc0_0000, 0x7f80_0001]),
             _ => body.rows[k].normals[0][r.below(3) as usize] = *r.pick(&[0x7f80_0000, 0xffff_ffff]),
         }
     }
-    print::sheet(&body).into_bytes()
+    print::sheet(&named::given(body, of_bins)).into_bytes()
+}
+
+/// A body with a bin past the limit or at it, on a patch or on a failed row, alone or with a fault of another check; its lines may name
+/// bin 0 too, and a later line may be no line at all or pass a limit of the bench program.
+pub fn bins(r: &mut Random, of_bins: &mut Random) -> Vec<u8> {
+    let mut body = named::given(some_body(r), of_bins);
+    if r.chance(40) {
+        body.rows.push(Row { face: 63, outcome: 255, ..Row::default() });
+    }
+    let k = if r.chance(40) { body.rows.len() - 1 } else { r.below(body.rows.len() as u64) as usize };
+    body.rows[k].bin = *r.pick(&[65_535, 65_536, 65_536, 65_537, 131_072, 0x8000_0000, u32::MAX]);
+    let patch = body.rows.iter().position(|row| !row.indices.is_empty()).expect("a row with triangles");
+    match r.below(6) {
+        0 => body.rows.push(Row { outcome: 256, bin: 65_536, ..Row::default() }),
+        1 => body.rows[patch].indices[0] = u32::MAX,
+        2 => body.rows[patch].normals[0][0] = 0x7f80_0000,
+        _ => {}
+    }
+    let mut text = print::sheet(&body);
+    if r.chance(30) {
+        text = text.lines().map(|line| with_bin_zero(line) + "\n").collect();
+    }
+    if r.chance(30) {
+        text += *r.pick(&[
+            "(face 0 64 65536)\n",
+            "(face 0 1 4294967296)\n",
+            "(face 0 1 00)\n",
+            "(face 0 1 )\n",
+            "(face 0 1 2 3)\n",
+            "(fail 0 1 7 -1)\n",
+            "(fail 0 1 0 7)\n",
+            "(fail 0 1 7 65536)\n",
+        ]);
+    }
+    text.into_bytes()
+}
+
+/// A face or fail line that names bin 0 where it named none.
+fn with_bin_zero(line: &str) -> String {
+    let numbers = line.split(' ').count() - 1;
+    let bare = (line.starts_with("(face ") && numbers == 2) || (line.starts_with("(fail ") && numbers == 3);
+    if bare { format!("{} 0)", &line[..line.len() - 1]) } else { line.to_string() }
 }
 
 /// A body at a limit of the bench program or just past it.
-pub fn limits(r: &mut Random) -> Vec<u8> {
+pub fn limits(r: &mut Random, of_bins: &mut Random) -> Vec<u8> {
     let mut body = bodies::boxes(r, 0);
     match r.below(6) {
         0 => {
             let count = r.size(15, 18);
             while body.rows.len() < count {
-                body.rows.push(crate::sheet::Row { face: body.rows.len() as u32, ..Default::default() });
+                body.rows.push(Row { face: body.rows.len() as u32, ..Row::default() });
             }
         }
         1 => body.rows[0].face = r.size(62, 65) as u32,
@@ -54,12 +96,12 @@ pub fn limits(r: &mut Random) -> Vec<u8> {
         }
         _ => body = edges::crowded(r, 12),
     }
-    print::sheet(&body).into_bytes()
+    print::sheet(&named::given(body, of_bins)).into_bytes()
 }
 
 /// A sheet with one line or one byte spoiled.
-pub fn malformed(r: &mut Random) -> Vec<u8> {
-    let mut body = some_body(r);
+pub fn malformed(r: &mut Random, of_bins: &mut Random) -> Vec<u8> {
+    let mut body = named::given(some_body(r), of_bins);
     body.materials = vec![(7, 3)];
     let text = print::sheet(&body);
     let mut lines: Vec<String> = text.lines().map(str::to_string).collect();

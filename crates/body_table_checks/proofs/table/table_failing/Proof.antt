@@ -1,5 +1,5 @@
 -- `body_table_checks::table::table_failing` meets its contract. Assumes nothing.
-use Rattle.body_table_checks.specs.TableFirst.{whole-passed, fails-11, fails-12, fails-13, fails-14, fails-none}
+use Rattle.body_table_checks.specs.TableFirst.{whole-passed, fails-11, fails-12, fails-13, fails-14, fails-15, fails-none}
 use borrow.Author.Needs.{needs}
 use Rattle.body_table_checks.proofs.table.table_failing.Statement.{statement}
 use Rattle.body_table_checks.proofs.table.table_failing.Tie as tie
@@ -28,8 +28,14 @@ wrong-lengths-requires c κs = search whole-passed
 returns-4 : tie.Need-returns-4
 returns-4 c = search fails-14
 
+any-bad-bin-requires : tie.Need-any-bad-bin-requires
+any-bad-bin-requires c κs = search needs
+
 returns-5 : tie.Need-returns-5
-returns-5 c = search fails-none
+returns-5 c = search fails-15
+
+returns-6 : tie.Need-returns-6
+returns-6 c = search fails-none
 
 pub table-failing-spec : {M : Type 1} → statement M
 table-failing-spec =
@@ -43,4 +49,6 @@ table-failing-spec =
     returns-3
     wrong-lengths-requires
     returns-4
-    returns-5)
+    any-bad-bin-requires
+    returns-5
+    returns-6)

@@ -22,11 +22,14 @@ enum-known-verdict c = search needs
 face-requires : tie.Need-face-requires
 face-requires c κs = search needs
 
+bin-requires : tie.Need-bin-requires
+bin-requires c κs = search needs
+
 put-failure-requires : tie.Need-put-failure-requires
 put-failure-requires c κs = search needs
 
 add-result : tie.Need-add-result
-add-result c = omega (arith, (c .before .before .before .before .before .before .before .before .before .before .before .before .before .before .pre .room), (c .before .before .before .before .before .before .before .before .before .before .before .before .before .before .good .1 .1 .1 .1 .1 .1 .1 .1 .1 .0 .0))
+add-result c = omega (arith, (c .before .before .before .before .before .before .before .before .before .before .before .before .before .before .before .pre .room), (c .before .before .before .before .before .before .before .before .before .before .before .before .before .before .before .good .1 .1 .1 .1 .1 .1 .1 .1 .1 .0 .0))
 
 returns-2 : tie.Need-returns-2
 returns-2 c = failure-none (sym (ap failureIn (c .enum-told .given .1)) ∙ (c .before .before .row-verdict .ensures))
@@ -35,7 +38,7 @@ same-length : tie.Need-same-length
 same-length c = search needs
 
 returns-3 : tie.Need-returns-3
-returns-3 c = failure-one (sym (ap failureIn (c .before .before .before .before .before .before .verdict .given .1)) ∙ (c .before .before .before .before .before .before .before .before .row-verdict .ensures)) (c .before .before .before .face .ensures) (c .before .before .put-failure .ensures)
+returns-3 c = failure-one (sym (ap failureIn (c .before .before .before .before .before .before .before .verdict .given .1)) ∙ (c .before .before .before .before .before .before .before .before .before .row-verdict .ensures)) (c .before .before .before .before .face .ensures) (c .before .before .before .bin .ensures) (c .before .before .put-failure .ensures)
 
 pub append-failure-spec : {M : Type 1} → statement M
 append-failure-spec =
@@ -46,6 +49,7 @@ append-failure-spec =
     enum-told
     enum-known-verdict
     face-requires
+    bin-requires
     put-failure-requires
     add-result
     returns-2

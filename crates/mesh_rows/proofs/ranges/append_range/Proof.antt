@@ -33,11 +33,14 @@ cast-first c = omega (arith, (c .before .before .before .before .before .before 
 face-requires : tie.Need-face-requires
 face-requires c κs = search needs
 
+bin-requires : tie.Need-bin-requires
+bin-requires c κs = search needs
+
 indices-requires : tie.Need-indices-requires
 indices-requires c κs = search needs
 
 add-put-range : tie.Need-add-put-range
-add-put-range c = omega (arith, (c .before .before .before .before .before .before .before .before .before .pre .small) (c .before .before .before .before .if1 .left), (c .indices .ensures))
+add-put-range c = omega (arith, (c .before .before .before .before .before .before .before .before .before .before .pre .small) (c .before .before .before .before .before .if1 .left), (c .indices .ensures))
 
 put-range-requires : tie.Need-put-range-requires
 put-range-requires c κs = search needs
@@ -49,7 +52,7 @@ same-length : tie.Need-same-length
 same-length c = search needs
 
 returns-2 : tie.Need-returns-2
-returns-2 c = range-yes (c .before .before .before .before .before .before .before .before .before .before .before .before .pre) (c .before .before .before .before .before .before .before .if1 .left) (c .before .before .before .before .face .ensures) refl (omega (arith, (c .before .before .before .indices .ensures))) (c .before .before .put-range .ensures)
+returns-2 c = range-yes (c .before .before .before .before .before .before .before .before .before .before .before .before .before .pre) (c .before .before .before .before .before .before .before .before .if1 .left) (c .before .before .before .before .before .face .ensures) (c .before .before .before .before .bin .ensures) refl (omega (arith, (c .before .before .before .indices .ensures))) (c .before .before .put-range .ensures)
 
 pub append-range-spec : {M : Type 1} → statement M
 append-range-spec =
@@ -64,6 +67,7 @@ append-range-spec =
     shared-slice-read-first
     cast-first
     face-requires
+    bin-requires
     indices-requires
     add-put-range
     put-range-requires

@@ -1,8 +1,8 @@
 -- `later_line_of` meets its contract. Assumes nothing.
 use Rattle.sheet_lines.specs.Counted.{countIn}
-use Rattle.sheet_lines.specs.Pattern.{later, piece}
-use Rattle.sheet_lines.specs.declared.Kind.the-variants.{Material, Face, Vertex, Triangle, Fail}
-use Rattle.sheet_lines.proofs.KindLaws.{past-all, past-here, past-more, past-none}
+use Rattle.sheet_lines.specs.Pattern.{later, opening, piece}
+use Rattle.sheet_lines.specs.declared.Kind.the-variants.{Material, Vertex, Triangle}
+use Rattle.sheet_lines.proofs.KindLaws.{past-here, past-more, past-none, past-rest}
 use borrow.Author.Needs.{needs}
 use Rattle.sheet_lines.proofs.kinds.later_line_of.Statement.{statement}
 use Rattle.sheet_lines.proofs.kinds.later_line_of.Tie as tie
@@ -31,7 +31,7 @@ same-length-2 : tie.Need-same-length-2
 same-length-2 c = search needs
 
 returns-2 : tie.Need-returns-2
-returns-2 c = past-here Face (past-more Material (past-none _ later) (c .before .before .before .before .before .before .before .before .before .scan .ensures) (c .before .before .before .before .before .before .if1 .left)) (c .before .before .before .scan2 .ensures) (c .if2 .taken)
+returns-2 c = past-here Vertex (past-more Material (past-none _ later) (c .before .before .before .before .before .before .before .before .before .scan .ensures) (c .before .before .before .before .before .before .if1 .left)) (c .before .before .before .scan2 .ensures) (c .if2 .taken)
 
 slice-aggregate-scan-3 : tie.Need-slice-aggregate-scan-3
 slice-aggregate-scan-3 c = search needs
@@ -44,39 +44,16 @@ same-length-3 : tie.Need-same-length-3
 same-length-3 c = search needs
 
 returns-3 : tie.Need-returns-3
-returns-3 c = past-here Vertex (past-more Face (past-more Material (past-none _ later) (c .before .before .before .before .before .before .before .before .before .before .before .before .before .before .before .scan .ensures) (c .before .before .before .before .before .before .before .before .before .before .before .before .if1 .left)) (c .before .before .before .before .before .before .before .before .before .scan2 .ensures) (c .before .before .before .before .before .before .if2 .left)) (c .before .before .before .scan3 .ensures) (c .if3 .taken)
+returns-3 c = past-here Triangle (past-more Vertex (past-more Material (past-none _ later) (c .before .before .before .before .before .before .before .before .before .before .before .before .before .before .before .scan .ensures) (c .before .before .before .before .before .before .before .before .before .before .before .before .if1 .left)) (c .before .before .before .before .before .before .before .before .before .scan2 .ensures) (c .before .before .before .before .before .before .if2 .left)) (c .before .before .before .scan3 .ensures) (c .if3 .taken)
 
-slice-aggregate-scan-4 : tie.Need-slice-aggregate-scan-4
-slice-aggregate-scan-4 c = search needs
-
-scan-requires-4 : tie.Need-scan-requires-4
-unfolding countIn piece
-scan-requires-4 c κs = search needs
+opening-line-of-requires : tie.Need-opening-line-of-requires
+opening-line-of-requires c κs = search needs
 
 same-length-4 : tie.Need-same-length-4
 same-length-4 c = search needs
 
 returns-4 : tie.Need-returns-4
-returns-4 c = past-here Triangle (past-more Vertex (past-more Face (past-more Material (past-none _ later) (c .before .before .before .before .before .before .before .before .before .before .before .before .before .before .before .before .before .before .before .before .before .scan .ensures) (c .before .before .before .before .before .before .before .before .before .before .before .before .before .before .before .before .before .before .if1 .left)) (c .before .before .before .before .before .before .before .before .before .before .before .before .before .before .before .scan2 .ensures) (c .before .before .before .before .before .before .before .before .before .before .before .before .if2 .left)) (c .before .before .before .before .before .before .before .before .before .scan3 .ensures) (c .before .before .before .before .before .before .if3 .left)) (c .before .before .before .scan4 .ensures) (c .if4 .taken)
-
-slice-aggregate-scan-5 : tie.Need-slice-aggregate-scan-5
-slice-aggregate-scan-5 c = search needs
-
-scan-requires-5 : tie.Need-scan-requires-5
-unfolding countIn piece
-scan-requires-5 c κs = search needs
-
-same-length-5 : tie.Need-same-length-5
-same-length-5 c = search needs
-
-returns-5 : tie.Need-returns-5
-returns-5 c = past-here Fail (past-more Triangle (past-more Vertex (past-more Face (past-more Material (past-none _ later) (c .before .before .before .before .before .before .before .before .before .before .before .before .before .before .before .before .before .before .before .before .before .before .before .before .before .before .before .scan .ensures) (c .before .before .before .before .before .before .before .before .before .before .before .before .before .before .before .before .before .before .before .before .before .before .before .before .if1 .left)) (c .before .before .before .before .before .before .before .before .before .before .before .before .before .before .before .before .before .before .before .before .before .scan2 .ensures) (c .before .before .before .before .before .before .before .before .before .before .before .before .before .before .before .before .before .before .if2 .left)) (c .before .before .before .before .before .before .before .before .before .before .before .before .before .before .before .scan3 .ensures) (c .before .before .before .before .before .before .before .before .before .before .before .before .if3 .left)) (c .before .before .before .before .before .before .before .before .before .scan4 .ensures) (c .before .before .before .before .before .before .if4 .left)) (c .before .before .before .scan5 .ensures) (c .if5 .taken)
-
-same-length-6 : tie.Need-same-length-6
-same-length-6 c = search needs
-
-returns-6 : tie.Need-returns-6
-returns-6 c = past-all _ _ later (past-more Fail (past-more Triangle (past-more Vertex (past-more Face (past-more Material (past-none _ later) (c .before .before .before .before .before .before .before .before .before .before .before .before .before .before .before .before .before .before .before .before .before .before .before .before .before .before .before .scan .ensures) (c .before .before .before .before .before .before .before .before .before .before .before .before .before .before .before .before .before .before .before .before .before .before .before .before .if1 .left)) (c .before .before .before .before .before .before .before .before .before .before .before .before .before .before .before .before .before .before .before .before .before .scan2 .ensures) (c .before .before .before .before .before .before .before .before .before .before .before .before .before .before .before .before .before .before .if2 .left)) (c .before .before .before .before .before .before .before .before .before .before .before .before .before .before .before .scan3 .ensures) (c .before .before .before .before .before .before .before .before .before .before .before .before .if3 .left)) (c .before .before .before .before .before .before .before .before .before .scan4 .ensures) (c .before .before .before .before .before .before .if4 .left)) (c .before .before .before .scan5 .ensures) (c .if5 .left))
+returns-4 c = past-rest later opening _ _ (past-more Triangle (past-more Vertex (past-more Material (past-none _ later) (c .before .before .before .before .before .before .before .before .before .before .before .before .before .before .before .before .before .before .before .scan .ensures) (c .before .before .before .before .before .before .before .before .before .before .before .before .before .before .before .before .if1 .left)) (c .before .before .before .before .before .before .before .before .before .before .before .before .before .scan2 .ensures) (c .before .before .before .before .before .before .before .before .before .before .if2 .left)) (c .before .before .before .before .before .before .before .scan3 .ensures) (c .before .before .before .before .if3 .left)) (c .before .before .opening-line-of .ensures)
 
 pub later-line-of-spec : {M : Type 1} → statement M
 later-line-of-spec =
@@ -94,13 +71,6 @@ later-line-of-spec =
     scan-requires-3
     same-length-3
     returns-3
-    slice-aggregate-scan-4
-    scan-requires-4
+    opening-line-of-requires
     same-length-4
-    returns-4
-    slice-aggregate-scan-5
-    scan-requires-5
-    same-length-5
-    returns-5
-    same-length-6
-    returns-6)
+    returns-4)

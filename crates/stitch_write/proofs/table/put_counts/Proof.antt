@@ -13,6 +13,9 @@ face-requires c κs = search needs
 outcome-requires : tie.Need-outcome-requires
 outcome-requires c κs = search needs
 
+bin-requires : tie.Need-bin-requires
+bin-requires c κs = search needs
+
 put-row-requires : tie.Need-put-row-requires
 put-row-requires c κs = search needs
 
@@ -25,4 +28,11 @@ returns c = search row-put
 pub put-counts-spec : {M : Type 1} → statement M
 put-counts-spec =
     tie.close
-    (tie.spec shell-requires face-requires outcome-requires put-row-requires same-length returns)
+    (tie.spec
+    shell-requires
+    face-requires
+    outcome-requires
+    bin-requires
+    put-row-requires
+    same-length
+    returns)

@@ -1,7 +1,7 @@
--- `put_row` meets its contract. Five stores are one run of stores. Assumes nothing.
+-- `put_row` meets its contract. Six stores are one run of stores. Assumes nothing.
 use native.Mathlib.Omega.{arith}
 use lib.ListN.{length-set}
-use Rattle.stitch_write.proofs.TableLaws.{five-stores}
+use Rattle.stitch_write.proofs.TableLaws.{six-stores}
 use borrow.Author.Needs.{needs}
 use Rattle.stitch_write.proofs.table.put_row.Statement.{statement}
 use Rattle.stitch_write.proofs.table.put_row.Tie as tie
@@ -51,11 +51,20 @@ mul-out-5 c = search needs
 slice-write-out-5 : tie.Need-slice-write-out-5
 slice-write-out-5 c = simp length-set (omega arith)
 
+add-out-5 : tie.Need-add-out-5
+add-out-5 c = search needs
+
+mul-out-6 : tie.Need-mul-out-6
+mul-out-6 c = search needs
+
+slice-write-out-6 : tie.Need-slice-write-out-6
+slice-write-out-6 c = simp length-set (omega arith)
+
 same-length : tie.Need-same-length
 same-length c = search needs
 
 returns : tie.Need-returns
-returns c = search five-stores
+returns c = search six-stores
 
 pub put-row-spec : {M : Type 1} → statement M
 put-row-spec =
@@ -76,5 +85,8 @@ put-row-spec =
     add-out-4
     mul-out-5
     slice-write-out-5
+    add-out-5
+    mul-out-6
+    slice-write-out-6
     same-length
     returns)

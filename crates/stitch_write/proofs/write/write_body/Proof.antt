@@ -107,7 +107,7 @@ loop-again c =
     let i = d .before .before .before .before .before in
     let t = i .before .before in
     let q = t .before in
-    writing-more (q .before .before .before .before .before .before .before .before .before .before .before .pre) (q .loop .inv) (q .before .row-count .ensures) refl (t .loop-test .taken) (i .before .vertices .ensures) (omega (arith, i .indices .ensures)) (d .write-row .ensures) refl refl refl refl refl (e .put-counts .ensures)
+    writing-more (q .before .before .before .before .before .before .before .before .before .before .before .pre) (q .loop .inv) (q .before .row-count .ensures) refl (t .loop-test .taken) (i .before .vertices .ensures) (omega (arith, i .indices .ensures)) (d .write-row .ensures) refl refl refl refl refl refl (e .put-counts .ensures)
     (omega (arith, d .write-row .kept)) (omega (arith, e .put-counts .kept)) (omega (arith, d .write-row .kept)) (omega (arith, d .write-row .kept)) (omega (arith, d .write-row .kept))
 
 same-length : tie.Need-same-length Inv-loop μ-loop
