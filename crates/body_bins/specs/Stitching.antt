@@ -7,7 +7,7 @@ use native.Mathlib.Omega.{arith}
 use lib.ListN.{length, take, drop, length-map}
 use lib.Seq.{take-at}
 use lib.Dec.{ltb, eqb}
-use borrow.Author.Tests.{eq-eqb}
+use borrow.Author.Tests.{eq-eqb, eqb-true}
 use lib.Ieee.{Float, lt}
 use Rattle.lists.specs.Lists.{sumOf, written}
 use Rattle.point_rules.specs.Rule.{Rule, names}
@@ -99,11 +99,23 @@ module _ (rule : Rule) (ps ns : List Float) (is : List ℕ) (sag : Float) (out :
       go true n q e = ap binsOf (table-front rs (out .table) (length rows) (sym (bins-many rows rs same))) ∙ same
       go false n q e = absurd (apart (sym q ∙ eq-eqb n 0 e))
 
+  -- a body that was stitched passed its checks
+  checks-passed : (table : List ℕ) → stitchOf rule table ps ns is sag out .refusal ≡ 0 → firstFailing (bodyChecks table ps ns is (length (out .work))) ≡ 0
+  unfolding stitchOf refuseStitch
+  checks-passed table h = let n = firstFailing (bodyChecks table ps ns is (length (out .work))) in go n (eqb n 0) refl h
+    where
+      result : ℕ → Bool → AfterStitch
+      result n b = elim b [ true ↦ stitchRows (rowsOf table) | false ↦ refuseStitch n out ]
+
+      go : (n : ℕ) (b : Bool) → eqb n 0 ≡ b → result n b .refusal ≡ 0 → n ≡ 0
+      go n true q e = eqb-true n 0 q
+      go n false q e = e
+
   -- The stitched table, row by row, has the bins of the lent one.
-  pub stitch-keeps-bins : (table : List ℕ) → firstFailing (bodyChecks table ps ns is (length (out .work))) ≡ 0 → stitchOf rule table ps ns is sag out .refusal ≡ 0
+  pub stitch-keeps-bins : (table : List ℕ) → stitchOf rule table ps ns is sag out .refusal ≡ 0
       → binsOf (rowsOf (take (rowWidth * length (rowsOf table)) (stitchOf rule table ps ns is sag out .slices .table))) ≡ binsOf (rowsOf table)
-  stitch-keeps-bins table a h =
-      let e = accepted table a in
+  stitch-keeps-bins table h =
+      let e = accepted table (checks-passed table h) in
       ap (λ (t : AfterStitch). binsOf (rowsOf (take (rowWidth * length (rowsOf table)) (t .slices .table)))) e ∙ rows-bins (rowsOf table) (sym (ap (λ (t : AfterStitch). t .refusal) e) ∙ h)
 
 -- ---- bins play no part
