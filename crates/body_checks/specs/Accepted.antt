@@ -14,7 +14,7 @@ use Rattle.float_steps.specs.Floats.{finite}
 use Rattle.lists.specs.Lists.{any, sumOf}
 use Rattle.lists.specs.Any.{any-none, any-one}
 use Rattle.body_rows.specs.Body.{rowWidth, Row, rowsOf, patchesOf, allVertices, allIndices, firstFailing, workNeeded}
-use Rattle.body_refusals.specs.TableChecks.{badRow, badBin, tableChecks}
+use Rattle.body_refusals.specs.TableChecks.{mostBin, badRow, badBin, tableChecks}
 use Rattle.body_refusals.specs.PatchChecks.{badIndices, patchChecks}
 use Rattle.body_refusals.specs.BodyChecks.{bodyChecks, loneTable, loneChecks}
 use Rattle.body_rows.specs.Rows.{rowAt, noRow, indicesBefore, verticesBefore, WholeRows}
@@ -63,7 +63,7 @@ pub record Passed (table : List ℕ) (ps ns : List Float) (is : List ℕ) (words
   pub all-indices : length is ≡ allIndices (rowsOf table)
   pub outcomes : (k : ℕ) → k < length (rowsOf table) → rowAt table k .outcome ≤ 255
   pub failed : (k : ℕ) → k < length (rowsOf table) → (rowAt table k .outcome ≡ 0 → ⊥) → rowAt table k .vertices + rowAt table k .indices ≡ 0
-  pub bins : (k : ℕ) → k < length (rowsOf table) → rowAt table k .bin ≤ 65535
+  pub bins : (k : ℕ) → k < length (rowsOf table) → rowAt table k .bin ≤ mostBin
   pub threes : (k : ℕ) → k < length (rowsOf table) → rowAt table k .indices % 3 ≡ 0
   pub inside : (k j : ℕ) → k < length (rowsOf table) → j < rowAt table k .indices → getD is (indicesBefore (rowsOf table) k + j) 0 < rowAt table k .vertices
   pub finite-positions : (k : ℕ) → k < length ps → finite (getD ps k nan) ≡ true
@@ -80,9 +80,9 @@ unfolding badRow
 outcome-of r e = ltb-false 255 (r .outcome) (or-left (ltb 255 (r .outcome)) _ e)
 
 -- a bin that is not too high
-bin-of : (r : Row) → badBin r ≡ false → r .bin ≤ 65535
+bin-of : (r : Row) → badBin r ≡ false → r .bin ≤ mostBin
 unfolding badBin
-bin-of r e = ltb-false 65535 (r .bin) e
+bin-of r e = ltb-false mostBin (r .bin) e
 
 -- a failed row has no counts
 empty-of : (r : Row) → badRow r ≡ false → (r .outcome ≡ 0 → ⊥) → r .vertices + r .indices ≡ 0

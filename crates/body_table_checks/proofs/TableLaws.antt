@@ -7,7 +7,7 @@ use lib.ListN.{length}
 use lib.Dec.{ltb, eqb}
 use borrow.Author.Tests.{eq-eqb, ne-eqb, lt-ltb, le-ltb}
 use Rattle.body_rows.specs.Body.{rowWidth, Row, rowsOf}
-use Rattle.body_refusals.specs.TableChecks.{badRow, badBin, tooLarge}
+use Rattle.body_refusals.specs.TableChecks.{mostBin, badRow, badBin, tooLarge}
 use Rattle.body_table_checks.specs.TableTests.{notWhole}
 use Rattle.body_rows.specs.Rows.{Total}
 
@@ -54,6 +54,6 @@ large-totals t s e = e ∙ (λ j. tooLarge (t .is j) (s .is j))
 
 -- ---- 15
 -- the bin decides
-pub bin-high : (r : Row) {b : ℕ} → b ≡ r .bin → ltb 65535 b ≡ badBin r
+pub bin-high : (r : Row) {b : ℕ} → b ≡ r .bin → ltb mostBin b ≡ badBin r
 unfolding badBin
-bin-high r e = ap (ltb 65535) e
+bin-high r e = ap (ltb mostBin) e
