@@ -1,6 +1,6 @@
 # A second look at a refused sheet, outside the proved program: where it is wrong, in one line.
 #   awk -v refusal=N -v rows=N -v vertices=N -v indices=N -v faces=N -f explain.awk SHEET
-# The limits are those of the program that refused it. Nothing is printed where nothing is found.
+# The limits are those of the program that refused it. Nothing is printed where nothing is found. A sheet is to have no byte of 0: some awks end a line there.
 BEGIN {
   LARGEST = 4294967295
   MOST_OUTCOME = 255
@@ -48,8 +48,13 @@ function found(text) {
   exit
 }
 
-# The line as it is shown: not the whole of a long one.
-function shown() { return length($0) > 60 ? substr($0, 1, 57) "..." : $0 }
+# The line as it is shown: without carriage returns, and not the whole of a long one.
+function shown(text) {
+  text = $0
+  sub(/\r$/, "", text)
+  gsub(/\r/, "?", text)
+  return length(text) > 60 ? substr(text, 1, 57) "..." : text
+}
 
 # What is wrong with a line, for 51.
 function malformed(text) { if (refusal == 51) found("line " NR ": " text ": " shown()) ; told = 1; exit }
@@ -96,7 +101,8 @@ function in_order(kind) {
   }
   if (kind == "v" && all_points == vertices) limit("there are more than " vertices " vertices")
   if (kind == "t" && all_corners + 3 > indices) limit("there are more than " indices / 3 " triangles")
-  if (refusal == 12 && kind == "fail" && field[4] > MOST_OUTCOME && first == "") first = "face " face " (line " NR "): its failure number " field[4] " is above 255"
+  if (refusal == 12 && first == "" && kind == "fail" && field[4] > MOST_OUTCOME)
+    first = "face " face " (line " NR "): its failure number " field[4] " is above 255"
   if (refusal == 15 && first == "" && (kind == "face" || kind == "fail")) {
     bin = field[kind == "face" ? 4 : 5]
     if (bin + 0 > MOST_BIN) first = "face " face " (line " NR "): its bin " bin " is above 65535"
