@@ -49,7 +49,7 @@ pub record Ended (l : List ℕ) : Type 0 where
   pub free : T (noFeed body)
   pub is : body ++ 10 ∷ [] ≡ l
 
-feed-cut : (body xs : List ℕ) → T (noFeed body) → linesOf (body ++ 10 ∷ xs) ≡ (body ++ 10 ∷ []) ∷ linesOf xs
+pub feed-cut : (body xs : List ℕ) → T (noFeed body) → linesOf (body ++ 10 ∷ xs) ≡ (body ++ 10 ∷ []) ∷ linesOf xs
 unfolding noFeed linesOf joined
 feed-cut [] xs t = refl
 feed-cut (c ∷ cs) xs t = go (eqb c 10) refl (feed-cut cs xs (and-r (not (eqb c 10)) (noFeed cs) t))
@@ -66,7 +66,7 @@ ended-cut l xs v =
     ∙ feed-cut (v .body) xs (v .free)
     ∙ ap (λ (m : List ℕ). m ∷ linesOf xs) (v .is)
 
-free-append : (a b : List ℕ) → T (noFeed a) → T (noFeed b) → T (noFeed (a ++ b))
+pub free-append : (a b : List ℕ) → T (noFeed a) → T (noFeed b) → T (noFeed (a ++ b))
 unfolding noFeed
 free-append [] b s t = t
 free-append (c ∷ a) b s t = and-i (not (eqb c 10)) (noFeed (a ++ b)) (and-l (not (eqb c 10)) (noFeed a) s) (free-append a b (and-r (not (eqb c 10)) (noFeed a) s) t)
