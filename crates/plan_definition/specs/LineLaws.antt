@@ -87,7 +87,7 @@ bin-back n o m t =
     let few : n ≤ mostBin = leb→le n mostBin m in
     let text : binLine (pos n) o ≡ print binForm ns = ap (binLine (pos n)) (sym (offsets-back o t)) ∙ bin-print n (word (o .x)) (word (o .y)) (word (o .z)) in
     let back : read binForm (print binForm ns) ≡ some ns =
-        read-print binForm ns (and-r (readable groupForm) (readable binForm) forms-readable) (and-i (ltb n (2 ^ 32)) _ (lt→ltb n (2 ^ 32) (omega arith)) (words-fit o t)) in
+    read-print binForm ns (and-r (readable groupForm) (readable binForm) forms-readable) (and-i (ltb n (2 ^ 32)) _ (lt→ltb n (2 ^ 32) (omega arith)) (words-fit o t)) in
     let here : read binForm (binLine (pos n) o) ≡ some ns = ap (read binForm) text ∙ back in
     let inside : leb n mostBin ≡ true = le-leb n mostBin few in
     rw (bin-no-group (pos n) o, here, lineOf, inside) (ap (λ (p : Place). some (Bin n p)) (offsets-back o t))

@@ -81,7 +81,7 @@ listing-back room es r few =
     let v : InRange es = listing-in-range 0 es r in
     let same : placed [] (listingPlan es) ≡ es = listing-placed es v in
     let fits : T (insideLimits room (listingPlan es)) =
-        and-i (keepsLimits [] (listingPlan es)) _ (listing-keeps es v) (subst (λ (fs : List Entry). T (leb (length fs) room)) (sym same) (le→leb (length es) room few)) in
+    and-i (keepsLimits [] (listingPlan es)) _ (listing-keeps es v) (subst (λ (fs : List Entry). T (leb (length fs) room)) (sym same) (le→leb (length es) room few)) in
     ap (planOf room) (sym (listing-text es v)) ∙ plan-accepted room (listingPlan es) fits ∙ ap Listed same
 
 -- The same of what the writer wrote.

@@ -3,12 +3,13 @@ use mathlib.Core.Bool.{Bool, true, false, _&&_, cond}
 use mathlib.Core.List.{List, [], _∷_}
 use mathlib.Core.Option.{Option, none, some}
 use mathlib.Core.Path.{_≡_, refl, sym, _∙_, ap, subst}
-use Prim.Native.Nat.{ℕ, suc, _^_, _≤_, _<_}
+use Prim.Native.Nat.{ℕ, zero, suc, _-_, _^_, _≤_, _<_}
 use native.Mathlib.Omega.{arith}
 use borrow.Author.Tests.{le-leb, lt-leb}
 use lib.Dec.{T, leb, ltb, ltb→lt}
 use lib.Ieee.Fits.{and-l, and-r}
-use lib.ListN.{length, getD, take}
+use lib.ListN.{length, getD, take, drop, drop-of-length-le}
+use lib.Seq.{slice, take-nil}
 use Rattle.body_refusals.specs.TableChecks.{mostBin}
 use Rattle.sheet_digits.specs.OffsetLaws.{offsetWords}
 use Rattle.sheet_lines.specs.Forms.{read}
@@ -22,7 +23,7 @@ use Rattle.plan_definition.specs.Lines.{groupForm, binForm, closeForm, opened, 
 use Rattle.plan_lines.specs.declared.OffsetWords.{OffsetWords}
 use Rattle.plan_lines.specs.declared.lines.PlanLine.{PlanLine}
 use Rattle.plan_lines.specs.declared.lines.PlanLine.the-variants as PlanLine
-use Rattle.plan_lines.specs.Given.{Line, InWords, Small, given}
+use Rattle.plan_lines.specs.Given.{Found, Begins, Line, LineEnd, InWords, Small, ended, given}
 use Rattle.plan_lines.specs.Patterns.{groupPattern, binPattern, closePattern, group-read, bin-read, close-read}
 
 -- as many numbers as there is room for
@@ -62,13 +63,13 @@ words-small x y z t =
 module _ (line N : List ℕ) (r : Bool) (v : Scanned (pieces groupPattern) line N r) where
   -- the line opens a group
   pub opens : length N ≡ 5 → r ≡ true → Line (lineOf line) (PlanLine.Open (record { x = getD N 0 0; y = getD N 1 0; z = getD N 2 0 }))
-  unfolding lineOf opened given Small
+  unfolding lineOf opened given Small ended
   opens h e =
       let ns : List ℕ = getD N 0 0 ∷ getD N 1 0 ∷ getD N 2 0 ∷ [] in
       let here : read groupForm line ≡ some ns =
-          sym (group-read line) ∙ sym (v .is) ∙ ap (λ (b : Bool). cond b (some (take (countIn (pieces groupPattern)) N)) none) e
-          ∙ ap (λ (n : ℕ). some (take n N)) group-count ∙ ap some (first-three N h) in
-      record { is = sym (rw (here, lineOf)); small = words-small (getD N 0 0) (getD N 1 0) (getD N 2 0) (read-fits groupForm line ns here) }
+      sym (group-read line) ∙ sym (v .is) ∙ ap (λ (b : Bool). cond b (some (take (countIn (pieces groupPattern)) N)) none) e
+      ∙ ap (λ (n : ℕ). some (take n N)) group-count ∙ ap some (first-three N h) in
+      record { is = sym (rw (here, lineOf)); small = words-small (getD N 0 0) (getD N 1 0) (getD N 2 0) (read-fits groupForm line ns here); there = refl }
 
   -- it opens none
   opens-none : r ≡ false → read groupForm line ≡ none
@@ -82,19 +83,20 @@ module _ (line N : List ℕ) (r : Bool) (v : Scanned (pieces groupPattern) line 
 
     -- a bin stands
     pub stands : length M ≡ 5 → s ≡ true → getD M 0 0 ≤ 65535 → Line (lineOf line) (PlanLine.Bin (getD M 0 0) (record { x = getD M 1 0; y = getD M 2 0; z = getD M 3 0 }))
-    unfolding lineOf standing given Small
+    unfolding lineOf standing given Small ended
     stands h e m =
         let ns : List ℕ = getD M 0 0 ∷ getD M 1 0 ∷ getD M 2 0 ∷ getD M 3 0 ∷ [] in
         let here : read binForm line ≡ some ns = bin-here h e in
         record {
           is = sym (rw (opens-none q, here, lineOf, le-leb (getD M 0 0) mostBin m));
           small = (m, words-small (getD M 1 0) (getD M 2 0) (getD M 3 0) (and-r (ltb (getD M 0 0) (2 ^ 32)) _ (read-fits binForm line ns here)));
+          there = refl;
         }
 
     -- its number is out of range
     pub stands-none : length M ≡ 5 → s ≡ true → 65535 < getD M 0 0 → Line (lineOf line) PlanLine.Malformed
-    unfolding lineOf standing given Small
-    stands-none h e m = record { is = sym (rw (opens-none q, bin-here h e, lineOf, lt-leb (getD M 0 0) mostBin m)); small = tt }
+    unfolding lineOf standing given Small ended
+    stands-none h e m = record { is = sym (rw (opens-none q, bin-here h e, lineOf, lt-leb (getD M 0 0) mostBin m)); small = tt; there = refl }
 
     bin-none : s ≡ false → read binForm line ≡ none
     bin-none e = sym (bin-read line) ∙ sym (w .is) ∙ ap (λ (b : Bool). cond b (some (take (countIn (pieces binPattern)) M)) none) e
@@ -102,15 +104,48 @@ module _ (line N : List ℕ) (r : Bool) (v : Scanned (pieces groupPattern) line 
     module _ (z : s ≡ false) (K : List ℕ) (t : Bool) (u : Scanned (pieces closePattern) line K t) where
       -- it closes a group
       pub closes : t ≡ true → Line (lineOf line) PlanLine.Close
-      unfolding lineOf given Small
+      unfolding lineOf given Small ended
       closes e =
           let here : read closeForm line ≡ some (take (countIn (pieces closePattern)) K) =
-              sym (close-read line) ∙ sym (u .is) ∙ ap (λ (b : Bool). cond b (some (take (countIn (pieces closePattern)) K)) none) e in
-          record { is = sym (rw (opens-none q, bin-none z, here, lineOf)); small = tt }
+          sym (close-read line) ∙ sym (u .is) ∙ ap (λ (b : Bool). cond b (some (take (countIn (pieces closePattern)) K)) none) e in
+          record { is = sym (rw (opens-none q, bin-none z, here, lineOf)); small = tt; there = refl }
 
       -- it is no line of a plan
       pub no-form : t ≡ false → Line (lineOf line) PlanLine.Malformed
-      unfolding lineOf given Small
+      unfolding lineOf given Small ended
       no-form e =
           let here : read closeForm line ≡ none = sym (close-read line) ∙ sym (u .is) ∙ ap (λ (b : Bool). cond b (some (take (countIn (pieces closePattern)) K)) none) e in
-          record { is = sym (rw (opens-none q, bin-none z, here, lineOf)); small = tt }
+          record { is = sym (rw (opens-none q, bin-none z, here, lineOf)); small = tt; there = refl }
+
+-- ---- the line at a place
+pub found-none : (text : List ℕ) (at : ℕ) → at ≤ length text → length text ≤ at → Found text at (record { line = PlanLine.End; end = at })
+unfolding ended Small Lines.linesOf
+found-none text at h l = record {
+  within = h;
+  from = omega arith;
+  small = tt;
+  begins = λ e. absurd (no e);
+  none-left = λ e. ap Lines.linesOf (drop-of-length-le text l);
+}
+  where
+    no : true ≡ false → ⊥
+    no e = let z : _≡_ {A = ℕ} 0 1 = cc in omega arith
+
+-- the bytes from a place up to another
+bytes-between : (at end : ℕ) (text : List ℕ) → slice at end text ≡ take (end - at) (drop at text)
+bytes-between zero end text = ap (λ (n : ℕ). take n text) (let e : end ≡ end - 0 = omega arith in e)
+bytes-between (suc at) zero text = ap (λ (n : ℕ). take n (drop (suc at) text)) (let e : 0 ≡ 0 - suc at = omega arith in e)
+bytes-between (suc at) (suc end) [] = sym (take-nil (suc end - suc at))
+bytes-between (suc at) (suc end) (c ∷ cs) = bytes-between at end cs ∙ ap (λ (n : ℕ). take n (drop at cs)) (let e : end - at ≡ suc end - suc at = omega arith in e)
+
+pub found-line : (text : List ℕ) (at end : ℕ) (r : PlanLine) → LineEnd text at end → Line (lineOf (take (end - at) (drop at text))) r → Found text at (record { line = r; end = end })
+found-line text at end r v w = record {
+  within = v .within;
+  from = omega (arith, v .more);
+  small = w .small;
+  begins = λ e. record { bytes = slice at end text; cut = v .cut; is = w .is ∙ ap lineOf (sym (bytes-between at end text)); more = v .more };
+  none-left = λ e. absurd (no (sym (w .there) ∙ e));
+}
+  where
+    no : false ≡ true → ⊥
+    no e = let z : _≡_ {A = ℕ} 0 1 = cc in omega arith

@@ -3,9 +3,9 @@
 mod lines;
 mod places;
 
+pub use lines::LineAt;
 pub use lines::PlanLine;
-pub use lines::line_end;
-pub use lines::plan_line;
+pub use lines::line_at;
 pub use places::SumWords;
 pub use places::moved;
 pub use places::origin;

@@ -95,6 +95,6 @@ module _ (text : List ℕ) (at : ℕ) (r : Taken) where
   offset-above t l m v q =
       let first : readOffset (getD text at 0 ∷ drop (at + 1) text) ≡ above (decimalBelow (suc farthest) (getD text at 0 ∷ drop (at + 1) text)) = rw (ne-eqb (getD text at 0) minus m, readOffset) in
       let same : above (decimalBelow (suc farthest) (drop at text)) ≡ readOffset (drop at text) =
-          ap (λ (xs : List ℕ). above (decimalBelow (suc farthest) xs)) (next text at 0 l) ∙ sym first ∙ ap readOffset (sym (next text at 0 l)) in
+      ap (λ (xs : List ℕ). above (decimalBelow (suc farthest) xs)) (next text at 0 l) ∙ sym first ∙ ap readOffset (sym (next text at 0 l)) in
       subst (λ (o : Option Found). Number text (2 ^ 41 + 1) o r) same
       (subst (λ (k : Taken). Number text (2 ^ 41 + 1) (above (decimalBelow (suc farthest) (drop at text))) k) (sym q) (above-taken text t _ v))
