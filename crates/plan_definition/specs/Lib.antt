@@ -4,6 +4,7 @@ pub mod Grammar
 pub mod Lines
 pub mod Reading
 pub mod Writing
+pub mod Answers
 pub mod Words
 pub mod LineLaws
 pub mod TextLaws

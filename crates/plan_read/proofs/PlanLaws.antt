@@ -16,8 +16,9 @@ use Rattle.plan_definition.specs.Reading.{Reading, refusalOf, entriesOf, planOf
 use Rattle.plan_lines.specs.declared.places.SumWords.{SumWords}
 use Rattle.plan_lines.specs.Sums.{originWords}
 use Rattle.plan_read.specs.declared.items.Step.{Step}
-use Rattle.plan_read.specs.declared.plan.PlanAnswer.the-variants as PlanAnswer
-use Rattle.plan_read.specs.Answer.{PlanRead, answerOf, readingOf}
+use Rattle.plan_definition.specs.declared.PlanAnswer.the-variants as PlanAnswer
+use Rattle.plan_definition.specs.Answers.{planAnswer, readingOf}
+use Rattle.plan_read.specs.Answer.{PlanRead}
 use Rattle.plan_read.specs.Steps.{Along, GroupRead, Ready, Stands, Went, entriesClosed, refusalClosed}
 
 -- what reading from the start asks
@@ -61,7 +62,7 @@ module _ (text : List ℕ) (w : SumWords) (room : ℕ) (E W : List ℤ) (s : Ste
 -- A refused plan leaves the list as it was.
 pub plan-refused : (text : List ℕ) (E W0 : List ℤ) (w : SumWords) (room : ℕ) (s : Step) → w ≡ originWords → room ≡ roomOf (length E) → GroupRead text 0 w 0 0 room [] W0 s → (s .refusal ≡ 0 → ⊥)
     → PlanRead text E (W0 ++ E) (PlanAnswer.Refused (s .refusal))
-unfolding answerOf planOf listAfter
+unfolding planAnswer planOf listAfter
 plan-refused text E W0 w room s e q v n = go (s .refusal) refl
   where
     here : refusalOf (roomOf (length E)) [] 0 (linesOf text) ≡ s .refusal
@@ -72,14 +73,14 @@ plan-refused text E W0 w room s e q v n = go (s .refusal) refl
     go (suc k) z =
         let is : readingOf text E ≡ Reading.Refused (suc k) = rw (here ∙ z, planOf) in
         record {
-          answer = ap PlanAnswer.Refused z ∙ ap answerOf (sym is);
+          answer = ap PlanAnswer.Refused z ∙ ap planAnswer (sym is);
           list = no-more W0 E (v .read .long) ∙ ap (λ (x : Reading). listAfter x E) (sym is);
         }
 
 -- A plan that no line refuses is listed in front of the list.
 pub plan-listed : (text : List ℕ) (E W0 W : List ℤ) (w1 w2 : SumWords) (room : ℕ) (first second : Step) → w1 ≡ originWords → w2 ≡ originWords → room ≡ roomOf (length E)
     → GroupRead text 0 w1 0 0 room [] W0 first → first .refusal ≡ 0 → GroupRead text 0 w2 0 0 room (W0 ++ E) W second → PlanRead text E W (PlanAnswer.Listed (second .count))
-unfolding answerOf planOf listAfter
+unfolding planAnswer planOf listAfter
 plan-listed text E W0 W w1 w2 room first second e1 e2 q v1 z1 v2 = go (second .refusal) refl
   where
     none-offends : refusalOf room [] 0 (linesOf text) ≡ 0
@@ -97,6 +98,6 @@ plan-listed text E W0 W w1 w2 room first second e1 e2 q v1 z1 v2 = go (second .r
         rw (ap (λ (m : ℕ). refusalOf m [] 0 (linesOf text)) (sym q) ∙ none-offends, planOf) (ap Reading.Listed (all-listed text w2 room (W0 ++ E) W second e2 v2 z)) in
         let room-enough : 4 * room ≤ length (W0 ++ E) = omega (arith, ap (length {A = ℤ}) same) in
         record {
-          answer = ap PlanAnswer.Listed (g .counted ∙ (let f : 0 + length es ≡ length es = omega arith in f)) ∙ ap answerOf (sym is);
+          answer = ap PlanAnswer.Listed (g .counted ∙ (let f : 0 + length es ≡ length es = omega arith in f)) ∙ ap planAnswer (sym is);
           list = appended-written (g .put room-enough) ∙ ap (written (listOf es)) same ∙ ap (λ (x : Reading). listAfter x E) (sym is);
         }

@@ -4,5 +4,4 @@ mod groups;
 mod items;
 mod plan;
 
-pub use plan::PlanAnswer;
 pub use plan::read_plan;

@@ -1,6 +1,7 @@
 // A plan's text read into a lent list.
 
 use crate::groups::read_group;
+use plan_definition::PlanAnswer;
 use plan_lines::origin;
 ghost use mathlib.Core.Path.{_≡_};
 ghost use Rattle.plan_definition.specs.Reading.{roomOf};
@@ -10,12 +11,6 @@ ghost use Rattle.plan_read.specs.Answer.{PlanRead};
 const MOST_ENTRIES: usize = 4096;
 
 const ENTRY_WIDTH: usize = 4;
-
-// How many bins a plan lists, or the number of its first offending line.
-pub enum PlanAnswer {
-    Listed(usize),
-    Refused(u32),
-}
 
 // How many bins a list of so many numbers has room for.
 fn room_in(length: usize) -> usize

@@ -23,9 +23,10 @@ use Rattle.plan_definition.specs.Writing as Writing
 use Rattle.plan_definition.specs.Writing.{Writing, binInRange, entriesIn, fitting, listingRefusal, listingText, textAfter, writingOf}
 use Rattle.plan_write.specs.declared.entries.EntryWords.{EntryWords}
 use Rattle.plan_write.specs.declared.listing.Checked.{Checked}
-use Rattle.plan_write.specs.declared.listing.ListingAnswer.the-variants as ListingAnswer
+use Rattle.plan_definition.specs.declared.ListingAnswer.the-variants as ListingAnswer
+use Rattle.plan_definition.specs.Answers.{listingAnswer}
 use Rattle.plan_write.specs.Entries.{EntryOf, LineLength, binWord, entryAt, placeWords, wordsLine, wordsRefusal}
-use Rattle.plan_write.specs.Answer.{CheckedListing, ListingPut, ListingWritten, answerOf}
+use Rattle.plan_write.specs.Answer.{CheckedListing, ListingPut, ListingWritten}
 use Rattle.plan_write.proofs.WordLaws.{bin-is, place-is}
 use Rattle.plan_write.proofs.EntryLaws.{bin-word-low, refusal-here, refusal-next, words-line}
 
@@ -189,14 +190,14 @@ module _ (l : List ℤ) (E W : List ℕ) (at k : ℕ) (v : Putting l E W at k) w
 module _ (l : List ℤ) (E : List ℕ) (c : Checked) (v : CheckedListing l c) where
   -- an entry offends
   pub listing-refused : (c .refusal ≡ 0 → ⊥) → ListingWritten l E E (ListingAnswer.Refused (c .refusal))
-  unfolding answerOf writingOf textAfter
+  unfolding listingAnswer writingOf textAfter
   listing-refused n = go (c .refusal) refl
     where
       go : (k : ℕ) → c .refusal ≡ k → ListingWritten l E E (ListingAnswer.Refused (c .refusal))
       go zero z = absurd (n z)
       go (suc k) z =
           let is : writingOf (length E) (entriesIn l) ≡ Writing.Refused (suc k) = rw (sym (v .refusal) ∙ z, writingOf) in
-          record { answer = ap ListingAnswer.Refused z ∙ ap answerOf (sym is); text = ap (λ (x : Writing). textAfter x E) (sym is) }
+          record { answer = ap ListingAnswer.Refused z ∙ ap listingAnswer (sym is); text = ap (λ (x : Writing). textAfter x E) (sym is) }
 
   module _ (z : c .refusal ≡ 0) where
     pub none-offends : listingRefusal 0 (entriesIn l) ≡ 0
@@ -204,19 +205,19 @@ module _ (l : List ℤ) (E : List ℕ) (c : Checked) (v : CheckedListing l c) wh
 
     -- the slice is too short
     pub listing-short : length E < c .length → ListingWritten l E E (ListingAnswer.Refused 68)
-    unfolding answerOf writingOf fitting textAfter
+    unfolding listingAnswer writingOf fitting textAfter
     listing-short h =
         let long : leb (length (listingText (entriesIn l))) (length E) ≡ false = lt-leb (length (listingText (entriesIn l))) (length E) (omega (arith, v .long z)) in
         let is : writingOf (length E) (entriesIn l) ≡ Writing.Refused 68 = rw (none-offends, writingOf, long, fitting) in
-        record { answer = ap answerOf (sym is); text = ap (λ (x : Writing). textAfter x E) (sym is) }
+        record { answer = ap listingAnswer (sym is); text = ap (λ (x : Writing). textAfter x E) (sym is) }
 
     pub text-fits : c .length ≤ length E → length (listingText (entriesIn l)) ≤ length E
     text-fits h = omega (arith, v .long z)
 
     -- the text is written
     pub listing-written : (W : List ℕ) (n : ℕ) → c .length ≤ length E → ListingPut l E W n → ListingWritten l E W (ListingAnswer.Written n)
-    unfolding answerOf writingOf fitting textAfter
+    unfolding listingAnswer writingOf fitting textAfter
     listing-written W n h p =
         let fits : leb (length (listingText (entriesIn l))) (length E) ≡ true = le-leb (length (listingText (entriesIn l))) (length E) (text-fits h) in
         let is : writingOf (length E) (entriesIn l) ≡ Writing.Written (listingText (entriesIn l)) = rw (none-offends, writingOf, fits, fitting) in
-        record { answer = ap ListingAnswer.Written (p .long) ∙ ap answerOf (sym is); text = p .is ∙ ap (λ (x : Writing). textAfter x E) (sym is) }
+        record { answer = ap ListingAnswer.Written (p .long) ∙ ap listingAnswer (sym is); text = p .is ∙ ap (λ (x : Writing). textAfter x E) (sym is) }

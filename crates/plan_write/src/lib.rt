@@ -3,5 +3,4 @@
 mod entries;
 mod listing;
 
-pub use listing::ListingAnswer;
 pub use listing::write_plan;

@@ -4,6 +4,7 @@ use crate::entries::entry_refusal;
 use crate::entries::entry_words;
 use crate::entries::line_length;
 use crate::entries::put_bin;
+use plan_definition::ListingAnswer;
 ghost use mathlib.Core.Path.{_≡_};
 ghost use lib.ListN.{length};
 ghost use Prim.Native.Nat.{_≤_};
@@ -20,12 +21,6 @@ const NO_ROOM: u32 = 68;
 pub struct Checked {
     pub refusal: u32,
     pub length: usize,
-}
-
-// The length of a listing's text, or a refusal.
-pub enum ListingAnswer {
-    Written(usize),
-    Refused(u32),
 }
 
 // Checks the entries of a list one by one, and measures their lines.
