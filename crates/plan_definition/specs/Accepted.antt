@@ -88,7 +88,7 @@ pub record BinKeeps (path : List Place) (n : ℕ) (o : Place) (rest : Plan) : Ty
   pub place : T (inRange (total (o ∷ path)))
   pub after : T (keepsLimits path rest)
 
-bin-keeps : (path : List Place) (n : ℕ) (o : Place) (rest : Plan) → T (keepsLimits path (bin n o rest)) → BinKeeps path n o rest
+pub bin-keeps : (path : List Place) (n : ℕ) (o : Place) (rest : Plan) → T (keepsLimits path (bin n o rest)) → BinKeeps path n o rest
 unfolding keepsLimits
 bin-keeps path n o rest t =
     let u : T (leb n mostBin && (inRange (total (o ∷ path)) && keepsLimits path rest)) = and-r (inRange o) _ t in
@@ -105,7 +105,7 @@ pub record GroupKeeps (path : List Place) (o : Place) (inner rest : Plan) : Type
   pub inside : T (keepsLimits (o ∷ path) inner)
   pub after : T (keepsLimits path rest)
 
-group-keeps : (path : List Place) (o : Place) (inner rest : Plan) → T (keepsLimits path (group o inner rest)) → GroupKeeps path o inner rest
+pub group-keeps : (path : List Place) (o : Place) (inner rest : Plan) → T (keepsLimits path (group o inner rest)) → GroupKeeps path o inner rest
 unfolding keepsLimits
 group-keeps path o inner rest t =
     let u : T (ltb (length path) mostDepth && (keepsLimits (o ∷ path) inner && keepsLimits path rest)) = and-r (inRange o) _ t in

@@ -120,9 +120,9 @@ module _ (l : List ℤ) (total k : ℕ) (v : Checking l total k) where
     checking-more n m z =
         let p : Passes w k = passes w k (sym q ∙ z) in
         let text : length (listingText (entriesIn (drop (4 * k) l))) ≡ n + length (listingText (entriesIn (drop (4 * (k + 1)) l))) =
-            ap (λ (es : List Entry). length (listingText es)) cut
-            ∙ length-append (binLine (entryAt l k .bin) (entryAt l k .place)) _
-            ∙ ap (λ (x : ℕ). x + length (listingText (entriesIn (drop (4 * (k + 1)) l)))) (ap (length {A = ℕ}) (sym (line-of (entryAt l k) w k e p)) ∙ sym (m .is)) in
+        ap (λ (es : List Entry). length (listingText es)) cut
+        ∙ length-append (binLine (entryAt l k .bin) (entryAt l k .place)) _
+        ∙ ap (λ (x : ℕ). x + length (listingText (entriesIn (drop (4 * (k + 1)) l)))) (ap (length {A = ℕ}) (sym (line-of (entryAt l k) w k e p)) ∙ sym (m .is)) in
         record {
           few = omega (arith, p .few);
           small = omega (arith, v .small, m .few);

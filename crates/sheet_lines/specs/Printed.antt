@@ -17,7 +17,7 @@ unfolding digits
 digits-length base zero n = refl
 digits-length base (suc k) n = ap suc (digits-length base k n)
 
-decimal-length : (k n : ℕ) → length (decimalTo k n) ≤ suc k
+pub decimal-length : (k n : ℕ) → length (decimalTo k n) ≤ suc k
 unfolding decimalTo
 decimal-length zero n = omega (arith, digits-length 10 1 n)
 decimal-length (suc k) n = go (ltb n (10 ^ suc k)) (decimal-length k n)
