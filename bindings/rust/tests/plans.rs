@@ -21,6 +21,17 @@ fn a_bin_stands_at_the_sum_along_its_path() {
 }
 
 #[test]
+fn the_example_yard_is_read_as_it_is_listed() {
+    let plan = include_bytes!("../../../examples/yard.plan");
+    let listing = include_bytes!("../../../examples/yard.listing");
+    let bins = read_plan(plan).expect("the example is a plan");
+    assert_eq!(bins.len(), 8);
+    assert_eq!(bins[5], placed(11, [38_000_000, 4_000_000_000, 1_499_750]), "the sum of its own offset and of both groups around it");
+    assert_eq!(write_plan(&bins), Ok(listing.to_vec()));
+    assert_eq!(read_plan(listing), Ok(bins));
+}
+
+#[test]
 fn malformed_lines_are_refused_with_61() {
     let lines = [
         "(bin 0 -0 0 0)\n",
