@@ -39,6 +39,7 @@ const USAGE: &str = "usage: compare FIRST LAST [SIZE]
        compare --worst POINTS
        compare --sheets SHEET...
        compare --plans FIRST LAST
+       compare --plan-program PROGRAM FIRST LAST
        compare --planted FIRST LAST
        compare --without-fences ...
 The bodies of every kind with the seeds FIRST to LAST, small ones and some of a size that goes with the seed, or only those of SIZE
@@ -49,6 +50,7 @@ With --worst the bodies that ask the most of stitching, one with POINTS loose po
 With --sheets only the bodies of these sheets.
 With --plans only plans, which every run has besides: 250 of each seed and a large one, and without --small those at the limits and every text
 that is one byte away from a small plan.
+With --plan-program a program reads the plans at the limits and some of each seed, and must print each one's listing or refusal.
 With --planted faults are planted behind the library's calls, and the seeds FIRST to LAST must find each of them.
 With --without-fences before any of these each lent slice is a block of memory of its own, for a tool that watches memory.";
 
@@ -149,11 +151,19 @@ fn compare_plans(first: u64, last: u64, tally: &mut Tally) {
 }
 
 /// Plans and nothing else.
-fn compare_plans_alone(first: u64, last: u64, tally: &mut Tally) {
+fn compare_plans_alone((first, last, _): (u64, u64, Option<usize>), tally: &mut Tally) {
     compare_plans_by_hand(tally);
     compare_plans(first, last, tally);
     Tally::end_line();
     println!("compare: {}: no difference", tally.plans.said());
+}
+
+/// What a program prints of plans.
+fn compare_plan_program(program: &str, (first, last, _): (u64, u64, Option<usize>)) {
+    match plans::program::compared(program, first, last) {
+        Ok(texts) => println!("compare: {program} answers {texts} plans as the model does"),
+        Err(what) => fail(&format!("compare: {what}")),
+    }
 }
 
 fn compare_worst(points: usize, tally: &mut Tally) {
@@ -289,10 +299,8 @@ fn main() {
             return compare_and_time_worst(points, tally);
         }
         Some((word, names)) if word == "--sheets" && !names.is_empty() => names.iter().for_each(|name| compare_sheet(name, tally)),
-        Some((word, rest)) if word == "--plans" => {
-            let (first, last, _) = numbers(rest, MOST_ROWS);
-            return compare_plans_alone(first, last, tally);
-        }
+        Some((word, rest)) if word == "--plans" => return compare_plans_alone(numbers(rest, MOST_ROWS), tally),
+        Some((word, [program, rest @ ..])) if word == "--plan-program" => return compare_plan_program(program, numbers(rest, MOST_ROWS)),
         Some((word, rest)) if word == "--planted" => {
             let (first, last, _) = numbers(rest, MOST_ROWS);
             return find_planted(first, last);

@@ -4,6 +4,7 @@ mod damage;
 mod held;
 mod limits;
 mod model;
+pub mod program;
 mod tally;
 mod tree;
 pub mod wrong;
