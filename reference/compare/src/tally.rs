@@ -77,10 +77,11 @@ impl Tally {
     /// All counts in one line.
     pub fn said(&self) -> String {
         let Tally { bodies, rows, refusals, steps, triangles, stitched, split, splits, open, outside, worst, .. } = self;
-        let (assembled, plans) = (self.assembled.said(), self.plans.said());
+        let assembled = self.assembled.said();
+        let plans = if self.plans.read == 0 { String::new() } else { format!("; {}", self.plans.said()) };
         format!(
             "{worst} bodies made by hand, {bodies} of up to {triangles} triangles, {rows} rows; {stitched} stitched with their own sag, {split} of them split, \
-             {splits} splits ({outside} more outside the condition, {open} too open); {assembled}; {refusals} refusals, {steps} float steps; {plans}"
+             {splits} splits ({outside} more outside the condition, {open} too open); {assembled}; {refusals} refusals, {steps} float steps{plans}"
         )
     }
 }
