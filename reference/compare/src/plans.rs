@@ -135,6 +135,18 @@ fn broken_held(r: &mut Random, tally: &mut Tally) -> Result<(), String> {
     write(&list, room, r, tally).map(|_| ())
 }
 
+/// A list of about as many entries as there may be, of which the last may be out of place, written into a slice with room for it.
+fn large_list_held(r: &mut Random, tally: &mut Tally) -> Result<(), String> {
+    let entries = r.size(MOST_ENTRIES - 1, MOST_ENTRIES + 1);
+    let mut list: Vec<i64> = (0..entries).flat_map(|_| [tree::bin(r), tree::far(r), tree::far(r), tree::far(r)]).collect();
+    if r.chance(40) {
+        let last = list.len() - 1;
+        list[last] = MOST_OFFSET + 1;
+    }
+    let room = model::write(&list, usize::MAX).map_or(60 * entries, |text| text.len());
+    write(&list, room, r, tally).map(|_| ())
+}
+
 /// One plan at random, as it is or damaged. The model must read one that isn't damaged as its groups and bins say.
 fn plan_held(damaged: bool, items: &[tree::Item], r: &mut Random, tally: &mut Tally) -> Result<(), String> {
     let text = tree::text(items);
@@ -158,8 +170,9 @@ pub fn compared(seed: u64, tally: &mut Tally) -> Result<(), String> {
         plan_held(k % 2 == 1, &items, r, tally).map_err(named)?;
         broken_held(r, tally).map_err(named)?;
     }
-    let bins = r.size(MOST_ENTRIES - 2, MOST_ENTRIES + 2);
-    plan_held(seed % 2 == 1, &tree::large(bins, r), r, tally).map_err(named)
+    let bins = r.size(MOST_ENTRIES - 1, MOST_ENTRIES + 1);
+    plan_held(r.chance(30), &tree::large(bins, r), r, tally).map_err(named)?;
+    large_list_held(r, tally).map_err(named)
 }
 
 /// The plans and lists at the limits.

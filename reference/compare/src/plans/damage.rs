@@ -60,12 +60,16 @@ const LINES: [&str; 16] = [
     "; a comment",
 ];
 
+/// Words in the place of a bin's number.
+const BINS: [&str; 7] = ["-1", "-7", "65535", "65536", "65537", "131072", "4294967295"];
+
 /// Bytes that are put in or stand in for another.
 const BYTES: &[u8] = b"()- 0123456789\n\r\t+bingroup\0\x80\xff";
 
 type Damage = fn(&mut Vec<u8>, &mut Random);
 
-const DAMAGES: [Damage; 11] = [flip, replace, remove, insert, cut, word, word, line_in, lines_swapped, line_again, line_out];
+const DAMAGES: [Damage; 13] =
+    [flip, replace, remove, insert, cut, word, word, bin_number, carriage_return, line_in, lines_swapped, line_again, line_out];
 
 fn byte(r: &mut Random) -> u8 {
     if r.chance(80) { *r.pick(BYTES) } else { r.below(256) as u8 }
@@ -108,15 +112,31 @@ fn cut(text: &mut Vec<u8>, r: &mut Random) {
     }
 }
 
-/// A number becomes another word.
-fn word(text: &mut Vec<u8>, r: &mut Random) {
-    let starts: Vec<usize> = (1..text.len()).filter(|k| text[k - 1] == b' ').collect();
+/// A number that stands behind some text becomes another word.
+fn word_behind(text: &mut Vec<u8>, before: &[u8], words: &[&str], r: &mut Random) {
+    let starts: Vec<usize> = (0..text.len()).filter(|k| text[..*k].ends_with(before)).collect();
     if starts.is_empty() {
         return;
     }
     let start = *r.pick(&starts);
     let length = text[start..].iter().position(|byte| b" )\n".contains(byte)).unwrap_or(text.len() - start);
-    text.splice(start..start + length, r.pick(&WORDS).bytes());
+    text.splice(start..start + length, r.pick(words).bytes());
+}
+
+fn word(text: &mut Vec<u8>, r: &mut Random) {
+    word_behind(text, b" ", &WORDS, r);
+}
+
+fn bin_number(text: &mut Vec<u8>, r: &mut Random) {
+    word_behind(text, b"(bin ", &BINS, r);
+}
+
+/// A line ends in CR LF.
+fn carriage_return(text: &mut Vec<u8>, r: &mut Random) {
+    let ends: Vec<usize> = (0..text.len()).filter(|k| text[*k] == b'\n').collect();
+    if !ends.is_empty() {
+        text.insert(*r.pick(&ends), b'\r');
+    }
 }
 
 /// The lines of a text, each with its LF.
