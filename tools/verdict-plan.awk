@@ -21,8 +21,9 @@ FILENAME == ARGV[2] {
   }
 }
 
-# What a refusal means for a plan that is read, without what it means for a listing that is written.
+# What a refusal means for a plan that is read, without what it means for a sheet or for a listing that is written.
 function of_plan(text) {
+  if (refusal == 52) return "it has more than 1048576 bytes"
   sub(/^plan( or listing)?: /, "", text)
   sub(/;.*/, "", text)
   return text == "" ? "no such refusal is known" : text

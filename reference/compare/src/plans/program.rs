@@ -9,8 +9,14 @@ use std::process::{Command, Stdio};
 /// Texts of a seed that are given to the program.
 const TEXTS_A_SEED: usize = 50;
 
+/// The most bytes that the program takes; a longer text is refused with 52.
+const MOST_TEXT: usize = 1 << 20;
+
 /// What the program should print: a bin line for each entry, or the refusal.
 fn wanted(text: &[u8]) -> String {
+    if text.len() > MOST_TEXT {
+        return "(refused 52)\n".to_string();
+    }
     match model::read(text, ENTRY * MOST_ENTRIES) {
         Ok(entries) => model::write(&model::flat(&entries), usize::MAX).expect("a list that was read"),
         Err(number) => format!("(refused {number})\n"),
@@ -37,9 +43,19 @@ fn held(program: &str, text: &[u8]) -> Result<(), String> {
     Err(format!("{program} prints of {:?} {:?}, not {:?}", start(text), start(&printed), start(wanted.as_bytes())))
 }
 
-/// The texts at the limits, and some plans of each seed, every second damaged, with one of about 4,096 bins; how many there were.
+/// Empty groups up to the most bytes, and to a byte more.
+fn long_texts() -> [Vec<u8>; 2] {
+    let (short, long) = ("(group 0 0 0\n)\n", "(group 0 0 10\n)\n");
+    let count = MOST_TEXT / short.len();
+    let with = |longer: usize| (short.repeat(count - longer) + &long.repeat(longer)).into_bytes();
+    let rest = MOST_TEXT % short.len();
+    [with(rest), with(rest + 1)]
+}
+
+/// The texts at the limits, the longest among them, and some plans of each seed, every second damaged, with one of about 4,096 bins; how many there were.
 pub fn compared(program: &str, first: u64, last: u64) -> Result<usize, String> {
     let mut texts: Vec<Vec<u8>> = limits::texts().into_iter().map(|(text, _, _)| text.into_bytes()).collect();
+    texts.extend(long_texts());
     for seed in first..=last {
         let r = &mut Random::new(!seed);
         for k in 0..TEXTS_A_SEED {
