@@ -61,9 +61,11 @@ module _ (room : ℕ) (path : List Place) (count : ℕ) (xs : List ℕ) where
   unfolding lineText lineFits
   open-text o t d = ap (refusalOf room path count) (one-line (Open o) xs) ∙ group-opened room path count (groupLine o) (linesOf xs) o (line-back (Open o) t) (true-is _ d)
 
-  bin-text : (n : ℕ) (o : Place) → T (leb n mostBin && inRange o) → T (inRange (total (o ∷ path))) → count < room → refusalOf room path count (linesOf (binLine (pos n) o ++ xs)) ≡ refusalOf room path (suc count) (linesOf xs)
+  bin-text : (n : ℕ) (o : Place) → T (leb n mostBin && inRange o) → T (inRange (total (o ∷ path))) → count < room
+      → refusalOf room path count (linesOf (binLine (pos n) o ++ xs)) ≡ refusalOf room path (suc count) (linesOf xs)
   unfolding lineText lineFits
-  bin-text n o t r h = ap (refusalOf room path count) (one-line (Bin n o) xs) ∙ bin-placed room path count (binLine (pos n) o) (linesOf xs) n o (line-back (Bin n o) t) (true-is _ r) (lt-ltb count room h)
+  bin-text n o t r h = ap (refusalOf room path count) (one-line (Bin n o) xs)
+      ∙ bin-placed room path count (binLine (pos n) o) (linesOf xs) n o (line-back (Bin n o) t) (true-is _ r) (lt-ltb count room h)
 
   close-text : 0 < length path → refusalOf room path count (linesOf (closeLine ++ xs)) ≡ refusalOf room (outer path) count (linesOf xs)
   unfolding lineText lineFits
@@ -143,7 +145,8 @@ plan-passes room path count (group o inner rest) xs t h =
     ∙ plan-passes room (o ∷ path) count inner (closeLine ++ (planText rest ++ xs)) (k .inside) (omega arith)
     ∙ close-text room (o ∷ path) (count + length (placed (o ∷ path) inner)) (planText rest ++ xs) some-left
     ∙ plan-passes room path (count + length (placed (o ∷ path) inner)) rest xs (k .after) (omega arith)
-    ∙ ap (λ (m : ℕ). refusalOf room path m (linesOf xs)) (let e : count + length (placed (o ∷ path) inner) + length (placed path rest) ≡ count + length (placed (o ∷ path) inner ++ placed path rest) = omega arith in e)
+    ∙ ap (λ (m : ℕ). refusalOf room path m (linesOf xs))
+    (let e : count + length (placed (o ∷ path) inner) + length (placed path rest) ≡ count + length (placed (o ∷ path) inner ++ placed path rest) = omega arith in e)
 
 -- its bins are listed
 plan-listed : (path : List Place) (plan : Plan) (xs : List ℕ) → T (keepsLimits path plan) → entriesOf path (linesOf (planText plan ++ xs)) ≡ placed path plan ++ entriesOf path (linesOf xs)
@@ -230,11 +233,15 @@ unfolding Rest restPlaced groupBefore placed
 group-before-placed [] o inner plan = refl
 group-before-placed (q ∷ path) o inner r = append-assoc (placed (o ∷ q ∷ path) inner) (placed (q ∷ path) (r .0)) (restPlaced path (r .1))
 
-bin-keeps-back : (path : List Place) (n : ℕ) (o : Place) (rest : Plan) → T (leb n mostBin && inRange o) → T (inRange (total (o ∷ path))) → T (keepsLimits path rest) → T (keepsLimits path (bin n o rest))
+bin-keeps-back : (path : List Place) (n : ℕ) (o : Place) (rest : Plan) → T (leb n mostBin && inRange o) → T (inRange (total (o ∷ path))) → T (keepsLimits path rest)
+    → T (keepsLimits path (bin n o rest))
 unfolding keepsLimits
-bin-keeps-back path n o rest l p k = and-i (inRange o) _ (and-r (leb n mostBin) (inRange o) l) (and-i (leb n mostBin) _ (and-l (leb n mostBin) (inRange o) l) (and-i (inRange (total (o ∷ path))) _ p k))
+bin-keeps-back path n o rest l p k =
+    and-i (inRange o) _ (and-r (leb n mostBin) (inRange o) l)
+    (and-i (leb n mostBin) _ (and-l (leb n mostBin) (inRange o) l) (and-i (inRange (total (o ∷ path))) _ p k))
 
-bin-before-keeps : (path : List Place) (n : ℕ) (o : Place) (r : Rest path) → T (leb n mostBin && inRange o) → T (inRange (total (o ∷ path))) → T (restKeeps path r) → T (restKeeps path (binBefore path n o r))
+bin-before-keeps : (path : List Place) (n : ℕ) (o : Place) (r : Rest path) → T (leb n mostBin && inRange o) → T (inRange (total (o ∷ path))) → T (restKeeps path r)
+    → T (restKeeps path (binBefore path n o r))
 unfolding Rest restKeeps binBefore
 bin-before-keeps [] n o plan l p k = bin-keeps-back [] n o plan l p k
 bin-before-keeps (q ∷ path) n o r l p k =
@@ -315,12 +322,15 @@ lines-read room [] count [] h e = record { rest = nothing; text = refl; entries 
 lines-read room (o ∷ path) count [] h e = no-refusal 60 e
 lines-read room path count (l ∷ ls) h e = line (lineOf l) refl (λ p n. lines-read room p n ls)
   where
-    at-close : (p : List Place) → lineOf l ≡ some Close → refusalOf room p count (l ∷ ls) ≡ 0 → ((q : List Place) → refusalOf room q count ls ≡ 0 → ReadAs room q count ls) → ReadAs room p count (l ∷ ls)
+    at-close : (p : List Place) → lineOf l ≡ some Close → refusalOf room p count (l ∷ ls) ≡ 0 → ((q : List Place) → refusalOf room q count ls ≡ 0 → ReadAs room q count ls)
+        → ReadAs room p count (l ∷ ls)
     at-close [] x r on = no-refusal 60 (sym (none-to-close room [] count l ls x refl) ∙ r)
     at-close (o ∷ p) x r on = read-close room o p count l ls x (on p (sym (group-closed room (o ∷ p) count l ls x (lt-ltb 0 (length (o ∷ p)) (omega arith))) ∙ r))
 
-    at-open : (o : Place) → lineOf l ≡ some (Open o) → (b : Bool) → ltb (length path) mostDepth ≡ b → ((q : List Place) → refusalOf room q count ls ≡ 0 → ReadAs room q count ls) → ReadAs room path count (l ∷ ls)
-    at-open o x true q on = read-group room path count l ls o x (lt→ltb (length path) mostDepth (ltb-true (length path) mostDepth q)) (on (o ∷ path) (sym (group-opened room path count l ls o x q) ∙ e))
+    at-open : (o : Place) → lineOf l ≡ some (Open o) → (b : Bool) → ltb (length path) mostDepth ≡ b → ((q : List Place) → refusalOf room q count ls ≡ 0 → ReadAs room q count ls)
+        → ReadAs room path count (l ∷ ls)
+    at-open o x true q on =
+        read-group room path count l ls o x (lt→ltb (length path) mostDepth (ltb-true (length path) mostDepth q)) (on (o ∷ path) (sym (group-opened room path count l ls o x q) ∙ e))
     at-open o x false q on = no-refusal 61 (sym (group-too-deep room path count l ls o x q) ∙ e)
 
     at-room : (n : ℕ) (o : Place) → lineOf l ≡ some (Bin n o) → inRange (total (o ∷ path)) ≡ true → (b : Bool) → ltb count room ≡ b

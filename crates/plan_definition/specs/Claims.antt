@@ -32,7 +32,8 @@ nested-read : planOf 4 (planText nested) ≡ Listed (entry (pos 1) (at 5 0 0) �
 unfolding evaluation nested at
 nested-read = refl
 
-nested-text : planText nested ≡ lines (bytes "(bin 1 5 0 0)" ∷ bytes "(group 100 0 0" ∷ bytes "(bin 2 1 2 3)" ∷ bytes "(group 0 10 0" ∷ bytes "(bin 3 0 0 1)" ∷ bytes ")" ∷ bytes ")" ∷ bytes "(bin 1 7 7 7)" ∷ [])
+nested-text : planText nested
+    ≡ lines (bytes "(bin 1 5 0 0)" ∷ bytes "(group 100 0 0" ∷ bytes "(bin 2 1 2 3)" ∷ bytes "(group 0 10 0" ∷ bytes "(bin 3 0 0 1)" ∷ bytes ")" ∷ bytes ")" ∷ bytes "(bin 1 7 7 7)" ∷ [])
 unfolding evaluation nested at
 nested-text = refl
 

@@ -8,7 +8,12 @@ use Rattle.plan_definition.specs.Lines.{joined, linesOf, opened, standin
 use Rattle.plan_definition.specs.Reading.{refusalOf, entriesOf, planOf, listOf, listAfter}
 use Rattle.plan_definition.specs.Writing.{entriesIn, listingRefusal, listingText, fitting, writingOf, textAfter}
 
+-- those of a plan, its text and its lines
+unfoldable pub texts : ℕ
+unfolding Lists.evaluation Lines.evaluation total integer offsetText groupLine binLine closeLine planText placed keepsLimits joined linesOf opened standing lineOf
+texts = 0
+
 -- every definition that computes
 unfoldable pub evaluation : ℕ
-unfolding Lists.evaluation Lines.evaluation total integer offsetText groupLine binLine closeLine planText placed keepsLimits joined linesOf opened standing lineOf refusalOf entriesOf planOf listOf listAfter entriesIn listingRefusal listingText fitting writingOf textAfter
+unfolding texts refusalOf entriesOf planOf listOf listAfter entriesIn listingRefusal listingText fitting writingOf textAfter
 evaluation = 0

@@ -5,6 +5,7 @@ pub mod Lines
 pub mod Reading
 pub mod Writing
 pub mod Answers
+pub mod ListLaws
 pub mod Words
 pub mod LineLaws
 pub mod TextLaws

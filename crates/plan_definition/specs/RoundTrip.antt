@@ -60,7 +60,8 @@ alone o = λ i. record { x = +ℤ-idl (o .x) i; y = +ℤ-idl (o .y) i; z = +ℤ-
 listing-text : (es : List Entry) → InRange es → planText (listingPlan es) ≡ listingText es
 unfolding listingPlan planText listingText
 listing-text [] v = refl
-listing-text (e ∷ es) (one-more b p v) = ap (λ (n : ℤ). binLine n (e .place) ++ planText (listingPlan es)) (bin-number (e .bin) b) ∙ ap (λ (cs : List ℕ). binLine (e .bin) (e .place) ++ cs) (listing-text es v)
+listing-text (e ∷ es) (one-more b p v) = ap (λ (n : ℤ). binLine n (e .place) ++ planText (listingPlan es)) (bin-number (e .bin) b)
+    ∙ ap (λ (cs : List ℕ). binLine (e .bin) (e .place) ++ cs) (listing-text es v)
 
 listing-placed : (es : List Entry) → InRange es → placed [] (listingPlan es) ≡ es
 unfolding listingPlan placed

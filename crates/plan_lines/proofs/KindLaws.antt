@@ -58,7 +58,11 @@ words-small : (x y z : ℕ) → T (ltb x offsetWords && (ltb y offsetWords && (l
 words-small x y z t =
     let yz : T (ltb y offsetWords && (ltb z offsetWords && true)) = and-r (ltb x offsetWords) _ t in
     let zs : T (ltb z offsetWords && true) = and-r (ltb y offsetWords) _ yz in
-    record { x-small = ltb→lt x offsetWords (and-l (ltb x offsetWords) _ t); y-small = ltb→lt y offsetWords (and-l (ltb y offsetWords) _ yz); z-small = ltb→lt z offsetWords (and-l (ltb z offsetWords) true zs) }
+    record {
+      x-small = ltb→lt x offsetWords (and-l (ltb x offsetWords) _ t);
+      y-small = ltb→lt y offsetWords (and-l (ltb y offsetWords) _ yz);
+      z-small = ltb→lt z offsetWords (and-l (ltb z offsetWords) true zs);
+    }
 
 module _ (line N : List ℕ) (r : Bool) (v : Scanned (pieces groupPattern) line N r) where
   -- the line opens a group

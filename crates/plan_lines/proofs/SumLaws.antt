@@ -28,7 +28,11 @@ pub moved-to : (k : ℕ) (sum : SumWords) (o : OffsetWords) → Near k sum → I
     → MovedTo k sum o (record { x = sum .x + o .x - 1099511627776; y = sum .y + o .y - 1099511627776; z = sum .z + o .z - 1099511627776 })
 moved-to k sum o n w h = record {
   is = λ i. record { x = axis k (sum .x) (o .x) (n .on-x) h i; y = axis k (sum .y) (o .y) (n .on-y) h i; z = axis k (sum .z) (o .z) (n .on-z) h i };
-  near = record { on-x = axis-near k (sum .x) (o .x) (n .on-x) h (w .x-small); on-y = axis-near k (sum .y) (o .y) (n .on-y) h (w .y-small); on-z = axis-near k (sum .z) (o .z) (n .on-z) h (w .z-small) };
+  near = record {
+    on-x = axis-near k (sum .x) (o .x) (n .on-x) h (w .x-small);
+    on-y = axis-near k (sum .y) (o .y) (n .on-y) h (w .y-small);
+    on-z = axis-near k (sum .z) (o .z) (n .on-z) h (w .z-small);
+  };
 }
 
 -- ---- the range

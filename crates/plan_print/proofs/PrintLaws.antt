@@ -19,6 +19,7 @@ use Rattle.plan_definition.specs.declared.PlanAnswer.{PlanAnswer}
 use Rattle.plan_definition.specs.declared.PlanAnswer.the-variants as PlanAnswer
 use Rattle.plan_definition.specs.Answers.{listingAnswer, listingOf, planAnswer, readingOf}
 use Rattle.plan_definition.specs.Grammar.{Entry}
+use Rattle.plan_definition.specs.ListLaws.{entries-back, list-length}
 use Rattle.plan_definition.specs.Reading as Reading
 use Rattle.plan_definition.specs.Reading.{Reading, entryWidth, listAfter, listOf}
 use Rattle.plan_definition.specs.Writing as Writing
@@ -35,7 +36,8 @@ pub front-whole : (l : List ℤ) (n : ℕ) → length l / 4 < n → l ≡ take (
 front-whole l n h = sym (take-all (entryWidth * n) l (omega arith))
 
 -- ---- a refused plan
-pub plan-refused : (text : List ℕ) (L M : List ℤ) (E W : List ℕ) (a : PlanAnswer) (n r : ℕ) → PlanRead text L M a → a ≡ PlanAnswer.Refused n → Answer.Written E (refusalLine n) W r → Printed text L E W r
+pub plan-refused : (text : List ℕ) (L M : List ℤ) (E W : List ℕ) (a : PlanAnswer) (n r : ℕ) → PlanRead text L M a → a ≡ PlanAnswer.Refused n → Answer.Written E (refusalLine n) W r
+    → Printed text L E W r
 unfolding planAnswer readingText
 plan-refused text L M E W a n r v e w = go (readingOf text L) refl
   where
@@ -50,16 +52,6 @@ plan-refused text L M E W a n r v e w = go (readingOf text L) refl
         absurd (omega arith)
 
 -- ---- a listed plan
-list-length : (es : List Entry) → length (listOf es) ≡ entryWidth * length es
-unfolding listOf
-list-length [] = refl
-list-length (e ∷ es) = omega (arith, list-length es)
-
-entries-back : (es : List Entry) → entriesIn (listOf es) ≡ es
-unfolding entriesIn listOf
-entries-back [] = refl
-entries-back (e ∷ es) = ap (λ (fs : List Entry). e ∷ fs) (entries-back es)
-
 -- a text that is written fits
 fits-in : (room : ℕ) (es : List Entry) (t : List ℕ) → writingOf room es ≡ Writing.Written t → length t ≤ room
 unfolding writingOf fitting
@@ -111,7 +103,10 @@ module _ (text : List ℕ) (L M : List ℤ) (a : PlanAnswer) (n : ℕ) (v : Plan
             let same : ListingAnswer.Refused k ≡ ListingAnswer.Refused m = ap listingAnswer (sym p) ∙ sym (u .answer) ∙ q in
             let number : m ≡ k = cc in
             let kept : W ≡ E = u .text ∙ ap (λ (x : Writing). textAfter x E) p in
-            record { is = subst (λ (t : List ℕ). Answer.Written E t U r) (ap refusalLine number ∙ ap writtenText (sym p) ∙ sym printed) (subst (λ (x : List ℕ). Answer.Written x (refusalLine m) U r) kept w) }
+            record {
+              is = subst (λ (t : List ℕ). Answer.Written E t U r) (ap refusalLine number ∙ ap writtenText (sym p)
+                  ∙ sym printed) (subst (λ (x : List ℕ). Answer.Written x (refusalLine m) U r) kept w);
+            }
         go (Writing.Written t) p =
             let no : ListingAnswer.Written (length t) ≡ ListingAnswer.Refused m = ap listingAnswer (sym p) ∙ sym (u .answer) ∙ q in
             let z : _≡_ {A = ℕ} 0 1 = cc in

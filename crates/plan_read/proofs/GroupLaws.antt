@@ -16,6 +16,7 @@ use Rattle.plan_definition.specs.Grammar.{Entry, entry, mostDepth}
 use Rattle.plan_definition.specs.Lines as Lines
 use Rattle.plan_definition.specs.Lines.{lineOf, linesOf}
 use Rattle.plan_definition.specs.Reading.{refusalOf, entriesOf, entryWidth, listOf, malformed, tooDeep, outOfRange, tooMany, outer}
+use Rattle.plan_definition.specs.ListLaws.{list-append, list-length}
 use Rattle.plan_definition.specs.Steps.{
   no-line,
   group-opened,
@@ -64,17 +65,6 @@ use Rattle.plan_read.specs.Steps.{
   step,
 }
 
--- ---- lists of entries
-list-append : (a b : List Entry) → listOf (a ++ b) ≡ listOf a ++ listOf b
-unfolding listOf
-list-append [] b = refl
-list-append (e ∷ a) b = ap (λ (xs : List ℤ). e .bin ∷ e .place .x ∷ e .place .y ∷ e .place .z ∷ xs) (list-append a b)
-
-pub list-length : (es : List Entry) → length (listOf es) ≡ entryWidth * length es
-unfolding listOf
-list-length [] = refl
-list-length (e ∷ es) = omega (arith, list-length es)
-
 -- ---- a step that offends, and one that doesn't, along every path
 module _ (text : List ℕ) (depth : ℕ) (sum : SumWords) (at count room : ℕ) (E W : List ℤ) (long : length W ≡ length E) where
   offends : (n : ℕ) → ((path : List Place) → Stands path depth sum → refusalOf room path count (linesOf (drop at text)) ≡ suc n) → ItemRead text depth sum at count room E W (refusedStep (suc n))
@@ -88,7 +78,8 @@ module _ (text : List ℕ) (depth : ℕ) (sum : SumWords) (at count room : ℕ) 
     further = λ z. absurd (omega arith);
   }
 
-  goes-on : (s : Step) → s .refusal ≡ 0 → s .next ≤ length text → at ≤ s .next → (s .closed ≡ false → at < s .next) → ((path : List Place) → Stands path depth sum → Went text path at count room E W s)
+  goes-on : (s : Step) → s .refusal ≡ 0 → s .next ≤ length text → at ≤ s .next → (s .closed ≡ false → at < s .next)
+      → ((path : List Place) → Stands path depth sum → Went text path at count room E W s)
       → ItemRead text depth sum at count room E W s
   goes-on s z h l m v = record {
     read = record { long = long; inside = h; onward = λ x. l; along = λ path w. record { refused = λ n. absurd (n z); went = λ x. v path w } };
@@ -118,11 +109,13 @@ deeper path depth sum o s = ap (λ (p : Place). moved p (placeOf o)) (s .sum-is)
 
 module _ (text : List ℕ) (depth : ℕ) (sum : SumWords) (at end count room : ℕ) (E W : List ℤ) where
   -- a group too deep
-  leaf-deep : (o : OffsetWords) → Found text at (record { line = PlanLine.Open o; end = end }) → ltb depth mostDepth ≡ false → length W ≡ length E → ItemRead text depth sum at count room E W (refusedStep tooDeep)
+  leaf-deep : (o : OffsetWords) → Found text at (record { line = PlanLine.Open o; end = end }) → ltb depth mostDepth ≡ false → length W ≡ length E
+      → ItemRead text depth sum at count room E W (refusedStep tooDeep)
   unfolding given ended
   leaf-deep o v d l =
       let b : Begins text at (record { line = PlanLine.Open o; end = end }) = v .begins refl in
-      offends text depth sum at count room E W l 61 (λ path s. ap (refusalOf room path count) (b .cut) ∙ group-too-deep room path count (b .bytes) _ (placeOf o) (sym (b .is)) (ap (λ (n : ℕ). ltb n mostDepth) (s .deep) ∙ d))
+      offends text depth sum at count room E W l 61 (λ path s. ap (refusalOf room path count) (b .cut)
+      ∙ group-too-deep room path count (b .bytes) _ (placeOf o) (sym (b .is)) (ap (λ (n : ℕ). ltb n mostDepth) (s .deep) ∙ d))
 
   -- no line of a plan
   leaf-none : Found text at (record { line = PlanLine.Malformed; end = end }) → length W ≡ length E → ItemRead text depth sum at count room E W (refusedStep malformed)
@@ -151,10 +144,12 @@ module _ (text : List ℕ) (depth : ℕ) (sum : SumWords) (at end count room : �
       afterwards : Bool → Step
       afterwards z = cond z (refusedStep malformed) (step 0 true end count)
 
-      go : (z : Bool) → eqb depth 0 ≡ z → (afterwards z .refusal ≡ 0 → entryWidth * room ≤ length E → Appended (entryWidth * count) [] E W) → ItemRead text depth sum at count room E W (afterwards z)
+      go : (z : Bool) → eqb depth 0 ≡ z → (afterwards z .refusal ≡ 0 → entryWidth * room ≤ length E → Appended (entryWidth * count) [] E W)
+          → ItemRead text depth sum at count room E W (afterwards z)
       go true q p =
           let none-open : depth ≡ 0 = eqb-true depth 0 q in
-          offends text depth sum at count room E W l 60 (λ path s. ap (refusalOf room path count) (b .cut) ∙ none-to-close room path count (b .bytes) _ (sym (b .is)) (le-ltb 0 (length path) (omega (arith, s .deep))))
+          offends text depth sum at count room E W l 60 (λ path s. ap (refusalOf room path count) (b .cut)
+          ∙ none-to-close room path count (b .bytes) _ (sym (b .is)) (le-ltb 0 (length path) (omega (arith, s .deep))))
       go false q p =
           let some-open : ¬ (depth ≡ 0) = eqb-false depth 0 q in
           goes-on text depth sum at count room E W l (step 0 true end count) refl (v .within) (v .from) (λ e. absurd (no e))
@@ -196,7 +191,8 @@ module _ (text : List ℕ) (depth : ℕ) (sum : SumWords) (at end count room : �
       afterwards : Bool → Step
       afterwards z = cond z (step 0 true end count) (refusedStep malformed)
 
-      go : (z : Bool) → eqb depth 0 ≡ z → (afterwards z .refusal ≡ 0 → entryWidth * room ≤ length E → Appended (entryWidth * count) [] E W) → ItemRead text depth sum at count room E W (afterwards z)
+      go : (z : Bool) → eqb depth 0 ≡ z → (afterwards z .refusal ≡ 0 → entryWidth * room ≤ length E → Appended (entryWidth * count) [] E W)
+          → ItemRead text depth sum at count room E W (afterwards z)
       go true q p =
           let none-open : depth ≡ 0 = eqb-true depth 0 q in
           goes-on text depth sum at count room E W l (step 0 true end count) refl (v .within) (v .from) (λ e. absurd (no e))
@@ -310,7 +306,9 @@ item-group text depth sum inner at count room E W s r v o w = record {
               let shut : s .closed ≡ true = w .ended z in
               record {
                 entries = g .entries;
-                refusal = opens path t ∙ g .refusal ∙ ap (λ (c : Bool). cond c (refusalOf room path (s .count) (linesOf (drop (s .next) text))) (refusalOf room (placeOf (o .offset) ∷ path) (s .count) (linesOf (drop (s .next) text)))) shut;
+                refusal = opens path t ∙ g .refusal
+                    ∙ ap (λ (c : Bool). cond c (refusalOf room path (s .count) (linesOf (drop (s .next) text)))
+                    (refusalOf room (placeOf (o .offset) ∷ path) (s .count) (linesOf (drop (s .next) text)))) shut;
                 listed = ap (entriesOf path) (b .cut) ∙ opened-entries path (b .bytes) _ (placeOf (o .offset)) (sym (b .is) ∙ line) ∙ g .listed
                     ∙ ap (λ (c : Bool). g .entries ++ cond c (entriesOf path (linesOf (drop (s .next) text))) (entriesOf (placeOf (o .offset) ∷ path) (linesOf (drop (s .next) text)))) shut;
                 counted = g .counted;
@@ -336,7 +334,8 @@ reached-none text depth sum at count room E v = record {
   };
 }
 
-pub ready-next : (text : List ℕ) (depth : ℕ) (sum : SumWords) (at count room : ℕ) (E W : List ℤ) (next standing : ℕ) → Ready text depth sum at room → Reached text depth sum at count room E W next standing
+pub ready-next : (text : List ℕ) (depth : ℕ) (sum : SumWords) (at count room : ℕ) (E W : List ℤ) (next standing : ℕ) → Ready text depth sum at room
+    → Reached text depth sum at count room E W next standing
     → Ready text depth sum next room
 ready-next text depth sum at count room E W next standing v r = record { place = r .inside; deep = v .deep; near = v .near; few = v .few }
 
@@ -387,7 +386,8 @@ pub item-falls : (text : List ℕ) (depth : ℕ) (sum : SumWords) (at count room
     → 2 * (length text - at) + 1 ≡ t → 2 * (length text - next) < t
 item-falls text depth sum at count room E W next standing t v e = omega (arith, v .onward refl)
 
-pub group-falls : (text : List ℕ) (at t depth : ℕ) (sum inner : SumWords) (r : LineAt) → Found text at r → OpensGroup (r .line) depth sum inner → 2 * (length text - at) ≡ t → 2 * (length text - r .end) + 1 < t
+pub group-falls : (text : List ℕ) (at t depth : ℕ) (sum inner : SumWords) (r : LineAt) → Found text at r → OpensGroup (r .line) depth sum inner → 2 * (length text - at) ≡ t
+    → 2 * (length text - r .end) + 1 < t
 unfolding ended
 group-falls text at t depth sum inner r v o e =
     let b : Begins text at r = v .begins (ap ended (o .is)) in

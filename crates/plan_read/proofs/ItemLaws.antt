@@ -64,7 +64,8 @@ module _ (bin : ℕ) (o : OffsetWords) (depth : ℕ) (sum place : SumWords) (nex
 
   pub bin-out : (s : Step) → not t ≡ true → s ≡ refusedStep 63 → BinRead bin o sum next count room E E s
   bin-out s n q =
-      let here : s ≡ binStep at next count room = q ∙ ap (λ (b : Bool). cond b (cond (ltb count room) (step 0 false next (suc count)) (refusedStep tooMany)) (refusedStep outOfRange)) (sym (in-range false (not-true t n))) in
+      let here : s ≡ binStep at next count room = q
+      ∙ ap (λ (b : Bool). cond b (cond (ltb count room) (step 0 false next (suc count)) (refusedStep tooMany)) (refusedStep outOfRange)) (sym (in-range false (not-true t n))) in
       record { long = refl; is = here; put = λ z. absurd (omega (arith, ap (λ (x : Step). x .refusal) q)) }
 
   pub bin-many : (s : Step) → not t ≡ false → room ≤ count → s ≡ refusedStep 64 → BinRead bin o sum next count room E E s
@@ -113,7 +114,8 @@ module _ (line : PlanLine) (depth : ℕ) (sum : SumWords) (next count room : ℕ
   unfolding leafStep leafEntries listOf
   leaf-end q e = same-list (ap (λ (l : PlanLine). listOf (leafEntries l sum)) q) (e ∙ ap (λ (l : PlanLine). leafStep l depth sum next count room) (sym q))
 
-pub leaf-bin : (line : PlanLine) (depth : ℕ) (sum : SumWords) (next count room : ℕ) (E W : List ℤ) (s : Step) (n : ℕ) (o : OffsetWords) → line ≡ PlanLine.Bin n o → BinRead n o sum next count room E W s
+pub leaf-bin : (line : PlanLine) (depth : ℕ) (sum : SumWords) (next count room : ℕ) (E W : List ℤ) (s : Step) (n : ℕ) (o : OffsetWords) → line ≡ PlanLine.Bin n o
+    → BinRead n o sum next count room E W s
     → LeafRead line depth sum next count room E W s
 unfolding leafStep leafEntries
 leaf-bin line depth sum next count room E W s n o q v = record {
@@ -158,6 +160,7 @@ no-group PlanLine.Close depth sum k = refl
 no-group PlanLine.Malformed depth sum k = refl
 no-group PlanLine.End depth sum k = refl
 
-pub group-opens : (line : PlanLine) (depth : ℕ) (sum inner : SumWords) (o : OffsetWords) → line ≡ PlanLine.Open o → depth < 16 → MovedTo depth sum o inner → Opened line depth sum (Opening.Group inner)
+pub group-opens : (line : PlanLine) (depth : ℕ) (sum inner : SumWords) (o : OffsetWords) → line ≡ PlanLine.Open o → depth < 16 → MovedTo depth sum o inner
+    → Opened line depth sum (Opening.Group inner)
 unfolding Opened
 group-opens line depth sum inner o q h v = record { offset = o; is = q; shallow = h; moved-to = v }

@@ -47,7 +47,8 @@ entries-cut l k h = ap entriesIn four
         ∙ ap (λ (xs : List ℤ). getD l (4 * k) (pos 0) ∷ xs) (from 1 (omega arith))
         ∙ ap (λ (xs : List ℤ). getD l (4 * k) (pos 0) ∷ getD l (4 * k + 1) (pos 0) ∷ xs) (from 2 (omega arith))
         ∙ ap (λ (xs : List ℤ). getD l (4 * k) (pos 0) ∷ getD l (4 * k + 1) (pos 0) ∷ getD l (4 * k + 2) (pos 0) ∷ xs) (from 3 (omega arith))
-        ∙ ap (λ (n : ℕ). getD l (4 * k) (pos 0) ∷ getD l (4 * k + 1) (pos 0) ∷ getD l (4 * k + 2) (pos 0) ∷ getD l (4 * k + 3) (pos 0) ∷ drop n l) (let e : 4 * k + (3 + 1) ≡ 4 * (k + 1) = omega arith in e)
+        ∙ ap (λ (n : ℕ). getD l (4 * k) (pos 0) ∷ getD l (4 * k + 1) (pos 0) ∷ getD l (4 * k + 2) (pos 0) ∷ getD l (4 * k + 3) (pos 0) ∷ drop n l)
+        (let e : 4 * k + (3 + 1) ≡ 4 * (k + 1) = omega arith in e)
 
 few-left : (l : List ℤ) → length l < 4 → entriesIn l ≡ []
 unfolding entriesIn

@@ -74,7 +74,8 @@ below-length bound k small (x ∷ xs) f e = go (ltb (digitOf x) 10) refl (eqb (d
         let n : below bound (decimalFrom (digitOf x) xs) ≡ some f = rw (q, r, decimalBelow) at e in
         let v = below-value bound (decimalFrom (digitOf x) xs) f n in
         let d : ¬ (digitOf x ≡ 0) = eqb-false (digitOf x) 0 r in
-        let few : length xs ≤ k + length (decimalFrom (digitOf x) xs .rest) = grown-few k (digitOf x) xs (decimalFrom (digitOf x) xs) (decimal-length (digitOf x) xs) (omega arith) (omega (arith, v .0)) in
+        let few : length xs ≤ k + length (decimalFrom (digitOf x) xs .rest) =
+        grown-few k (digitOf x) xs (decimalFrom (digitOf x) xs) (decimal-length (digitOf x) xs) (omega arith) (omega (arith, v .0)) in
         omega (arith, ap (λ g. length (g .rest)) (v .1))
 
 pub number-length : (xs : List ℕ) (f : Found) → readDecimal xs ≡ some f → length xs ≤ 10 + length (f .rest)
