@@ -8,12 +8,13 @@
  *     cad_stitch    writes the stitched body into second slices
  *     cad_assemble  writes the mesh, its parts, ranges and failures
  *
- * The other calls read a face of a body, ask about one patch alone, or are the float steps on which the three are built.
+ * cad_read_plan and cad_write_plan turn the text of a yard plan, which says where bins stand, into a list and back. The other calls
+ * read a face of a body, ask about one patch alone, or are the float steps on which the three are built.
  *
  * No call allocates, keeps anything between calls, or has any state of its own: a caller lends every slice, and threads may call at
  * once with slices of their own. What each call answers and what it leaves in each slice is proved against a definition, refusals
  * included, for every content that the slices may have. Link with libcad_tess.a (x86-64, System V calling convention); it takes
- * memcpy and memset from the C library and less than 4 KiB of stack.
+ * memcpy and memset from the C library and less than 4 KiB of stack; cad_read_plan, which goes as deep as a plan's groups, less than 8.
  *
  * SLICES
  *
@@ -64,6 +65,7 @@
  *     refusal            inputs and outputs    work area
  *     11 to 31           unchanged             unchanged
  *     33, 32, 42, 41     unchanged             its first CAD_WORK_WORDS(V, I, F) words are 0, the others unchanged
+ *     61 to 68           unchanged             none is lent
  *     0                  as each call says     its first CAD_WORK_WORDS(V, I, F) words are 0, the others unchanged
  */
 #ifndef CAD_TESS_H
@@ -95,6 +97,15 @@ extern "C" {
 #define CAD_MOST_OUTCOME 255
 #define CAD_MOST_BIN 65535
 
+/* Numbers that an entry of a plan's list takes: its bin, then x, y and z of its place. The most entries of a plan (check 64), and how
+   far an offset or a place may be from 0 on each axis, in micrometres: 2^40 (checks 61 and 63). */
+#define CAD_PLAN_ENTRY_NUMBERS 4
+#define CAD_MOST_PLAN_ENTRIES 4096
+#define CAD_MOST_OFFSET INT64_C(1099511627776)
+
+/* The most bytes of a bin's line, its LF included: cad_write_plan never refuses so many for each entry with 68. */
+#define CAD_MOST_PLAN_LINE 57
+
 /* The work area that a call needs for the body handed to it, in 64-bit words (check 31): for cad_assemble the stitched one. Its
    arguments are evaluated once. */
 #define CAD_WORK_WORDS(vertices, indices, rows) \
@@ -112,8 +123,8 @@ extern "C" {
 #define CAD_FAILURE_ESCAPE UINT64_C(256)
 
 /*
- * Why a call is refused, in the order in which the checks go; each looks at the whole body before the next. Numbers 51 and 52 are
- * the bench program's, for its text.
+ * Why a call is refused, in the order in which the checks go; each looks at the whole body before the next, but 61 to 64 at one line
+ * of a plan, or one entry of a list, before the next line or entry. Numbers 51 and 52 are the bench program's, for its text.
  */
 enum CadRefusal {
     CAD_DONE = 0,
@@ -129,7 +140,12 @@ enum CadRefusal {
     CAD_REFUSED_STITCHED_LIMIT = 33, /* cad_stitch: the stitched body passes the limits of 13 */
     CAD_REFUSED_OUTPUT = 32,         /* cad_stitch: an output slice is shorter than the stitched body needs */
     CAD_REFUSED_MATERIAL = 42,       /* cad_assemble: an entry, used or not, or the default is above 2^32 */
-    CAD_REFUSED_MESH = 41            /* cad_assemble: a mesh slice is shorter than the accepted patches need, or a table than F rows */
+    CAD_REFUSED_MESH = 41,           /* cad_assemble: a mesh slice is shorter than the accepted patches need, or a table than F rows */
+    CAD_REFUSED_LINE = 61,           /* cad_read_plan: a line is malformed; cad_write_plan: a bin is below 0 or above CAD_MOST_BIN */
+    CAD_REFUSED_DEPTH = 62,          /* cad_read_plan: a seventeenth group is open at once */
+    CAD_REFUSED_PLACE = 63,          /* a bin's place is beyond plus or minus CAD_MOST_OFFSET on an axis */
+    CAD_REFUSED_ENTRIES = 64,        /* there is a bin beyond CAD_MOST_PLAN_ENTRIES, or beyond the list lent to cad_read_plan */
+    CAD_REFUSED_TEXT = 68            /* cad_write_plan: the slice is shorter than the text */
 };
 
 /* A row of the table: the table's six numbers, in their order. A table of F rows may be lent as F of these where a call takes them. */
@@ -183,10 +199,23 @@ typedef struct CadJudged {
     uint32_t verdict; /* 1 for yes, 0 for no */
 } CadJudged;
 
+/* cad_read_plan's answer. */
+typedef struct CadPlanRead {
+    uint32_t refusal; /* enum CadRefusal */
+    uint64_t entries; /* bins that the plan places, CAD_PLAN_ENTRY_NUMBERS numbers of the list each */
+} CadPlanRead;
+
+/* cad_write_plan's answer. */
+typedef struct CadPlanWritten {
+    uint32_t refusal; /* enum CadRefusal */
+    uint64_t length;  /* bytes of the text */
+} CadPlanWritten;
+
 /* The library's layout of all these; a compiler that was told to pack structures stops here. */
 typedef char cad_layout_is_the_library_s[sizeof(float) == 4 && sizeof(double) == 8 && sizeof(size_t) == 8 && sizeof(bool) == 1 &&
                                          sizeof(CadTurned) == 16 && sizeof(CadStitched) == 24 && sizeof(CadAssembled) == 56 &&
                                          sizeof(CadMeasured) == 16 && sizeof(CadJudged) == 8 &&
+                                         sizeof(CadPlanRead) == 16 && sizeof(CadPlanWritten) == 16 &&
                                          sizeof(CadRow) == CAD_ROW_NUMBERS * sizeof(uint32_t) ? 1 : -1];
 
 /*
@@ -267,6 +296,47 @@ CadAssembled cad_assemble(const uint32_t *rows, size_t rows_len,
                           uint32_t *ranges, size_t ranges_len,
                           uint64_t *failures, size_t failures_len,
                           uint64_t *work, size_t work_len);
+
+/*
+ * Reads a yard plan: a text that places bodies, which are drawn near their own origin, by whole micrometres. Each line ends in LF and
+ * is one of
+ *
+ *     (group x y z    opens a group with its offset; it may hold bins, further groups, or nothing
+ *     (bin n x y z)   a bin with its offset, in the groups that are open or in none
+ *     )               closes the group that was opened last
+ *
+ * Numbers are decimal without leading zeros, negative ones with a minus. An offset is within plus or minus CAD_MOST_OFFSET on each
+ * axis, a bin's number at most CAD_MOST_BIN, and sixteen groups may be open at once. A bin's place is the sum of its own offset and
+ * those of the groups it stands in. An empty text is a plan of no bins.
+ *
+ * The list gets the plan's bins in the order read, each as its number and x, y and z of its place; a bin named twice is two entries.
+ *
+ *     text_len any
+ *     list_len at least CAD_PLAN_ENTRY_NUMBERS * the answer's entries; it has room for list_len / CAD_PLAN_ENTRY_NUMBERS, rounded
+ *         down, but never for more than CAD_MOST_PLAN_ENTRIES (CAD_PLAN_ENTRY_NUMBERS * CAD_MOST_PLAN_ENTRIES is always enough).
+ *         What stands behind the entries stays as it was
+ *
+ * The first line that offends decides, and on one line the checks go in their order. A group that is never closed is found past the
+ * last line. A refusal leaves the whole list as it was.
+ *
+ * Refusals: 61, 62, 63, 64.
+ */
+CadPlanRead cad_read_plan(const uint8_t *text, size_t text_len,
+                          int64_t *list, size_t list_len);
+
+/*
+ * Writes a list of placed bins as a plan's text, a line (bin n x y z) for each entry; cad_read_plan gives the same entries of it.
+ *
+ *     list_len any: the list has list_len / CAD_PLAN_ENTRY_NUMBERS entries, rounded down, and numbers behind the last are not read
+ *     out_len at least the answer's length, which is at most CAD_MOST_PLAN_LINE an entry. What stands behind the text stays as it was
+ *
+ * The first entry that offends decides, by its bin, its place and then its being one too many; 68 comes when all entries are good.
+ * A refusal leaves out as it was.
+ *
+ * Refusals: 61, 63, 64, 68.
+ */
+CadPlanWritten cad_write_plan(const int64_t *list, size_t list_len,
+                              uint8_t *out, size_t out_len);
 
 /*
  * One face of a body. Nothing is refused: a row past the end has face 0 and no indices, and slices may be of any length.

@@ -141,6 +141,28 @@ static void done(void)
     printf("with one for itself: %" PRIu32 "\n", assemble_stitched(&again, CAD_WORK_WORDS(again.vertices, again.indices, 2)).refusal);
 }
 
+/* A plan as a text without its final 0, read into a list. */
+static CadPlanRead read_plan(const char *text, int64_t *list, size_t list_len)
+{
+    return cad_read_plan((const uint8_t *)text, strlen(text), list, list_len);
+}
+
+/* A bin in no group, and one in a group within a group, listed and written back. */
+static void plans(void)
+{
+    static const char text[] = "(bin 1 5 0 0)\n(group 4000000000 0 -250\n(group 0 100 0\n(bin 2 7 8 9)\n)\n)\n";
+    int64_t list[2 * CAD_PLAN_ENTRY_NUMBERS];
+    uint8_t out[2 * CAD_MOST_PLAN_LINE];
+    const CadPlanRead plan = read_plan(text, list, 2 * CAD_PLAN_ENTRY_NUMBERS);
+    printf("read plan: %" PRIu32 ", %" PRIu64 " entries, the last:", plan.refusal, plan.entries);
+    for (size_t k = 0; k < CAD_PLAN_ENTRY_NUMBERS; k++)
+        printf(" %" PRId64, list[CAD_PLAN_ENTRY_NUMBERS + k]);
+    const CadPlanWritten listing = cad_write_plan(list, 2 * CAD_PLAN_ENTRY_NUMBERS, out, sizeof out);
+    printf("\nwrite plan: %" PRIu32 ", %" PRIu64 " bytes:\n%.*s", listing.refusal, listing.length, (int)listing.length, (const char *)out);
+    const CadPlanRead none = cad_read_plan(NULL, 0, NULL, 0);
+    printf("an empty plan, all pointers null: %" PRIu32 ", %" PRIu64 " entries\n", none.refusal, none.entries);
+}
+
 /* The same body with as many unused vertices as there may be, so that the new one is too many. */
 static uint32_t stitched_limit(void)
 {
@@ -150,6 +172,28 @@ static uint32_t stitched_limit(void)
     lent.rows[CAD_ROW_NUMBERS + 3] = CAD_MOST_VERTICES - 3;
     return cad_stitch(lent.rows, lent.rows_len, positions, 3 * CAD_MOST_VERTICES, normals, 3 * CAD_MOST_VERTICES,
                       lent.indices, lent.indices_len, 0.25, NULL, 0, NULL, 0, NULL, 0, NULL, 0, work, sizeof work / sizeof work[0]).refusal;
+}
+
+/* A plan or a list spoiled in the way of one refusal, and the call that gives it. */
+static uint32_t refused_plan(enum CadRefusal refusal)
+{
+    static const int64_t far[CAD_PLAN_ENTRY_NUMBERS] = {0, 0, 0, CAD_MOST_OFFSET + 1};
+    char groups[17 * sizeof "(group 0 0 0"] = "";
+    int64_t list[CAD_PLAN_ENTRY_NUMBERS] = {0};
+    switch (refusal) {
+    case CAD_REFUSED_LINE:
+        return read_plan("(bin 0 -0 0 0)\n", list, CAD_PLAN_ENTRY_NUMBERS).refusal;
+    case CAD_REFUSED_DEPTH:
+        for (size_t k = 0; k < 17; k++)
+            strcat(groups, "(group 0 0 0\n");
+        return read_plan(groups, list, CAD_PLAN_ENTRY_NUMBERS).refusal;
+    case CAD_REFUSED_PLACE:
+        return cad_write_plan(far, CAD_PLAN_ENTRY_NUMBERS, NULL, 0).refusal;
+    case CAD_REFUSED_ENTRIES:
+        return read_plan("(bin 0 0 0 0)\n", list, CAD_PLAN_ENTRY_NUMBERS - 1).refusal;
+    default:
+        return cad_write_plan(list, CAD_PLAN_ENTRY_NUMBERS, NULL, 0).refusal;
+    }
 }
 
 /* The body spoiled in the way of one refusal, and the call that gives it. */
@@ -195,20 +239,21 @@ static uint32_t refused(enum CadRefusal refusal)
     case CAD_REFUSED_MESH:
         lent.out_len = 26;
         return assemble(CAD_NO_MATERIAL).refusal;
-    case CAD_DONE:
-        break;
+    default:
+        return refused_plan(refusal);
     }
-    return turn().refusal;
 }
 
 int main(void)
 {
     static const enum CadRefusal all[] = {CAD_REFUSED_TABLE, CAD_REFUSED_OUTCOME, CAD_REFUSED_LIMIT, CAD_REFUSED_LENGTHS, CAD_REFUSED_BIN,
                                           CAD_REFUSED_TRIANGLES, CAD_REFUSED_INDEX, CAD_REFUSED_NOT_FINITE, CAD_REFUSED_WORK_AREA,
-                                          CAD_REFUSED_STITCHED_LIMIT, CAD_REFUSED_OUTPUT, CAD_REFUSED_MATERIAL, CAD_REFUSED_MESH};
+                                          CAD_REFUSED_STITCHED_LIMIT, CAD_REFUSED_OUTPUT, CAD_REFUSED_MATERIAL, CAD_REFUSED_MESH,
+                                          CAD_REFUSED_LINE, CAD_REFUSED_DEPTH, CAD_REFUSED_PLACE, CAD_REFUSED_ENTRIES, CAD_REFUSED_TEXT};
     steps();
     patches();
     done();
+    plans();
     for (size_t k = 0; k < sizeof all / sizeof all[0]; k++)
         printf("refused with %" PRIu32 "\n", refused(all[k]));
     return 0;

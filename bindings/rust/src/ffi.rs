@@ -8,6 +8,7 @@
 use crate::answers::{Assembled, Stitched, Turned};
 use crate::body::{BodyMut, BodyOut, BodyRef, FaceId, Point, Row};
 use crate::mesh::{Aabb, MeshOut, Setting};
+use crate::plan::RawPlacedBin;
 use crate::refusal::Refusal;
 
 #[repr(C)]
@@ -51,11 +52,25 @@ struct CadJudged {
     verdict: u32,
 }
 
+#[repr(C)]
+struct CadPlanRead {
+    refusal: u32,
+    entries: u64,
+}
+
+#[repr(C)]
+struct CadPlanWritten {
+    refusal: u32,
+    length: u64,
+}
+
 #[rustfmt::skip]
 extern "C" {
     fn cad_turn(rows: *const u32, rows_len: usize, positions: *const f32, positions_len: usize, normals: *mut f32, normals_len: usize, indices: *mut u32, indices_len: usize, work: *mut u64, work_len: usize) -> CadTurned;
     fn cad_stitch(rows: *const u32, rows_len: usize, positions: *const f32, positions_len: usize, normals: *const f32, normals_len: usize, indices: *const u32, indices_len: usize, sag: f64, out_rows: *mut u32, out_rows_len: usize, out_positions: *mut f32, out_positions_len: usize, out_normals: *mut f32, out_normals_len: usize, out_indices: *mut u32, out_indices_len: usize, work: *mut u64, work_len: usize) -> CadStitched;
     fn cad_assemble(rows: *const u32, rows_len: usize, positions: *const f32, positions_len: usize, normals: *const f32, normals_len: usize, indices: *const u32, indices_len: usize, min_x: f64, min_y: f64, min_z: f64, max_x: f64, max_y: f64, max_z: f64, materials: *const u64, materials_len: usize, default_material: u64, mesh_positions: *mut f32, mesh_positions_len: usize, mesh_normals: *mut f32, mesh_normals_len: usize, mesh_indices: *mut u32, mesh_indices_len: usize, parts: *mut u32, parts_len: usize, ranges: *mut u32, ranges_len: usize, failures: *mut u64, failures_len: usize, work: *mut u64, work_len: usize) -> CadAssembled;
+    fn cad_read_plan(text: *const u8, text_len: usize, list: *mut i64, list_len: usize) -> CadPlanRead;
+    fn cad_write_plan(list: *const i64, list_len: usize, out: *mut u8, out_len: usize) -> CadPlanWritten;
     fn cad_face_at(rows: *const Row, rows_len: usize, k: usize) -> u32;
     fn cad_face_indices(rows: *const u32, rows_len: usize, indices: *const u32, indices_len: usize, stitched_rows: *const u32, stitched_rows_len: usize, stitched_indices: *const u32, stitched_indices_len: usize, k: usize, out: *mut u32, out_len: usize) -> u64;
     fn cad_patch_volume(positions: *const f32, positions_len: usize, normals: *const f32, normals_len: usize, indices: *const u32, indices_len: usize, flip: bool) -> CadMeasured;
@@ -159,6 +174,21 @@ pub fn assemble(body: BodyRef<'_>, setting: &Setting<'_>, out: MeshOut<'_>, work
         overs: answer.overs,
         closed: answer.closed == 1,
     })
+}
+
+pub fn read_plan(text: &[u8], list: &mut [RawPlacedBin]) -> Result<u64, Refusal> {
+    let (list, list_len) = numbers_mut(list);
+    // Sound: each pair is a live slice of the numbers that the call takes; the list comes from &mut, so it overlaps nothing. An entry
+    // is four numbers of any value.
+    let answer = unsafe { cad_read_plan(text.as_ptr(), text.len(), list, list_len) };
+    unless_refused(answer.refusal, answer.entries)
+}
+
+pub fn write_plan(list: &[RawPlacedBin], out: &mut [u8]) -> Result<u64, Refusal> {
+    let (list, list_len) = numbers(list);
+    // Sound: each pair is a live slice of the numbers that the call takes; out comes from &mut, so it overlaps nothing.
+    let answer = unsafe { cad_write_plan(list, list_len, out.as_mut_ptr(), out.len()) };
+    unless_refused(answer.refusal, answer.length)
 }
 
 pub fn face_at(rows: &[Row], k: usize) -> FaceId {

@@ -23,6 +23,7 @@ use crate::answers::{Assembled, Stitched, Turned};
 use crate::body::{BodyMut, BodyOut, BodyRef, FaceId, Point, Row};
 use crate::ffi;
 use crate::mesh::{Aabb, MeshOut, Setting};
+use crate::plan::RawPlacedBin;
 use crate::refusal::Refusal;
 
 /// Turns the rows of a body so that neighbours of one shell agree on which side is outside: corners 1 and 2 of a turned row's triangles
@@ -42,6 +43,38 @@ pub fn stitch(body: BodyRef<'_>, sag: f64, out: BodyOut<'_>, work: &mut [u64]) -
 /// The work area must be enough for the body handed over: see [`work_words`](crate::work_words).
 pub fn assemble(body: BodyRef<'_>, setting: &Setting<'_>, out: MeshOut<'_>, work: &mut [u64]) -> Result<Assembled, Refusal> {
     ffi::assemble(body, setting, out, work)
+}
+
+/// Reads a plan's text: its bins go to the front of the list in the order read, and the answer is how many there are. The list has room
+/// for as many as it is long, but never for more than 4,096. What stands behind them stays as it was, and after a refusal all of it.
+///
+/// ```
+/// use body_finisher::{lent, RawPlacedBin, Refusal};
+///
+/// let (mut list, former) = ([RawPlacedBin { bin: 9, place: [9; 3] }; 2], RawPlacedBin { bin: 9, place: [9; 3] });
+/// assert_eq!(lent::read_plan(b"(group 0 0 7\n(bin 3 1 -2 0)\n)\n", &mut list)?, 1);
+/// assert_eq!(list, [RawPlacedBin { bin: 3, place: [1, -2, 7] }, former]);
+/// assert_eq!(lent::read_plan(b"(bin 3 1 -2 0)\n", &mut []), Err(Refusal::Entries));
+/// # Ok::<(), Refusal>(())
+/// ```
+pub fn read_plan(text: &[u8], list: &mut [RawPlacedBin]) -> Result<u64, Refusal> {
+    ffi::read_plan(text, list)
+}
+
+/// Writes a list as a plan's text to the front of `out`, and answers its length in bytes. What stands behind it stays as it was, and
+/// after a refusal all of it.
+///
+/// ```
+/// use body_finisher::{lent, RawPlacedBin, Refusal};
+///
+/// let (list, mut out) = ([RawPlacedBin { bin: 3, place: [1, -2, 0] }], [b'.'; 17]);
+/// assert_eq!(lent::write_plan(&list, &mut out[..14]), Err(Refusal::Text));
+/// assert_eq!(lent::write_plan(&list, &mut out)?, 15);
+/// assert_eq!(&out, b"(bin 3 1 -2 0)\n..");
+/// # Ok::<(), Refusal>(())
+/// ```
+pub fn write_plan(list: &[RawPlacedBin], out: &mut [u8]) -> Result<u64, Refusal> {
+    ffi::write_plan(list, out)
 }
 
 /// The face of row k of a table, or face 0 past its end.

@@ -3,8 +3,8 @@
 use std::error::Error;
 use std::fmt;
 
-/// Why a call is refused: the first check that it fails, each over the whole body before the next. A refused call leaves bodies and
-/// outputs as they were.
+/// Why a call is refused: the first check that it fails, each over the whole body before the next; of a plan the first line or entry
+/// that offends decides. A refused call leaves bodies and outputs as they were.
 ///
 /// ```
 /// use body_finisher::Refusal;
@@ -41,11 +41,21 @@ pub enum Refusal {
     Material,
     /// 41: a mesh slice is shorter than the accepted patches need, or a table has fewer rows than the body.
     Mesh,
+    /// 61: a line of a plan is malformed, or its end is missing; of a list, a bin is below 0 or above 65,535.
+    Line,
+    /// 62: a seventeenth group of a plan is open at once.
+    Depth,
+    /// 63: a bin's place is beyond plus or minus 2^40 on an axis.
+    Place,
+    /// 64: a bin beyond the 4,096th, or beyond the list.
+    Entries,
+    /// 68: the slice is shorter than the text that is written to it.
+    Text,
 }
 
 impl Refusal {
     /// Every refusal, in the order in which the checks go.
-    pub const ALL: [Refusal; 13] = [
+    pub const ALL: [Refusal; 18] = [
         Refusal::Table,
         Refusal::Outcome,
         Refusal::Limit,
@@ -59,6 +69,11 @@ impl Refusal {
         Refusal::Output,
         Refusal::Material,
         Refusal::Mesh,
+        Refusal::Line,
+        Refusal::Depth,
+        Refusal::Place,
+        Refusal::Entries,
+        Refusal::Text,
     ];
 
     /// The number that the C call gives.
@@ -77,6 +92,11 @@ impl Refusal {
             Refusal::Output => 32,
             Refusal::Material => 42,
             Refusal::Mesh => 41,
+            Refusal::Line => 61,
+            Refusal::Depth => 62,
+            Refusal::Place => 63,
+            Refusal::Entries => 64,
+            Refusal::Text => 68,
         }
     }
 
@@ -103,6 +123,11 @@ impl Refusal {
             Refusal::Output => "an output slice is shorter than the stitched body needs",
             Refusal::Material => "a material entry or the default is above 2^32",
             Refusal::Mesh => "a mesh slice is shorter than the accepted patches need, or a table has fewer rows than the body",
+            Refusal::Line => "a line of the plan is malformed or its end is missing, or a bin isn't from 0 to 65,535",
+            Refusal::Depth => "a seventeenth group is open at once",
+            Refusal::Place => "a bin's place is beyond plus or minus 2^40 on an axis",
+            Refusal::Entries => "there is a bin beyond the 4,096th, or beyond the list",
+            Refusal::Text => "the slice is shorter than the text",
         }
     }
 }

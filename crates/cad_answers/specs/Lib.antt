@@ -4,3 +4,4 @@ pub mod Turning
 pub mod Stitching
 pub mod Assembling
 pub mod AssembledStruct
+pub mod Plans

@@ -2,6 +2,7 @@
 
 mod assembling;
 mod patch;
+mod plans;
 mod stitching;
 mod turning;
 
@@ -12,6 +13,10 @@ pub use patch::CadMeasured;
 pub use patch::box_of;
 pub use patch::judged_answer;
 pub use patch::measured_answer;
+pub use plans::CadPlanRead;
+pub use plans::CadPlanWritten;
+pub use plans::listing_answer;
+pub use plans::plan_answer;
 pub use stitching::CadStitched;
 pub use stitching::stitched_answer;
 pub use turning::CadTurned;

@@ -9,10 +9,10 @@ use lib.Ieee.{Float}
 use lib.ListN.{length, take, length-append, length-map, length-take}
 use Rattle.mesh_acceptance.specs.Acceptance.{failureWidth}
 use Rattle.mesh_layout.specs.Mesh.{partWidth, rangeWidth}
-use Rattle.sheet_digits.specs.Digits.{digits, decimalTo, decimal, hex}
 use Rattle.float_steps.specs.Floats.{bits32}
 use Rattle.sheet_lines.specs.Forms.{Piece, Word, Bits, Number, print, line, numbers, vertexForm, triangleForm}
 use Rattle.sheet_lines.specs.Lengths.{longest}
+use Rattle.sheet_lines.specs.Printed.{line-length}
 use Rattle.sheet_answer_text.specs.declared.Sizes.{Sizes}
 use Rattle.sheet_answer_text.specs.declared.Tallies.{Tallies}
 use Rattle.sheet_answer_rows.specs.Rows.{emptyForm, escapeForm, failureLine, failureLines, rangeForm, rangeLines, threes, upstreamForm, vertexLines}
@@ -32,37 +32,6 @@ use Rattle.sheet_answer_text.specs.Answer.{
   splitForm,
   turnedForm,
 }
-
--- ---- numbers
-
-digits-length : (base k n : ℕ) → length (digits base k n) ≡ k
-unfolding digits
-digits-length base zero n = refl
-digits-length base (suc k) n = ap suc (digits-length base k n)
-
-decimal-length : (k n : ℕ) → length (decimalTo k n) ≤ suc k
-unfolding decimalTo
-decimal-length zero n = omega (arith, digits-length 10 1 n)
-decimal-length (suc k) n = go (ltb n (10 ^ suc k)) (decimal-length k n)
-  where
-    go : (b : Bool) → length (decimalTo k n) ≤ suc k → length {A = ℕ} (elim b as (λ x. List ℕ) [ true ↦ decimalTo k n | false ↦ digits 10 (suc (suc k)) n ]) ≤ suc (suc k)
-    go true h = omega arith
-    go false h = omega (arith, digits-length 10 (suc (suc k)) n)
-
--- ---- lines
-
-print-length : (ps : List Piece) (ns : List ℕ) → length (print ps ns) ≤ longest 20 ps
-unfolding print
-print-length [] ns = omega arith
-print-length (Word w ∷ ps) ns = omega (arith, length-append w (print ps ns), print-length ps ns)
-print-length (Bits k ∷ ps) [] = omega arith
-print-length (Bits k ∷ ps) (n ∷ ns) = omega (arith, length-append (hex k n) (print ps ns), digits-length 16 k n, print-length ps ns)
-print-length (Number ∷ ps) [] = omega arith
-print-length (Number ∷ ps) (n ∷ ns) = omega (arith, length-append (decimal n) (print ps ns), decimal-length 19 n, print-length ps ns)
-
-pub line-length : (ps : List Piece) (ns : List ℕ) → length (line ps ns) ≤ suc (longest 20 ps)
-unfolding line
-line-length ps ns = omega (arith, length-append (print ps ns) (10 ∷ []), print-length ps ns)
 
 -- ---- a line for every row
 

@@ -10,8 +10,8 @@ use native.Mathlib.Omega.{arith}
 use borrow.Author.Tests.{le-leb, lt-leb, le-ltb, lt-ltb, eq-eqb, ne-eqb}
 use lib.Dec.{ltb, eqb, lit<}
 use lib.ListN.{length, getD, drop, drop-of-length-le}
-use Rattle.sheet_digits.specs.Digits.{below32, decimalFrom, digitOf, Found, found, hexFrom, readDecimal, readHex}
-use Rattle.sheet_digit_reading.specs.Given.{Number}
+use Rattle.sheet_digits.specs.Digits.{below, decimalBelow, decimalFrom, digitOf, Found, found, hexFrom, readHex}
+use Rattle.sheet_digit_reading.specs.Given.{Bound, Number}
 use Rattle.sheet_digits.specs.Lengths.{Grown, decimal-length}
 use Rattle.sheet_digits.specs.Next.{next}
 use Rattle.sheet_digit_reading.specs.declared.Taken.{Taken}
@@ -114,89 +114,103 @@ hexed-all text at k value i v h =
     }
 
 -- ---- the loop over decimal digits
-pub record Tens (text : List ℕ) (at before value i : ℕ) : Type 0 where
+pub record Tens (text : List ℕ) (at before most value i : ℕ) : Type 0 where
   pub inside : i ≤ length text
-  pub small : value < 2 ^ 32
-  pub same : below32 (decimalFrom value (drop i text)) ≡ below32 (decimalFrom before (drop at text))
+  pub small : value < most + 1
+  pub same : below (most + 1) (decimalFrom value (drop i text)) ≡ below (most + 1) (decimalFrom before (drop at text))
 
-pub tens-none : (text : List ℕ) (at before : ℕ) → at ≤ length text → before < 10 → Tens text at before before at
-tens-none text at before h l = record { inside = h; small = omega arith; same = refl }
+pub tens-none : (text : List ℕ) (at before most : ℕ) → at ≤ length text → before < 10 → Bound most → Tens text at before most before at
+tens-none text at before most h l b = record { inside = h; small = omega (arith, b .least); same = refl }
 
 -- a number that is already too large stays so
-large : (before : ℕ) (xs : List ℕ) → 2 ^ 32 ≤ before → below32 (decimalFrom before xs) ≡ none
-unfolding below32
-large before xs h =
+large : (bound before : ℕ) (xs : List ℕ) → bound ≤ before → below bound (decimalFrom before xs) ≡ none
+unfolding below
+large bound before xs h =
     let g : Grown before xs (decimalFrom before xs) = decimal-length before xs in
     let p : 0 < 10 ^ g .count = one-le-pow (g .count) 10 (lit< tt) in
     let q : before * 1 ≤ before * 10 ^ g .count = mul-le-mul-left before p in
-    let b : 2 ^ 32 ≤ decimalFrom before xs .value = omega (arith, g .large) in
-    rw (le-ltb (decimalFrom before xs .value) (2 ^ 32) b)
+    let b : bound ≤ decimalFrom before xs .value = omega (arith, g .large) in
+    rw (le-ltb (decimalFrom before xs .value) bound b)
 
 -- a number that was read whole
-whole : (text : List ℕ) (value i : ℕ) (o : Option Found) → i ≤ length text → value < 2 ^ 32 → below32 (found value (drop i text)) ≡ o
-    → Number text (2 ^ 32) o (record { ok = true; value = value; next = i })
-unfolding below32
-whole text value i o l h e = record { is = sym (rw (lt-ltb value (2 ^ 32) h)) ∙ e; small = h; within = l }
+whole : (text : List ℕ) (bound value i : ℕ) (o : Option Found) → i ≤ length text → value < bound → below bound (found value (drop i text)) ≡ o
+    → Number text bound o (record { ok = true; value = value; next = i })
+unfolding below
+whole text bound value i o l h e = record { is = sym (rw (lt-ltb value bound h)) ∙ e; small = h; within = l }
 
-module _ (text : List ℕ) (at before value i : ℕ) (v : Tens text at before value i) where
-  pub tens-all : length text ≤ i → Number text (2 ^ 32) (below32 (decimalFrom before (drop at text))) (record { ok = true; value = value; next = i })
+module _ (text : List ℕ) (at before most value i : ℕ) (v : Tens text at before most value i) where
+  pub tens-room : Bound most → value * 10 + 9 < 2 ^ 64
+  tens-room b = omega (arith, v .small, b .highest)
+
+  pub tens-all : length text ≤ i → Number text (most + 1) (below (most + 1) (decimalFrom before (drop at text))) (record { ok = true; value = value; next = i })
   unfolding decimalFrom
   tens-all h =
       let e : drop i text ≡ [] = drop-of-length-le text h in
-      whole text value i (below32 (decimalFrom before (drop at text))) (v .inside) (v .small)
-      (ap (λ (xs : List ℕ). below32 (found value xs)) e ∙ ap (λ (xs : List ℕ). below32 (decimalFrom value xs)) (sym e) ∙ v .same)
+      whole text (most + 1) value i (below (most + 1) (decimalFrom before (drop at text))) (v .inside) (v .small)
+      (ap (λ (xs : List ℕ). below (most + 1) (found value xs)) e ∙ ap (λ (xs : List ℕ). below (most + 1) (decimalFrom value xs)) (sym e) ∙ v .same)
 
   module _ (d : ℕ) (l : i < length text) (e : d ≡ digitOf (getD text i 0)) where
-    pub tens-stop : 10 ≤ d → Number text (2 ^ 32) (below32 (decimalFrom before (drop at text))) (record { ok = true; value = value; next = i })
+    pub tens-stop : 10 ≤ d → Number text (most + 1) (below (most + 1) (decimalFrom before (drop at text))) (record { ok = true; value = value; next = i })
     unfolding decimalFrom
     tens-stop b =
         let t : ltb (digitOf (getD text i 0)) 10 ≡ false = le-ltb (digitOf (getD text i 0)) 10 (subst (λ (n : ℕ). 10 ≤ n) e b) in
         let stop : decimalFrom value (getD text i 0 ∷ drop (i + 1) text) ≡ found value (getD text i 0 ∷ drop (i + 1) text) = rw (t, decimalFrom) in
-        whole text value i (below32 (decimalFrom before (drop at text))) (v .inside) (v .small)
-        (ap (λ (xs : List ℕ). below32 (found value xs)) (next text i 0 l) ∙ ap below32 (sym stop) ∙ ap (λ (xs : List ℕ). below32 (decimalFrom value xs)) (sym (next text i 0 l)) ∙ v .same)
+        whole text (most + 1) value i (below (most + 1) (decimalFrom before (drop at text))) (v .inside) (v .small)
+        (ap (λ (xs : List ℕ). below (most + 1) (found value xs)) (next text i 0 l)
+        ∙ ap (below (most + 1)) (sym stop)
+        ∙ ap (λ (xs : List ℕ). below (most + 1) (decimalFrom value xs)) (sym (next text i 0 l))
+        ∙ v .same)
 
-    step : d < 10 → below32 (decimalFrom (value * 10 + d) (drop (i + 1) text)) ≡ below32 (decimalFrom before (drop at text))
+    step : d < 10 → below (most + 1) (decimalFrom (value * 10 + d) (drop (i + 1) text)) ≡ below (most + 1) (decimalFrom before (drop at text))
     unfolding decimalFrom
     step b =
         let t : ltb (digitOf (getD text i 0)) 10 ≡ true = lt-ltb (digitOf (getD text i 0)) 10 (subst (λ (n : ℕ). n < 10) e b) in
         let more : decimalFrom value (getD text i 0 ∷ drop (i + 1) text) ≡ decimalFrom (value * 10 + digitOf (getD text i 0)) (drop (i + 1) text) = rw (t, decimalFrom) in
-        ap (λ (n : ℕ). below32 (decimalFrom (value * 10 + n) (drop (i + 1) text))) e ∙ ap below32 (sym more) ∙ ap (λ (xs : List ℕ). below32 (decimalFrom value xs)) (sym (next text i 0 l)) ∙ v .same
+        ap (λ (n : ℕ). below (most + 1) (decimalFrom (value * 10 + n) (drop (i + 1) text))) e
+        ∙ ap (below (most + 1)) (sym more)
+        ∙ ap (λ (xs : List ℕ). below (most + 1) (decimalFrom value xs)) (sym (next text i 0 l))
+        ∙ v .same
 
-    pub tens-more : d < 10 → value * 10 + d ≤ 4294967295 → Tens text at before (value * 10 + d) (i + 1)
+    pub tens-more : d < 10 → value * 10 + d ≤ most → Tens text at before most (value * 10 + d) (i + 1)
     tens-more b s = record { inside = omega arith; small = omega arith; same = step b }
 
-    pub tens-large : (r : Taken) → at ≤ length text → d < 10 → 4294967295 < value * 10 + d → r ≡ record { ok = false; value = 0; next = at }
-        → Number text (2 ^ 32) (below32 (decimalFrom before (drop at text))) r
-    tens-large r h b s q = no-number text (2 ^ 32) (below32 (decimalFrom before (drop at text))) r at h (omega arith) q (sym (large (value * 10 + d) (drop (i + 1) text) (omega arith)) ∙ step b)
+    pub tens-large : (r : Taken) → at ≤ length text → d < 10 → most < value * 10 + d → r ≡ record { ok = false; value = 0; next = at }
+        → Number text (most + 1) (below (most + 1) (decimalFrom before (drop at text))) r
+    tens-large r h b s q =
+        no-number text (most + 1) (below (most + 1) (decimalFrom before (drop at text))) r at h (omega arith) q
+        (sym (large (most + 1) (value * 10 + d) (drop (i + 1) text) (omega arith)) ∙ step b)
 
 -- ---- a decimal number
-module _ (text : List ℕ) (at : ℕ) where
-  pub number-end : (r : Taken) → at ≤ length text → length text ≤ at → r ≡ record { ok = false; value = 0; next = at } → Number text (2 ^ 32) (readDecimal (drop at text)) r
-  unfolding readDecimal
-  number-end r h l q = no-number text (2 ^ 32) (readDecimal (drop at text)) r at h (omega arith) q (ap readDecimal (sym (drop-of-length-le text l)))
+module _ (text : List ℕ) (at most : ℕ) where
+  pub number-end : (r : Taken) → at ≤ length text → length text ≤ at → r ≡ record { ok = false; value = 0; next = at } → Number text (most + 1) (decimalBelow (most + 1) (drop at text)) r
+  unfolding decimalBelow
+  number-end r h l q = no-number text (most + 1) (decimalBelow (most + 1) (drop at text)) r at h (omega arith) q (ap (decimalBelow (most + 1)) (sym (drop-of-length-le text l)))
 
   module _ (d : ℕ) (l : at < length text) (e : d ≡ digitOf (getD text at 0)) where
-    pub number-other : (r : Taken) → 10 ≤ d → r ≡ record { ok = false; value = 0; next = at } → Number text (2 ^ 32) (readDecimal (drop at text)) r
-    unfolding readDecimal
+    pub number-other : (r : Taken) → 10 ≤ d → r ≡ record { ok = false; value = 0; next = at } → Number text (most + 1) (decimalBelow (most + 1) (drop at text)) r
+    unfolding decimalBelow
     number-other r b q =
         let t : ltb (digitOf (getD text at 0)) 10 ≡ false = le-ltb (digitOf (getD text at 0)) 10 (subst (λ (n : ℕ). 10 ≤ n) e b) in
-        let no : readDecimal (getD text at 0 ∷ drop (at + 1) text) ≡ none = rw (t, readDecimal) in
-        no-number text (2 ^ 32) (readDecimal (drop at text)) r at (omega arith) (omega arith) q (sym no ∙ ap readDecimal (sym (next text at 0 l)))
+        let no : decimalBelow (most + 1) (getD text at 0 ∷ drop (at + 1) text) ≡ none = rw (t, decimalBelow) in
+        no-number text (most + 1) (decimalBelow (most + 1) (drop at text)) r at (omega arith) (omega arith) q (sym no ∙ ap (decimalBelow (most + 1)) (sym (next text at 0 l)))
 
     module _ (b : d < 10) where
       t : ltb (digitOf (getD text at 0)) 10 ≡ true
       t = lt-ltb (digitOf (getD text at 0)) 10 (subst (λ (n : ℕ). n < 10) e b)
 
-      pub number-zero : d ≡ 0 → Number text (2 ^ 32) (readDecimal (drop at text)) (record { ok = true; value = 0; next = at + 1 })
-      unfolding readDecimal
+      pub number-zero : d ≡ 0 → Number text (most + 1) (decimalBelow (most + 1) (drop at text)) (record { ok = true; value = 0; next = at + 1 })
+      unfolding decimalBelow
       number-zero z =
           let f : eqb (digitOf (getD text at 0)) 0 ≡ true = eq-eqb (digitOf (getD text at 0)) 0 (sym e ∙ z) in
-          let nil : readDecimal (getD text at 0 ∷ drop (at + 1) text) ≡ some (found 0 (drop (at + 1) text)) = rw (t, f, readDecimal) in
-          record { is = sym nil ∙ ap readDecimal (sym (next text at 0 l)); small = omega arith; within = omega arith }
+          let nil : decimalBelow (most + 1) (getD text at 0 ∷ drop (at + 1) text) ≡ some (found 0 (drop (at + 1) text)) = rw (t, f, decimalBelow) in
+          record { is = sym nil ∙ ap (decimalBelow (most + 1)) (sym (next text at 0 l)); small = omega arith; within = omega arith }
 
-      pub number-more : (r : Taken) → (d ≡ 0 → ⊥) → Number text (2 ^ 32) (below32 (decimalFrom d (drop (at + 1) text))) r → Number text (2 ^ 32) (readDecimal (drop at text)) r
-      unfolding readDecimal
+      pub number-more : (r : Taken) → (d ≡ 0 → ⊥) → Number text (most + 1) (below (most + 1) (decimalFrom d (drop (at + 1) text))) r
+          → Number text (most + 1) (decimalBelow (most + 1) (drop at text)) r
+      unfolding decimalBelow
       number-more r z v =
           let f : eqb (digitOf (getD text at 0)) 0 ≡ false = ne-eqb (digitOf (getD text at 0)) 0 (λ q. z (e ∙ q)) in
-          let more : readDecimal (getD text at 0 ∷ drop (at + 1) text) ≡ below32 (decimalFrom (digitOf (getD text at 0)) (drop (at + 1) text)) = rw (t, f, readDecimal) in
-          subst (λ (o : Option Found). Number text (2 ^ 32) o r) (ap (λ (n : ℕ). below32 (decimalFrom n (drop (at + 1) text))) e ∙ sym more ∙ ap readDecimal (sym (next text at 0 l))) v
+          let more : decimalBelow (most + 1) (getD text at 0 ∷ drop (at + 1) text) ≡ below (most + 1) (decimalFrom (digitOf (getD text at 0)) (drop (at + 1) text)) = rw (t, f, decimalBelow) in
+          subst (λ (o : Option Found). Number text (most + 1) o r)
+          (ap (λ (n : ℕ). below (most + 1) (decimalFrom n (drop (at + 1) text))) e ∙ sym more ∙ ap (decimalBelow (most + 1)) (sym (next text at 0 l)))
+          v

@@ -12,6 +12,8 @@ use lib.ListN.{length, getD, take, drop, set, drop-of-length-le, length-append, 
 use lib.Seq.{drop-cons, take-all, take-suc, take-suc-set, getD-set-same, drop-set-lt}
 use Rattle.sheet_digits.specs.Digits.{decimal, decimalTo, digitByte, digits}
 use Rattle.sheet_digits.specs.Exact.{digits-last, decimalTo-at}
+use Rattle.signed_numbers.specs.Range.{farthest}
+use Rattle.sheet_digits.specs.Offsets.{offset}
 use Rattle.sheet_digit_writing.specs.Writing.{Digits, Filling, Wrote}
 use Rattle.sheet_digit_writing.specs.Wrote.{wrote-none, wrote-then}
 
@@ -167,3 +169,12 @@ counted-all n m (suc j) v h = record { few = v .few; is = go j n (v .low) high (
     go zero zero low high l = refl
     go zero (suc n) low high l = decimalTo-at 19 0 (suc n) (omega arith) (omega arith) high
     go (suc i) n low high l = decimalTo-at 19 (suc i) n l (subst (λ (y : ℕ). 10 ^ y ≤ n) (let e : suc (suc i) - 1 ≡ suc i = omega arith in e) (low (omega arith))) high
+
+-- ---- an offset
+pub offset-beneath : (E W U : List ℕ) (at n q r : ℕ) → n < 1099511627776 → Wrote E at (45 ∷ []) W q → Wrote W q (decimal (1099511627776 - n)) U r → Wrote E at (offset n) U r
+unfolding offset
+offset-beneath E W U at n q r h v w = rw (lt-ltb n farthest h) (wrote-then v w)
+
+pub offset-above : (E W : List ℕ) (at n r : ℕ) → 1099511627776 ≤ n → Wrote E at (decimal (n - 1099511627776)) W r → Wrote E at (offset n) W r
+unfolding offset
+offset-above E W at n r h v = rw (le-ltb n farthest h) v

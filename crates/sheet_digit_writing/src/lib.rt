@@ -5,7 +5,14 @@ ghost use mathlib.Core.List.{_∷_, []};
 ghost use Prim.Native.Nat.{_+_, _-_, _<_, _≤_};
 ghost use lib.ListN.{length};
 ghost use Rattle.sheet_digits.specs.Digits.{decimal, digitByte, digits, hex};
+ghost use Rattle.sheet_digits.specs.Offsets.{offset};
 ghost use Rattle.sheet_digit_writing.specs.Writing.{Digits, Filling, Wrote};
+
+// The farthest that an offset is from zero, 2^40, and the word of offset 0.
+const FARTHEST: u64 = 0x100_0000_0000;
+
+// The byte of the minus.
+const MINUS: u8 = 45;
 
 // The byte of a digit.
 fn digit_byte(d: u64) -> u8
@@ -106,4 +113,16 @@ pub fn put_decimal(out: &mut [u8], at: usize, n: u64) -> usize
 {
     let k = count_digits(n);
     put_digits(out, at, 10, k, n)
+}
+
+// The offset of a word n at a place, with a minus if it is below zero; answers the place after it.
+pub fn put_offset(out: &mut [u8], at: usize, n: u64) -> usize
+    requires { ⌜ at ≤ length (now out) ⌝ }
+    ensures { λ r. ⌜ Wrote (now (out .entry)) at (offset n) (now (out .exit)) r ⌝ }
+{
+    if n < FARTHEST {
+        let next = put_byte(out, at, MINUS);
+        return put_decimal(out, next, FARTHEST - n);
+    }
+    put_decimal(out, at, n - FARTHEST)
 }

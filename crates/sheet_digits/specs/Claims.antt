@@ -4,6 +4,7 @@ use mathlib.Core.Option.{none, some}
 use mathlib.Core.Path.{_≡_, refl}
 use Rattle.sheet_digits.specs.Bytes.{bytes}
 use Rattle.sheet_digits.specs.Digits.{found, hex, decimal, readHex, readDecimal}
+use Rattle.sheet_digits.specs.Offsets.{offset, readOffset}
 use Rattle.sheet_digits.specs.Evaluation.{evaluation}
 
 -- bits are written in upper-case hex, as many digits as are asked for
@@ -45,3 +46,22 @@ largest = refl
 no-digit : (readDecimal (bytes "A") ∷ readDecimal [] ∷ []) ≡ (none ∷ none ∷ [])
 unfolding evaluation
 no-digit = refl
+
+-- an offset's word is 2^40 more than it: 5, 0, -1, and the farthest two
+offset-written : (offset 1099511627781 ∷ offset 1099511627776 ∷ offset 1099511627775 ∷ offset 2199023255552 ∷ offset 0 ∷ [])
+    ≡ (bytes "5" ∷ bytes "0" ∷ bytes "-1" ∷ bytes "1099511627776" ∷ bytes "-1099511627776" ∷ [])
+unfolding evaluation
+offset-written = refl
+
+offset-read : (readOffset (bytes "-12 3") ∷ readOffset (bytes "0)") ∷ readOffset (bytes "-1099511627776") ∷ [])
+    ≡ (some (found 1099511627764 (bytes " 3")) ∷ some (found 1099511627776 (bytes ")")) ∷ some (found 0 []) ∷ [])
+unfolding evaluation
+offset-read = refl
+
+-- minus 0, a plus, two minuses, a minus alone, nothing; beyond the farthest, and beyond 64 bits
+no-offset :
+    (readOffset (bytes "-0") ∷ readOffset (bytes "+5") ∷ readOffset (bytes "--1") ∷ readOffset (bytes "-") ∷ readOffset [] ∷ readOffset (bytes "1099511627777") ∷ readOffset (bytes "-1099511627777")
+    ∷ readOffset (bytes "18446744073709551616") ∷ [])
+    ≡ (none ∷ none ∷ none ∷ none ∷ none ∷ none ∷ none ∷ none ∷ [])
+unfolding evaluation
+no-offset = refl

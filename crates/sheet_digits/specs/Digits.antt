@@ -61,14 +61,18 @@ unfoldable pub decimalFrom : ℕ → List ℕ → Found
 decimalFrom before [] = found before []
 decimalFrom before (x ∷ xs) = elim (ltb (digitOf x) 10) [ true ↦ decimalFrom (before * 10 + digitOf x) xs | false ↦ found before (x ∷ xs) ]
 
--- a number that is below 2 ^ 32
-unfoldable pub below32 : Found → Option Found
-below32 f = cond (ltb (f .value) (2 ^ 32)) (some f) none
+-- a number that is below a bound
+unfoldable pub below : ℕ → Found → Option Found
+below bound f = cond (ltb (f .value) bound) (some f) none
 
--- a decimal number: 0 alone, or all digits from one that isn't 0, and below 2 ^ 32
-unfoldable pub readDecimal : List ℕ → Option Found
-readDecimal [] = none
-readDecimal (x ∷ xs) = elim (ltb (digitOf x) 10) [
-  | true ↦ elim (eqb (digitOf x) 0) [ true ↦ some (found 0 xs) | false ↦ below32 (decimalFrom (digitOf x) xs) ]
+-- a decimal number: 0 alone, or all digits from one that isn't 0, and below a bound
+unfoldable pub decimalBelow : ℕ → List ℕ → Option Found
+decimalBelow bound [] = none
+decimalBelow bound (x ∷ xs) = elim (ltb (digitOf x) 10) [
+  | true ↦ elim (eqb (digitOf x) 0) [ true ↦ some (found 0 xs) | false ↦ below bound (decimalFrom (digitOf x) xs) ]
   | false ↦ none
 ]
+
+-- a decimal number below 2 ^ 32
+abbrev pub readDecimal : List ℕ → Option Found
+readDecimal xs = decimalBelow (2 ^ 32) xs

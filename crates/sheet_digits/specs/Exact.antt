@@ -8,8 +8,8 @@ use native.Mathlib.Nat.{div-one, le-div-iff-mul-le, div-lt-iff-lt-mul, pow-zero,
 use native.Mathlib.Omega.{arith}
 use lib.Dec.{leb, ltb, eqb, lit<}
 use borrow.Author.Tests.{lt-ltb, le-ltb, leb-true, leb-false, ltb-true, ltb-false, eqb-true, eqb-false}
-use Rattle.sheet_digits.specs.Digits.{readHex, digitByte, digitOf, digits, decimalTo, decimal, Found, found, hexFrom, decimalFrom, below32, readDecimal}
-use Rattle.sheet_digits.specs.Lengths.{below32-value}
+use Rattle.sheet_digits.specs.Digits.{readHex, digitByte, digitOf, digits, decimalTo, decimal, Found, found, hexFrom, decimalFrom, below, decimalBelow, readDecimal}
+use Rattle.sheet_digits.specs.Lengths.{below-value}
 
 -- a byte that stands for a digit is the digit's byte
 pub byte-back : (c : ℕ) → digitOf c < 16 → digitByte (digitOf c) ≡ c
@@ -111,20 +111,21 @@ decimalTo-at (suc j) m v h low high = go (ltb v (10 ^ suc j)) refl (λ l. decima
             absurd (omega (arith, ltb-false v (10 ^ suc j) q))
         same false p = ap (λ n. digits 10 (suc n) v) (let e : suc j ≡ m = omega (arith, leb-false m j p) in e)
 
--- nine more digits at the most
-few-digits : (m v : ℕ) → 10 ^ m ≤ v → v < 2 ^ 32 → m ≤ 19
+-- nineteen more digits at the most
+few-digits : (m v : ℕ) → 10 ^ m ≤ v → v < 10 ^ 20 → m ≤ 19
 few-digits m v low h = go (leb 20 m) refl
   where
     go : (b : Bool) → leb 20 m ≡ b → m ≤ 19
     go true q = let big : 10 ^ 20 ≤ 10 ^ m = pow-le-pow-right (lit< tt) (leb-true 20 m q) in absurd (omega arith)
     go false q = omega (arith, leb-false 20 m q)
 
-nonzero-exact : (x : ℕ) (xs : List ℕ) (f : Found) → digitOf x < 10 → ¬ (digitOf x ≡ 0) → below32 (decimalFrom (digitOf x) xs) ≡ some f → decimal (f .value) ++ f .rest ≡ x ∷ xs
+nonzero-exact : (bound : ℕ) → bound ≤ 10 ^ 20 → (x : ℕ) (xs : List ℕ) (f : Found) → digitOf x < 10 → ¬ (digitOf x ≡ 0) → below bound (decimalFrom (digitOf x) xs) ≡ some f
+    → decimal (f .value) ++ f .rest ≡ x ∷ xs
 unfolding digits
-nonzero-exact x xs f d nz e =
+nonzero-exact bound few x xs f d nz e =
     let g : Found = decimalFrom (digitOf x) xs in
     let r : DecimalOf (digitOf x) xs g = decimal-exact (digitOf x) xs in
-    let b = below32-value g f e in
+    let b = below-value bound g f e in
     let m : ℕ = r .count in
     let v : ℕ = g .value in
     let p : 0 < 10 ^ m = one-le-pow m 10 (lit< tt) in
@@ -137,27 +138,30 @@ nonzero-exact x xs f d nz e =
     let high : v < 10 ^ suc m = rw pow-succ' ten-times in
     let digit : v / 10 ^ m % 10 ≡ digitOf x = ap (λ y. y % 10) top ∙ omega arith in
     ap (λ h. decimal (h .value) ++ h .rest) (sym (b .1))
-    ∙ ap (λ ds. ds ++ g .rest) (decimalTo-at 19 m v (few-digits m v low (b .0)) low high)
+    ∙ ap (λ ds. ds ++ g .rest) (decimalTo-at 19 m v (few-digits m v low (omega (arith, b .0))) low high)
     ∙ ap (λ y. digitByte y ∷ (digits 10 m v ++ g .rest)) digit
     ∙ ap (λ y. y ∷ (digits 10 m v ++ g .rest)) (byte-back x (omega arith))
     ∙ ap (λ ys. x ∷ ys) (r .text)
 
 -- A number that is read is the decimal text of its value.
-pub number-exact : (xs : List ℕ) (f : Found) → readDecimal xs ≡ some f → decimal (f .value) ++ f .rest ≡ xs
-unfolding readDecimal decimalTo digits digitByte
-number-exact [] f e = let z : _≡_ {A = ℕ} 0 1 = cc in absurd (omega arith)
-number-exact (x ∷ xs) f e = go (ltb (digitOf x) 10) refl (eqb (digitOf x) 0) refl
+pub below-exact : (bound : ℕ) → bound ≤ 10 ^ 20 → (xs : List ℕ) (f : Found) → decimalBelow bound xs ≡ some f → decimal (f .value) ++ f .rest ≡ xs
+unfolding decimalBelow decimalTo digits digitByte
+below-exact bound few [] f e = let z : _≡_ {A = ℕ} 0 1 = cc in absurd (omega arith)
+below-exact bound few (x ∷ xs) f e = go (ltb (digitOf x) 10) refl (eqb (digitOf x) 0) refl
   where
     go : (b : Bool) → ltb (digitOf x) 10 ≡ b → (c : Bool) → eqb (digitOf x) 0 ≡ c → decimal (f .value) ++ f .rest ≡ x ∷ xs
-    go false q c r = let n : none ≡ some f = rw (q, readDecimal) at e in let z : _≡_ {A = ℕ} 0 1 = cc in absurd (omega arith)
+    go false q c r = let n : none ≡ some f = rw (q, decimalBelow) at e in let z : _≡_ {A = ℕ} 0 1 = cc in absurd (omega arith)
     go true q true r =
-        let n : some (found 0 xs) ≡ some f = rw (q, r, readDecimal) at e in
+        let n : some (found 0 xs) ≡ some f = rw (q, r, decimalBelow) at e in
         let s : found 0 xs ≡ f = cc in
         let zero-byte : 48 ≡ x = ap digitByte (sym (eqb-true (digitOf x) 0 r)) ∙ byte-back x (omega (arith, ltb-true (digitOf x) 10 q)) in
         ap (λ g. decimal (g .value) ++ g .rest) (sym s) ∙ ap (λ y. y ∷ xs) zero-byte
     go true q false r =
-        let n : below32 (decimalFrom (digitOf x) xs) ≡ some f = rw (q, r, readDecimal) at e in
-        nonzero-exact x xs f (ltb-true (digitOf x) 10 q) (eqb-false (digitOf x) 0 r) n
+        let n : below bound (decimalFrom (digitOf x) xs) ≡ some f = rw (q, r, decimalBelow) at e in
+        nonzero-exact bound few x xs f (ltb-true (digitOf x) 10 q) (eqb-false (digitOf x) 0 r) n
+
+pub number-exact : (xs : List ℕ) (f : Found) → readDecimal xs ≡ some f → decimal (f .value) ++ f .rest ≡ xs
+number-exact = below-exact (2 ^ 32) (omega arith)
 
 -- ---- the bounds of what is read
 
@@ -168,18 +172,21 @@ hex-small k xs f e =
     let one : f .value < 1 * 16 ^ k = div-lt-iff-lt-mul p .0 q in
     omega arith
 
-pub readDecimal-small : (xs : List ℕ) (f : Found) → readDecimal xs ≡ some f → f .value < 2 ^ 32
-unfolding readDecimal
-readDecimal-small [] f e = let z : _≡_ {A = ℕ} 0 1 = cc in absurd (omega arith)
-readDecimal-small (x ∷ xs) f e = go (ltb (digitOf x) 10) refl (eqb (digitOf x) 0) refl
+pub below-small : (bound : ℕ) → 0 < bound → (xs : List ℕ) (f : Found) → decimalBelow bound xs ≡ some f → f .value < bound
+unfolding decimalBelow
+below-small bound p [] f e = let z : _≡_ {A = ℕ} 0 1 = cc in absurd (omega arith)
+below-small bound p (x ∷ xs) f e = go (ltb (digitOf x) 10) refl (eqb (digitOf x) 0) refl
   where
-    go : (b : Bool) → ltb (digitOf x) 10 ≡ b → (c : Bool) → eqb (digitOf x) 0 ≡ c → f .value < 2 ^ 32
-    go false q c r = let n : none ≡ some f = rw (q, readDecimal) at e in let z : _≡_ {A = ℕ} 0 1 = cc in absurd (omega arith)
+    go : (b : Bool) → ltb (digitOf x) 10 ≡ b → (c : Bool) → eqb (digitOf x) 0 ≡ c → f .value < bound
+    go false q c r = let n : none ≡ some f = rw (q, decimalBelow) at e in let z : _≡_ {A = ℕ} 0 1 = cc in absurd (omega arith)
     go true q true r =
-        let n : some (found 0 xs) ≡ some f = rw (q, r, readDecimal) at e in
+        let n : some (found 0 xs) ≡ some f = rw (q, r, decimalBelow) at e in
         let s : found 0 xs ≡ f = cc in
         omega (arith, ap (λ g. g .value) s)
     go true q false r =
-        let n : below32 (decimalFrom (digitOf x) xs) ≡ some f = rw (q, r, readDecimal) at e in
-        let v = below32-value (decimalFrom (digitOf x) xs) f n in
+        let n : below bound (decimalFrom (digitOf x) xs) ≡ some f = rw (q, r, decimalBelow) at e in
+        let v = below-value bound (decimalFrom (digitOf x) xs) f n in
         omega (arith, v .0, ap (λ g. g .value) (v .1))
+
+pub readDecimal-small : (xs : List ℕ) (f : Found) → readDecimal xs ≡ some f → f .value < 2 ^ 32
+readDecimal-small = below-small (2 ^ 32) (omega arith)

@@ -9,7 +9,7 @@ use native.Mathlib.Omega.{arith}
 use lib.ListN.{length}
 use lib.Dec.{leb, ltb, eqb}
 use borrow.Author.Tests.{ltb-true, leb-true, leb-false, eqb-false}
-use Rattle.sheet_digits.specs.Digits.{digitOf, Found, found, hexFrom, decimalFrom, below32, readDecimal}
+use Rattle.sheet_digits.specs.Digits.{digitOf, Found, found, hexFrom, decimalFrom, below, decimalBelow, readDecimal}
 
 pub hex-length : (before k : ℕ) (xs : List ℕ) (f : Found) → hexFrom before k xs ≡ some f → length xs ≡ k + length (f .rest)
 unfolding hexFrom
@@ -42,36 +42,41 @@ decimal-length before (x ∷ xs) = go (ltb (digitOf x) 10) refl (decimal-length 
         })
     go false q g = rw (q, decimalFrom) (record { count = 0; taken = omega arith; large = omega arith })
 
-pub below32-value : (f g : Found) → below32 f ≡ some g → (f .value < 2 ^ 32) × (f ≡ g)
-unfolding below32
-below32-value f g e = go (ltb (f .value) (2 ^ 32)) refl
+pub below-value : (bound : ℕ) (f g : Found) → below bound f ≡ some g → (f .value < bound) × (f ≡ g)
+unfolding below
+below-value bound f g e = go (ltb (f .value) bound) refl
   where
-    go : (b : Bool) → ltb (f .value) (2 ^ 32) ≡ b → (f .value < 2 ^ 32) × (f ≡ g)
-    go true q = let n : some f ≡ some g = rw q at e in (ltb-true (f .value) (2 ^ 32) q, cc)
+    go : (b : Bool) → ltb (f .value) bound ≡ b → (f .value < bound) × (f ≡ g)
+    go true q = let n : some f ≡ some g = rw q at e in (ltb-true (f .value) bound q, cc)
     go false q = let n : none ≡ some g = rw q at e in let z : _≡_ {A = ℕ} 0 1 = cc in absurd (omega arith)
 
--- a value below 2 ^ 32 that has grown from 1 or more has taken nine digits at the most
-grown-few : (before : ℕ) (xs : List ℕ) (f : Found) → Grown before xs f → 0 < before → f .value < 2 ^ 32 → length xs ≤ 9 + length (f .rest)
-grown-few before xs f g p h = go (leb 10 (g .count)) refl
+-- a value below 10 ^ suc k that has grown from 1 or more has taken k digits at the most
+grown-few : (k before : ℕ) (xs : List ℕ) (f : Found) → Grown before xs f → 0 < before → f .value < 10 ^ suc k → length xs ≤ k + length (f .rest)
+grown-few k before xs f g p h = go (leb (suc k) (g .count)) refl
   where
-    go : (b : Bool) → leb 10 (g .count) ≡ b → length xs ≤ 9 + length (f .rest)
+    go : (b : Bool) → leb (suc k) (g .count) ≡ b → length xs ≤ k + length (f .rest)
     go true q =
-        let big : 10 ^ 10 ≤ 10 ^ g .count = pow-le-pow-right (omega arith) (leb-true 10 (g .count) q) in
+        let big : 10 ^ suc k ≤ 10 ^ g .count = pow-le-pow-right (omega arith) (leb-true (suc k) (g .count) q) in
         let more : 1 * 10 ^ g .count ≤ before * 10 ^ g .count = mul-le-mul-right (10 ^ g .count) p in
         omega (arith, g .large)
-    go false q = omega (arith, g .taken, leb-false 10 (g .count) q)
+    go false q = omega (arith, g .taken, leb-false (suc k) (g .count) q)
+
+-- A number below 10 ^ suc k has suc k digits at the most.
+pub below-length : (bound k : ℕ) → bound ≤ 10 ^ suc k → (xs : List ℕ) (f : Found) → decimalBelow bound xs ≡ some f → length xs ≤ suc k + length (f .rest)
+unfolding decimalBelow
+below-length bound k small [] f e = let z : _≡_ {A = ℕ} 0 1 = cc in omega arith
+below-length bound k small (x ∷ xs) f e = go (ltb (digitOf x) 10) refl (eqb (digitOf x) 0) refl
+  where
+    go : (b : Bool) → ltb (digitOf x) 10 ≡ b → (c : Bool) → eqb (digitOf x) 0 ≡ c → suc (length xs) ≤ suc k + length (f .rest)
+    go false q c r = let n : none ≡ some f = rw (q, decimalBelow) at e in let z : _≡_ {A = ℕ} 0 1 = cc in omega arith
+    go true q true r = let n : some (found 0 xs) ≡ some f = rw (q, r, decimalBelow) at e in let s : found 0 xs ≡ f = cc in omega (arith, ap (λ g. length (g .rest)) s)
+    go true q false r =
+        let n : below bound (decimalFrom (digitOf x) xs) ≡ some f = rw (q, r, decimalBelow) at e in
+        let v = below-value bound (decimalFrom (digitOf x) xs) f n in
+        let d : ¬ (digitOf x ≡ 0) = eqb-false (digitOf x) 0 r in
+        let few : length xs ≤ k + length (decimalFrom (digitOf x) xs .rest) =
+        grown-few k (digitOf x) xs (decimalFrom (digitOf x) xs) (decimal-length (digitOf x) xs) (omega arith) (omega (arith, v .0)) in
+        omega (arith, ap (λ g. length (g .rest)) (v .1))
 
 pub number-length : (xs : List ℕ) (f : Found) → readDecimal xs ≡ some f → length xs ≤ 10 + length (f .rest)
-unfolding readDecimal
-number-length [] f e = let z : _≡_ {A = ℕ} 0 1 = cc in omega arith
-number-length (x ∷ xs) f e = go (ltb (digitOf x) 10) refl (eqb (digitOf x) 0) refl
-  where
-    go : (b : Bool) → ltb (digitOf x) 10 ≡ b → (c : Bool) → eqb (digitOf x) 0 ≡ c → suc (length xs) ≤ 10 + length (f .rest)
-    go false q c r = let n : none ≡ some f = rw (q, readDecimal) at e in let z : _≡_ {A = ℕ} 0 1 = cc in omega arith
-    go true q true r = let n : some (found 0 xs) ≡ some f = rw (q, r, readDecimal) at e in let s : found 0 xs ≡ f = cc in omega (arith, ap (λ g. length (g .rest)) s)
-    go true q false r =
-        let n : below32 (decimalFrom (digitOf x) xs) ≡ some f = rw (q, r, readDecimal) at e in
-        let v = below32-value (decimalFrom (digitOf x) xs) f n in
-        let d : ¬ (digitOf x ≡ 0) = eqb-false (digitOf x) 0 r in
-        let few : length xs ≤ 9 + length (decimalFrom (digitOf x) xs .rest) = grown-few (digitOf x) xs (decimalFrom (digitOf x) xs) (decimal-length (digitOf x) xs) (omega arith) (v .0) in
-        omega (arith, ap (λ g. length (g .rest)) (v .1))
+number-length = below-length (2 ^ 32) 9 (omega arith)

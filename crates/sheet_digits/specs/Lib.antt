@@ -4,6 +4,8 @@ pub mod Digits
 pub mod ReadBack
 pub mod Lengths
 pub mod Exact
+pub mod Offsets
+pub mod OffsetLaws
 pub mod Next
 pub mod Evaluation
 pub mod Claims

@@ -28,7 +28,7 @@ use native.Mathlib.Omega.{arith}
 use lib.Dec.{T, leb, ltb, eqb, eqb→eq, leb→le}
 use lib.Ieee.Fits.{and-l, and-r}
 use borrow.Author.Tests.{lt-ltb, le-ltb, ne-eqb, ltb-true, ltb-false}
-use Rattle.sheet_digits.specs.Digits.{digitByte, digitOf, digits, hex, decimalTo, decimal, found, hexFrom, readHex, decimalFrom, below32, readDecimal}
+use Rattle.sheet_digits.specs.Digits.{digitByte, digitOf, digits, hex, decimalTo, decimal, found, hexFrom, readHex, decimalFrom, below, decimalBelow, readDecimal}
 
 -- ---- digits
 
@@ -112,41 +112,44 @@ decimal-back before (suc k) n rest t =
     ∙ decimal-back (before * 10 + n / 10 ^ k % 10) k n rest t
     ∙ ap (λ v. found v rest) (join-digit 10 before k n (omega arith))
 
-pub below32-back : (n : ℕ) (rest : List ℕ) → n < 2 ^ 32 → below32 (found n rest) ≡ some (found n rest)
-unfolding below32
-below32-back n rest h = rw (lt-ltb n (2 ^ 32) h)
+pub below-back : (bound n : ℕ) (rest : List ℕ) → n < bound → below bound (found n rest) ≡ some (found n rest)
+unfolding below
+below-back bound n rest h = rw (lt-ltb n bound h)
 
 -- a number from a digit that isn't 0
-pub readDecimal-more : (d x : ℕ) (xs : List ℕ) → digitOf x ≡ d → d < 10 → 0 < d → readDecimal (x ∷ xs) ≡ below32 (decimalFrom d xs)
-unfolding readDecimal
-readDecimal-more d x xs e h p =
+pub decimalBelow-more : (bound d x : ℕ) (xs : List ℕ) → digitOf x ≡ d → d < 10 → 0 < d → decimalBelow bound (x ∷ xs) ≡ below bound (decimalFrom d xs)
+unfolding decimalBelow
+decimalBelow-more bound d x xs e h p =
     let t : ltb (digitOf x) 10 ≡ true = ap (λ y. ltb y 10) e ∙ lt-ltb d 10 h in
     let z : eqb (digitOf x) 0 ≡ false = ap (λ y. eqb y 0) e ∙ ne-eqb d 0 (λ q. omega arith) in
-    rw (t, z, readDecimal) (ap (λ y. below32 (decimalFrom y xs)) e)
+    rw (t, z, decimalBelow) (ap (λ y. below bound (decimalFrom y xs)) e)
 
 -- a number of suc k digits whose first isn't 0
-pub lead-back : (k n : ℕ) (rest : List ℕ) → 10 ^ k ≤ n → n < 10 * 10 ^ k → n < 2 ^ 32 → T (noDigit rest) → readDecimal (digits 10 (suc k) n ++ rest) ≡ some (found n rest)
+pub lead-back : (bound k n : ℕ) (rest : List ℕ) → 10 ^ k ≤ n → n < 10 * 10 ^ k → n < bound → T (noDigit rest) → decimalBelow bound (digits 10 (suc k) n ++ rest) ≡ some (found n rest)
 unfolding digits
-lead-back k n rest low high h t =
+lead-back bound k n rest low high h t =
     let p : 0 < 10 ^ k = one-le-pow k 10 (omega arith) in
     let small : n / 10 ^ k < 10 = div-lt-iff-lt-mul p .1 high in
     let some-left : 0 < n / 10 ^ k = le-div-iff-mul-le p .1 (omega arith) in
     let d : n / 10 ^ k % 10 ≡ n / 10 ^ k = mod-eq-of-lt small in
-    readDecimal-more (n / 10 ^ k) _ (digits 10 k n ++ rest) (top-digit 10 k n (omega arith) (omega arith) ∙ d) small some-left
-    ∙ ap below32 (decimal-back (n / 10 ^ k) k n rest t ∙ ap (λ v. found v rest) (div-add-mod' n (10 ^ k)))
-    ∙ below32-back n rest h
+    decimalBelow-more bound (n / 10 ^ k) _ (digits 10 k n ++ rest) (top-digit 10 k n (omega arith) (omega arith) ∙ d) small some-left
+    ∙ ap (below bound) (decimal-back (n / 10 ^ k) k n rest t ∙ ap (λ v. found v rest) (div-add-mod' n (10 ^ k)))
+    ∙ below-back bound n rest h
 
-pub decimalTo-back : (k n : ℕ) (rest : List ℕ) → n < 10 ^ suc k → n < 2 ^ 32 → T (noDigit rest) → readDecimal (decimalTo k n ++ rest) ≡ some (found n rest)
-unfolding decimalTo digits readDecimal digitOf digitByte
-decimalTo-back zero zero rest b h t = refl
-decimalTo-back zero (suc n) rest b h t = lead-back 0 (suc n) rest (omega arith) (omega arith) h t
-decimalTo-back (suc k) n rest b h t = go (ltb n (10 ^ suc k)) refl (λ s. decimalTo-back k n rest s h t)
+pub decimalTo-back : (bound k n : ℕ) (rest : List ℕ) → n < 10 ^ suc k → n < bound → T (noDigit rest) → decimalBelow bound (decimalTo k n ++ rest) ≡ some (found n rest)
+unfolding decimalTo digits decimalBelow digitOf digitByte
+decimalTo-back bound zero zero rest b h t = refl
+decimalTo-back bound zero (suc n) rest b h t = lead-back bound 0 (suc n) rest (omega arith) (omega arith) h t
+decimalTo-back bound (suc k) n rest b h t = go (ltb n (10 ^ suc k)) refl (λ s. decimalTo-back bound k n rest s h t)
   where
-    go : (f : Bool) → ltb n (10 ^ suc k) ≡ f → (n < 10 ^ suc k → readDecimal (decimalTo k n ++ rest) ≡ some (found n rest))
-        → readDecimal (decimalTo (suc k) n ++ rest) ≡ some (found n rest)
+    go : (f : Bool) → ltb n (10 ^ suc k) ≡ f → (n < 10 ^ suc k → decimalBelow bound (decimalTo k n ++ rest) ≡ some (found n rest))
+        → decimalBelow bound (decimalTo (suc k) n ++ rest) ≡ some (found n rest)
     go true e back = rw (e, decimalTo) (back (ltb-true n (10 ^ suc k) e))
-    go false e back = rw (e, decimalTo) (lead-back (suc k) n rest (ltb-false n (10 ^ suc k) e) (omega (arith, pow-succ' 10 (suc k))) h t)
+    go false e back = rw (e, decimalTo) (lead-back bound (suc k) n rest (ltb-false n (10 ^ suc k) e) (omega (arith, pow-succ' 10 (suc k))) h t)
 
 -- A number that was printed reads back.
+pub decimalBelow-decimal : (bound n : ℕ) (rest : List ℕ) → bound ≤ 10 ^ 20 → n < bound → T (noDigit rest) → decimalBelow bound (decimal n ++ rest) ≡ some (found n rest)
+decimalBelow-decimal bound n rest few h t = decimalTo-back bound 19 n rest (omega arith) h t
+
 pub readDecimal-decimal : (n : ℕ) (rest : List ℕ) → n < 2 ^ 32 → T (noDigit rest) → readDecimal (decimal n ++ rest) ≡ some (found n rest)
-readDecimal-decimal n rest h t = decimalTo-back 19 n rest (omega arith) h t
+readDecimal-decimal n rest h t = decimalBelow-decimal (2 ^ 32) n rest (omega arith) h t

@@ -12,7 +12,7 @@ use Rattle.sheet_digits.specs.Digits.{Found, found}
 use Rattle.sheet_digits.specs.Next.{next}
 use Rattle.sheet_digit_reading.specs.Given as Digits
 use Rattle.sheet_digit_reading.specs.declared.Taken.{Taken}
-use Rattle.sheet_lines.specs.Forms.{Piece, Word, Bits, Number, afterWord, spaced}
+use Rattle.sheet_lines.specs.Forms.{Piece, Word, Bits, Number, Offset, afterWord, spaced}
 use Rattle.sheet_lines.specs.Pattern.{numbersOf, piece, readByte, readNumber, readPiece}
 use Rattle.sheet_lines.specs.Scan.{Numbers, PieceTaken}
 
@@ -29,9 +29,13 @@ pub piece-short : (c : ℕ) → (c ≡ 35 → ⊥) → (c ≡ 36 → ⊥) → c 
 unfolding piece
 piece-short c m n e = rw (ne-eqb c 35 m, ne-eqb c 36 n, eq-eqb c 42 e)
 
-pub piece-byte : (c : ℕ) → (c ≡ 35 → ⊥) → (c ≡ 36 → ⊥) → (c ≡ 42 → ⊥) → piece c ≡ Word (c ∷ [])
+pub piece-offset : (c : ℕ) → (c ≡ 35 → ⊥) → (c ≡ 36 → ⊥) → (c ≡ 42 → ⊥) → c ≡ 37 → piece c ≡ Offset
 unfolding piece
-piece-byte c m n o = rw (ne-eqb c 35 m, ne-eqb c 36 n, ne-eqb c 42 o)
+piece-offset c m n o e = rw (ne-eqb c 35 m, ne-eqb c 36 n, ne-eqb c 42 o, eq-eqb c 37 e)
+
+pub piece-byte : (c : ℕ) → (c ≡ 35 → ⊥) → (c ≡ 36 → ⊥) → (c ≡ 42 → ⊥) → (c ≡ 37 → ⊥) → piece c ≡ Word (c ∷ [])
+unfolding piece
+piece-byte c m n o q = rw (ne-eqb c 35 m, ne-eqb c 36 n, ne-eqb c 42 o, ne-eqb c 37 q)
 
 pub count-number : (c : ℕ) → c ≡ 35 → Numbers c 1
 unfolding numbersOf
@@ -45,9 +49,13 @@ pub count-short : (c : ℕ) → (c ≡ 35 → ⊥) → (c ≡ 36 → ⊥) → c 
 unfolding numbersOf
 count-short c m n e = record { is = ap numbersOf (sym (piece-short c m n e)); few = omega arith }
 
-pub count-byte : (c : ℕ) → (c ≡ 35 → ⊥) → (c ≡ 36 → ⊥) → (c ≡ 42 → ⊥) → Numbers c 0
+pub count-offset : (c : ℕ) → (c ≡ 35 → ⊥) → (c ≡ 36 → ⊥) → (c ≡ 42 → ⊥) → c ≡ 37 → Numbers c 1
 unfolding numbersOf
-count-byte c m n o = record { is = ap numbersOf (sym (piece-byte c m n o)); few = omega arith }
+count-offset c m n o e = record { is = ap numbersOf (sym (piece-offset c m n o e)); few = omega arith }
+
+pub count-byte : (c : ℕ) → (c ≡ 35 → ⊥) → (c ≡ 36 → ⊥) → (c ≡ 42 → ⊥) → (c ≡ 37 → ⊥) → Numbers c 0
+unfolding numbersOf
+count-byte c m n o q = record { is = ap numbersOf (sym (piece-byte c m n o q)); few = omega arith }
 
 -- ---- what is read
 
@@ -75,10 +83,10 @@ module _ (line : List ℕ) (at p : ℕ) where
       record { is = sym there ∙ ap (readByte p) (sym (next line at 0 h)); within = omega arith }
 
 -- ---- the number that a byte stands for
-pub number-none : (line : List ℕ) (at c : ℕ) (r : Taken) → at ≤ length line → (c ≡ 35 → ⊥) → (c ≡ 36 → ⊥) → (c ≡ 42 → ⊥) → r ≡ record { ok = false; value = 0; next = at }
-    → PieceTaken line (readNumber (piece c) (drop at line)) r
+pub number-none : (line : List ℕ) (at c : ℕ) (r : Taken) → at ≤ length line → (c ≡ 35 → ⊥) → (c ≡ 36 → ⊥) → (c ≡ 42 → ⊥) → (c ≡ 37 → ⊥)
+    → r ≡ record { ok = false; value = 0; next = at } → PieceTaken line (readNumber (piece c) (drop at line)) r
 unfolding readNumber
-number-none line at c r h m n o e = no-piece line (readNumber (piece c) (drop at line)) r at h e (ap (λ (p : Piece). readNumber p (drop at line)) (sym (piece-byte c m n o)))
+number-none line at c r h m n o q e = no-piece line (readNumber (piece c) (drop at line)) r at h e (ap (λ (p : Piece). readNumber p (drop at line)) (sym (piece-byte c m n o q)))
 
 pub number-as : (p : Piece) (line : List ℕ) (at c bound : ℕ) (r : Taken) → piece c ≡ p → Digits.Number line bound (readNumber p (drop at line)) r
     → PieceTaken line (readNumber (piece c) (drop at line)) r
@@ -89,16 +97,17 @@ number-as p line at c bound r e v = record { is = v .is ∙ ap (λ (q : Piece). 
 -- a byte that stands for no number stands for itself
 pub itself : (c n : ℕ) → Numbers c n → n ≡ 0 → piece c ≡ Word (c ∷ [])
 unfolding piece numbersOf
-itself c n v z = go (eqb c 35) refl (eqb c 36) refl (eqb c 42) refl
+itself c n v z = go (eqb c 35) refl (eqb c 36) refl (eqb c 42) refl (eqb c 37) refl
   where
     none-of : numbersOf (piece c) ≡ 0
     none-of = sym (v .is) ∙ z
 
-    go : (a : Bool) → eqb c 35 ≡ a → (b : Bool) → eqb c 36 ≡ b → (d : Bool) → eqb c 42 ≡ d → piece c ≡ Word (c ∷ [])
-    go true p b q d r = absurd (omega (arith, (rw p at none-of)))
-    go false p true q d r = absurd (omega (arith, (rw (p, q) at none-of)))
-    go false p false q true r = absurd (omega (arith, (rw (p, q, r) at none-of)))
-    go false p false q false r = rw (p, q, r)
+    go : (a : Bool) → eqb c 35 ≡ a → (b : Bool) → eqb c 36 ≡ b → (d : Bool) → eqb c 42 ≡ d → (e : Bool) → eqb c 37 ≡ e → piece c ≡ Word (c ∷ [])
+    go true p b q d r e s = absurd (omega (arith, (rw p at none-of)))
+    go false p true q d r e s = absurd (omega (arith, (rw (p, q) at none-of)))
+    go false p false q true r e s = absurd (omega (arith, (rw (p, q, r) at none-of)))
+    go false p false q false r true s = absurd (omega (arith, (rw (p, q, r, s) at none-of)))
+    go false p false q false r false s = rw (p, q, r, s)
 
 pub byte-as : (line : List ℕ) (at c n : ℕ) (r : Taken) → Numbers c n → n ≡ 0 → PieceTaken line (readByte c (drop at line)) r → PieceTaken line (readPiece (piece c) (drop at line)) r
 unfolding readPiece
@@ -119,6 +128,7 @@ unfolding readPiece numbersOf readNumber
 number-piece (Word w) xs n = absurd (n refl)
 number-piece (Bits k) xs n = refl
 number-piece Number xs n = refl
+number-piece Offset xs n = refl
 
 module _ (line : List ℕ) (at c n : ℕ) (space : Taken) (v : Numbers c n) (m : ¬ (n ≡ 0)) (w : PieceTaken line (readByte 32 (drop at line)) space) where
   after : (b : Bool) → space .ok ≡ b

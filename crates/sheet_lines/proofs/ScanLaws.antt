@@ -12,10 +12,11 @@ use lib.Dec.{eqb}
 use lib.ListN.{length, getD, take, drop, set, length-set, drop-of-length-le}
 use lib.Seq.{take-set-le, take-suc-set}
 use Rattle.sheet_digits.specs.Digits.{Found, found, readDecimal, readHex}
+use Rattle.sheet_digits.specs.Offsets.{readOffset}
 use Rattle.sheet_digit_reading.specs.Given as Digits
 use Rattle.sheet_digits.specs.Next.{next}
 use Rattle.sheet_digit_reading.specs.declared.Taken.{Taken}
-use Rattle.sheet_lines.specs.Forms.{Piece, Word, Bits, Number, afterWord, read, spaced}
+use Rattle.sheet_lines.specs.Forms.{Piece, Word, Bits, Number, Offset, afterWord, read, spaced}
 use Rattle.sheet_lines.specs.Counted.{countIn}
 use Rattle.sheet_lines.specs.Pattern.{numbersOf, piece, pieces, readPiece}
 use Rattle.sheet_lines.specs.Scan.{Numbers, PieceTaken, Scanned}
@@ -45,6 +46,7 @@ unfoldable own : Piece → ℕ → List ℕ
 own (Word w) n = []
 own (Bits k) n = n ∷ []
 own Number n = n ∷ []
+own Offset n = n ∷ []
 
 -- one piece and then the rest
 one-then : Piece → Option Found → List Piece → Option (List ℕ)
@@ -70,12 +72,19 @@ read-step Number ps xs = go (spaced readDecimal xs)
         ≡ one-then Number o ps
     go none = refl
     go (some f) = after-one (f .value) (read ps (f .rest))
+read-step Offset ps xs = go (spaced readOffset xs)
+  where
+    go : (o : Option Found) → elim o as (λ x. Option (List ℕ)) [ none ↦ none | some f ↦ elim (read ps (f .rest)) as (λ x. Option (List ℕ)) [ none ↦ none | some ns ↦ some (f .value ∷ ns) ] ]
+        ≡ one-then Offset o ps
+    go none = refl
+    go (some f) = after-one (f .value) (read ps (f .rest))
 
 count-step : (p : Piece) (ps : List Piece) → countIn (p ∷ ps) ≡ numbersOf p + countIn ps
 unfolding countIn numbersOf
 count-step (Word w) ps = omega arith
 count-step (Bits k) ps = omega arith
 count-step Number ps = omega arith
+count-step Offset ps = omega arith
 
 -- the number that was read stands behind those before
 stored : (p : Piece) (N : List ℕ) (count v : ℕ) → count < length N → take (count + numbersOf p) (set N count v) ≡ take count N ++ own p v
@@ -83,6 +92,7 @@ unfolding numbersOf own
 stored (Word w) N count v h = ap (λ (n : ℕ). take n (set N count v)) (add-zero count) ∙ take-set-le count N count v (omega arith) ∙ sym (append-nil (take count N))
 stored (Bits k) N count v h = ap (λ (n : ℕ). take n (set N count v)) (add-one count) ∙ take-suc-set N count v h
 stored Number N count v h = ap (λ (n : ℕ). take n (set N count v)) (add-one count) ∙ take-suc-set N count v h
+stored Offset N count v h = ap (λ (n : ℕ). take n (set N count v)) (add-one count) ∙ take-suc-set N count v h
 
 pub record Scanning (line form F N : List ℕ) (at count i : ℕ) : Type 0 where
   pub long : length N ≡ length F

@@ -8,7 +8,7 @@ use lib.ListN.{length, getD, drop, drop-of-length-le, List·getD-eq-default}
 use Rattle.sheet_digit_writing.specs.Writing.{Wrote}
 use Rattle.sheet_digits.specs.Next.{next}
 use Rattle.sheet_digit_writing.specs.Wrote.{wrote-none, wrote-then}
-use Rattle.sheet_lines.specs.Forms.{Piece, Word, Bits, Number, line, print}
+use Rattle.sheet_lines.specs.Forms.{Piece, Word, Bits, Number, Offset, line, print}
 use Rattle.sheet_lines.specs.Pattern.{numbersOf, piece, pieces, printNumber, printPiece}
 use Rattle.sheet_lines.specs.Scan.{Numbers}
 use Rattle.sheet_lines.proofs.PieceLaws.{itself, piece-byte}
@@ -17,9 +17,9 @@ pub past-end : (xs : List ℕ) (i : ℕ) → length xs ≤ i → 0 ≡ getD xs i
 past-end xs i h = sym (List·getD-eq-default xs 0 h)
 
 -- ---- one piece
-pub put-none : (E : List ℕ) (at c n : ℕ) → at ≤ length E → (c ≡ 35 → ⊥) → (c ≡ 36 → ⊥) → (c ≡ 42 → ⊥) → Wrote E at (printNumber (piece c) n) E at
+pub put-none : (E : List ℕ) (at c n : ℕ) → at ≤ length E → (c ≡ 35 → ⊥) → (c ≡ 36 → ⊥) → (c ≡ 42 → ⊥) → (c ≡ 37 → ⊥) → Wrote E at (printNumber (piece c) n) E at
 unfolding printNumber
-put-none E at c n h m o s = subst (λ (p : Piece). Wrote E at (printNumber p n) E at) (sym (piece-byte c m o s)) (wrote-none E at h)
+put-none E at c n h m o s q = subst (λ (p : Piece). Wrote E at (printNumber p n) E at) (sym (piece-byte c m o s q)) (wrote-none E at h)
 
 pub put-as : (p : Piece) (E : List ℕ) (at c n : ℕ) (W : List ℕ) (r : ℕ) → piece c ≡ p → Wrote E at (printNumber p n) W r → Wrote E at (printNumber (piece c) n) W r
 put-as p E at c n W r e w = subst (λ (q : Piece). Wrote E at (printNumber q n) W r) (sym e) w
@@ -33,6 +33,7 @@ unfolding printPiece numbersOf printNumber
 number-text (Word w) n m = absurd (m refl)
 number-text (Bits k) n m = refl
 number-text Number n m = refl
+number-text Offset n m = refl
 
 pub put-spaced : (E : List ℕ) (at c k n : ℕ) (W : List ℕ) (q : ℕ) (U : List ℕ) (r : ℕ) → Numbers c k → ¬ (k ≡ 0) → Wrote E at (32 ∷ []) W q → Wrote W q (printNumber (piece c) n) U r
     → Wrote E at (printPiece (piece c) n) U r
@@ -45,12 +46,14 @@ unfolding print printPiece numbersOf
 print-step (Word w) ps ns count h = ap (λ (k : ℕ). w ++ print ps (drop k ns)) (sym (add-zero count))
 print-step (Bits k) ps ns count h = ap (print (Bits k ∷ ps)) (next ns count 0 (omega arith))
 print-step Number ps ns count h = ap (print (Number ∷ ps)) (next ns count 0 (omega arith))
+print-step Offset ps ns count h = ap (print (Offset ∷ ps)) (next ns count 0 (omega arith))
 
 print-short : (p : Piece) (ps : List Piece) (ns : List ℕ) (count : ℕ) → count ≤ length ns → length ns - count < numbersOf p → print (p ∷ ps) (drop count ns) ≡ []
 unfolding print numbersOf
 print-short (Word w) ps ns count l h = absurd (omega arith)
 print-short (Bits k) ps ns count l h = let past : length ns ≤ count = omega arith in ap (print (Bits k ∷ ps)) (drop-of-length-le ns past)
 print-short Number ps ns count l h = let past : length ns ≤ count = omega arith in ap (print (Number ∷ ps)) (drop-of-length-le ns past)
+print-short Offset ps ns count l h = let past : length ns ≤ count = omega arith in ap (print (Offset ∷ ps)) (drop-of-length-le ns past)
 
 pub record Formed (E : List ℕ) (at : ℕ) (form numbers W : List ℕ) (place count i : ℕ) : Type 0 where
   pub few : i ≤ length form

@@ -6,7 +6,8 @@ use Prim.Native.Nat.{ℕ, suc}
 use native.Mathlib.Omega.{arith}
 use lib.ListN.{length}
 use Rattle.sheet_digits.specs.Digits.{Found, readHex, readDecimal}
-use Rattle.sheet_lines.specs.Forms.{Piece, Word, Bits, Number, Line, afterWord, spaced, read, form, lineAmong, lineOf}
+use Rattle.sheet_digits.specs.Offsets.{readOffset}
+use Rattle.sheet_lines.specs.Forms.{Piece, Word, Bits, Number, Offset, Line, afterWord, spaced, read, form, lineAmong, lineOf}
 use Rattle.sheet_lines.specs.declared.Kind.{Kind}
 
 -- how many numbers a line of a form has
@@ -15,6 +16,7 @@ countIn [] = 0
 countIn (Word w ∷ ps) = countIn ps
 countIn (Bits k ∷ ps) = suc (countIn ps)
 countIn (Number ∷ ps) = suc (countIn ps)
+countIn (Offset ∷ ps) = suc (countIn ps)
 
 number-then : (o : Option Found) (ps : List Piece) (ns : List ℕ)
     → elim o as (λ x. Option (List ℕ)) [ none ↦ none | some f ↦ elim (read ps (f .rest)) as (λ x. Option (List ℕ)) [ none ↦ none | some ms ↦ some (f .value ∷ ms) ] ] ≡ some ns
@@ -40,6 +42,7 @@ read-count (Word w ∷ ps) xs ns e = go (afterWord w xs) refl (λ rest. read-cou
     go (some rest) q back = back rest (rw (q, read) at e)
 read-count (Bits k ∷ ps) xs ns e = number-then (spaced (readHex k) xs) ps ns e (read-count ps)
 read-count (Number ∷ ps) xs ns e = number-then (spaced readDecimal xs) ps ns e (read-count ps)
+read-count (Offset ∷ ps) xs ns e = number-then (spaced readOffset xs) ps ns e (read-count ps)
 
 among-count : (ks : List Kind) (xs : List ℕ) (l : Line) → lineAmong ks xs ≡ some l → length (l .numbers) ≡ countIn (form (l .kind))
 unfolding lineAmong

@@ -10,8 +10,10 @@ use lib.Ieee.Fits.{and-i}
 use borrow.Author.Tests.{eqb-true}
 use Rattle.sheet_digits.specs.Exact.{readDecimal-small, hex-small, hex-exact, number-exact}
 use Rattle.sheet_digits.specs.Digits.{digits, decimal, Found, readHex, readDecimal}
-use Rattle.sheet_lines.specs.Forms.{Piece, Word, Bits, Number, Line, print, afterWord, spaced, read, form, lineAmong, lineOf}
+use Rattle.sheet_lines.specs.Forms.{Piece, Word, Bits, Number, Offset, Line, print, afterWord, spaced, read, form, lineAmong, lineOf}
 use Rattle.sheet_lines.specs.declared.Kind.{Kind}
+use Rattle.sheet_digits.specs.Offsets.{offset, readOffset}
+use Rattle.sheet_digits.specs.OffsetLaws.{offset-exact, offsetWords}
 use Rattle.sheet_lines.specs.ReadBack.{fits}
 
 -- ---- lines
@@ -69,6 +71,12 @@ print-read (Number ∷ ps) xs ns e =
     ap (print (Number ∷ ps)) (sym (r .4))
     ∙ ap (λ ys. 32 ∷ (decimal (f .value) ++ ys)) (print-read ps (f .rest) (r .1) (r .3))
     ∙ spaced-exact readDecimal (λ g. decimal (g .value) ++ g .rest) number-exact xs f (r .2)
+print-read (Offset ∷ ps) xs ns e =
+    let r = spaced-then (spaced readOffset xs) ps ns e in
+    let f : Found = r .0 in
+    ap (print (Offset ∷ ps)) (sym (r .4))
+    ∙ ap (λ ys. 32 ∷ (offset (f .value) ++ ys)) (print-read ps (f .rest) (r .1) (r .3))
+    ∙ spaced-exact readOffset (λ g. offset (g .value) ++ g .rest) (λ ys g q. offset-exact ys g q .text) xs f (r .2)
 
 -- ---- numbers are not too large
 
@@ -100,6 +108,11 @@ read-fits (Number ∷ ps) xs ns e =
     let r = spaced-then (spaced readDecimal xs) ps ns e in
     subst (λ (ms : List ℕ). T (fits (Number ∷ ps) ms)) (r .4)
     (and-i (ltb (r .0 .value) (2 ^ 32)) (fits ps (r .1)) (lt→ltb (r .0 .value) (2 ^ 32) (spaced-value readDecimal (2 ^ 32) readDecimal-small xs (r .0) (r .2)))
+    (read-fits ps (r .0 .rest) (r .1) (r .3)))
+read-fits (Offset ∷ ps) xs ns e =
+    let r = spaced-then (spaced readOffset xs) ps ns e in
+    subst (λ (ms : List ℕ). T (fits (Offset ∷ ps) ms)) (r .4)
+    (and-i (ltb (r .0 .value) offsetWords) (fits ps (r .1)) (lt→ltb (r .0 .value) offsetWords (spaced-value readOffset offsetWords (λ ys g q. offset-exact ys g q .small) xs (r .0) (r .2)))
     (read-fits ps (r .0 .rest) (r .1) (r .3)))
 
 among-fits : (ks : List Kind) (xs : List ℕ) (l : Line) → lineAmong ks xs ≡ some l → T (fits (form (l .kind)) (l .numbers))

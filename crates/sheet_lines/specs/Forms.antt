@@ -8,12 +8,14 @@ use Rattle.sheet_lines.specs.declared.Kind.{Kind}
 use Rattle.sheet_lines.specs.declared.Kind.the-variants.{Box, Sag, NoDefault, Default, Material, Face, FaceBin, Vertex, Triangle, Fail, FailBin}
 use Rattle.sheet_digits.specs.Bytes.{bytes}
 use Rattle.sheet_digits.specs.Digits.{Found, hex, decimal, readHex, readDecimal}
+use Rattle.sheet_digits.specs.Offsets.{offset, readOffset}
 
--- a piece of a line: bytes that stand as they are; a space and bits of so many hex digits; a space and a decimal number
+-- a piece of a line: bytes that stand as they are; a space and bits of so many hex digits; a space and a decimal number; a space and an offset, which may have a minus
 pub data Piece : Type 0 where
   Word : List ℕ → Piece
   Bits : ℕ → Piece
   Number : Piece
+  Offset : Piece
 
 -- a line of the form, without its LF, for the numbers given
 unfoldable pub print : List Piece → List ℕ → List ℕ
@@ -23,6 +25,8 @@ print (Bits k ∷ ps) [] = []
 print (Bits k ∷ ps) (n ∷ ns) = 32 ∷ (hex k n ++ print ps ns)
 print (Number ∷ ps) [] = []
 print (Number ∷ ps) (n ∷ ns) = 32 ∷ (decimal n ++ print ps ns)
+print (Offset ∷ ps) [] = []
+print (Offset ∷ ps) (n ∷ ns) = 32 ∷ (offset n ++ print ps ns)
 
 -- a line with its LF
 unfoldable pub line : List Piece → List ℕ → List ℕ
@@ -49,6 +53,10 @@ read (Bits k ∷ ps) xs = elim (spaced (readHex k) xs) [
   | some f ↦ elim (read ps (f .rest)) [ none ↦ none | some ns ↦ some (f .value ∷ ns) ]
 ]
 read (Number ∷ ps) xs = elim (spaced readDecimal xs) [
+  | none ↦ none
+  | some f ↦ elim (read ps (f .rest)) [ none ↦ none | some ns ↦ some (f .value ∷ ns) ]
+]
+read (Offset ∷ ps) xs = elim (spaced readOffset xs) [
   | none ↦ none
   | some f ↦ elim (read ps (f .rest)) [ none ↦ none | some ns ↦ some (f .value ∷ ns) ]
 ]

@@ -9,7 +9,9 @@ use lib.ListN.{length}
 use lib.Dec.{eqb}
 use Rattle.sheet_digits.specs.Lengths.{hex-length, number-length}
 use Rattle.sheet_digits.specs.Digits.{Found, readHex, readDecimal}
-use Rattle.sheet_lines.specs.Forms.{Piece, Word, Bits, Number, Line, afterWord, spaced, read, form, numbers, lineAmong, lineOf}
+use Rattle.sheet_digits.specs.Offsets.{readOffset}
+use Rattle.sheet_digits.specs.OffsetLaws.{offset-exact}
+use Rattle.sheet_lines.specs.Forms.{Piece, Word, Bits, Number, Offset, Line, afterWord, spaced, read, form, numbers, lineAmong, lineOf}
 use Rattle.sheet_lines.specs.declared.Kind.{Kind}
 use Rattle.sheet_lines.specs.declared.Kind.the-variants.{Box, Sag, NoDefault, Default, Material, Face, FaceBin, Vertex, Triangle, Fail, FailBin}
 
@@ -23,12 +25,13 @@ word-length (w ∷ ws) (x ∷ xs) rest e = go (eqb w x) refl (word-length ws xs 
     go true q back = omega (arith, back (rw (q, afterWord) at e))
     go false q back = let n : none ≡ some rest = rw (q, afterWord) at e in let z : _≡_ {A = ℕ} 0 1 = cc in omega arith
 
--- the longest line of a form without its LF, a decimal number having so many digits at the most
+-- the longest line of a form without its LF, a decimal number having so many digits at the most, an offset a minus and 20
 abbrev pub longest : ℕ → List Piece → ℕ
 longest most [] = 0
 longest most (Word w ∷ ps) = length w + longest most ps
 longest most (Bits k ∷ ps) = suc k + longest most ps
 longest most (Number ∷ ps) = suc most + longest most ps
+longest most (Offset ∷ ps) = 22 + longest most ps
 
 spaced-length : (f : List ℕ → Option Found) (k : ℕ) → ((xs : List ℕ) (g : Found) → f xs ≡ some g → length xs ≤ k + length (g .rest))
     → (xs : List ℕ) (g : Found) → spaced f xs ≡ some g → length xs ≤ suc k + length (g .rest)
@@ -66,6 +69,9 @@ read-length (Bits k ∷ ps) xs ns e =
 read-length (Number ∷ ps) xs ns e =
     let r = spaced-then (spaced readDecimal xs) ps ns e in
     omega (arith, spaced-length readDecimal 10 number-length xs (r .0) (r .2), read-length ps (r .0 .rest) (r .1) (r .3))
+read-length (Offset ∷ ps) xs ns e =
+    let r = spaced-then (spaced readOffset xs) ps ns e in
+    omega (arith, spaced-length readOffset 14 (λ ys g q. offset-exact ys g q .long) xs (r .0) (r .2), read-length ps (r .0 .rest) (r .1) (r .3))
 
 pub form-length : (k : Kind) → longest 10 (form k) ≤ 107
 unfolding form numbers

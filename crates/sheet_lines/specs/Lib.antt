@@ -5,5 +5,6 @@ pub mod Pattern
 pub mod Scan
 pub mod ReadBack
 pub mod Lengths
+pub mod Printed
 pub mod Exact
 pub mod Evaluation

@@ -1,5 +1,5 @@
--- A form as one text: `#` stands for a space and a decimal number, `*` for a space and 8 digits of hex, `$` for a space and 16, and any other byte
--- for itself. Assumes nothing.
+-- A form as one text: `#` stands for a space and a decimal number, `%` for a space and an offset, `*` for a space and 8 digits of hex, `$` for a space
+-- and 16, and any other byte for itself. Assumes nothing.
 use mathlib.Core.Bool.{Bool, true, false, cond}
 use mathlib.Core.List.{List, [], _∷_, _++_, map}
 use mathlib.Core.Option.{Option, none, some}
@@ -8,13 +8,14 @@ use Prim.Native.Nat.{ℕ}
 use lib.Dec.{eqb}
 use Rattle.sheet_digits.specs.Bytes.{bytes}
 use Rattle.sheet_digits.specs.Digits.{Found, found, hex, decimal, readHex, readDecimal}
+use Rattle.sheet_digits.specs.Offsets.{offset, readOffset}
 use Rattle.sheet_lines.specs.declared.Kind.{Kind}
 use Rattle.sheet_lines.specs.declared.Kind.the-variants.{Box, Sag, NoDefault, Default, Material, Face, FaceBin, Vertex, Triangle, Fail, FailBin}
-use Rattle.sheet_lines.specs.Forms.{Piece, Word, Bits, Number, print, line, afterWord, spaced, read, form, numbers}
+use Rattle.sheet_lines.specs.Forms.{Piece, Word, Bits, Number, Offset, print, line, afterWord, spaced, read, form, numbers}
 
 -- what a byte of such a text stands for
 unfoldable pub piece : ℕ → Piece
-piece c = cond (eqb c 35) Number (cond (eqb c 36) (Bits 16) (cond (eqb c 42) (Bits 8) (Word (c ∷ []))))
+piece c = cond (eqb c 35) Number (cond (eqb c 36) (Bits 16) (cond (eqb c 42) (Bits 8) (cond (eqb c 37) Offset (Word (c ∷ [])))))
 
 -- the pieces of a form
 abbrev pub pieces : List ℕ → List Piece
@@ -49,18 +50,21 @@ unfoldable pub numbersOf : Piece → ℕ
 numbersOf (Word w) = 0
 numbersOf (Bits k) = 1
 numbersOf Number = 1
+numbersOf Offset = 1
 
 -- the text of a piece's number; a word has none
 unfoldable pub printNumber : Piece → ℕ → List ℕ
 printNumber (Word w) n = []
 printNumber (Bits k) n = hex k n
 printNumber Number n = decimal n
+printNumber Offset n = offset n
 
 -- the text of a piece, for the number given
 unfoldable pub printPiece : Piece → ℕ → List ℕ
 printPiece (Word w) n = w
 printPiece (Bits k) n = 32 ∷ hex k n
 printPiece Number n = 32 ∷ decimal n
+printPiece Offset n = 32 ∷ offset n
 
 -- a byte, if the text begins with it
 abbrev pub readByte : ℕ → List ℕ → Option Found
@@ -71,12 +75,14 @@ unfoldable pub readNumber : Piece → List ℕ → Option Found
 readNumber (Word w) xs = none
 readNumber (Bits k) xs = readHex k xs
 readNumber Number xs = readDecimal xs
+readNumber Offset xs = readOffset xs
 
 -- the number of a piece, 0 for a word, and what follows it
 unfoldable pub readPiece : Piece → List ℕ → Option Found
 readPiece (Word w) xs = elim (afterWord w xs) [ none ↦ none | some rest ↦ some (found 0 rest) ]
 readPiece (Bits k) xs = spaced (readHex k) xs
 readPiece Number xs = spaced readDecimal xs
+readPiece Offset xs = spaced readOffset xs
 
 -- ---- a word byte by byte
 
@@ -86,6 +92,7 @@ split [] = []
 split (Word w ∷ ps) = map (λ c. Word (c ∷ [])) w ++ split ps
 split (Bits k ∷ ps) = Bits k ∷ split ps
 split (Number ∷ ps) = Number ∷ split ps
+split (Offset ∷ ps) = Offset ∷ split ps
 
 -- a word's bytes are read as the word is
 read-bytes : (w : List ℕ) (ps : List Piece) (xs : List ℕ) → read (map (λ c. Word (c ∷ [])) w ++ ps) xs ≡ elim (afterWord w xs) [ none ↦ none | some rest ↦ read ps rest ]
@@ -118,6 +125,7 @@ read-split [] xs = refl
 read-split (Word w ∷ ps) xs = read-bytes w (split ps) xs ∙ word-split (afterWord w xs) (split ps) ps (read-split ps)
 read-split (Bits k ∷ ps) xs = number-split (spaced (readHex k) xs) (split ps) ps (read-split ps)
 read-split (Number ∷ ps) xs = number-split (spaced readDecimal xs) (split ps) ps (read-split ps)
+read-split (Offset ∷ ps) xs = number-split (spaced readOffset xs) (split ps) ps (read-split ps)
 
 print-bytes : (w : List ℕ) (ps : List Piece) (ns : List ℕ) → print (map (λ c. Word (c ∷ [])) w ++ ps) ns ≡ w ++ print ps ns
 unfolding print
@@ -132,6 +140,8 @@ print-split (Bits k ∷ ps) [] = refl
 print-split (Bits k ∷ ps) (n ∷ ns) = ap (λ (ys : List ℕ). 32 ∷ (hex k n ++ ys)) (print-split ps ns)
 print-split (Number ∷ ps) [] = refl
 print-split (Number ∷ ps) (n ∷ ns) = ap (λ (ys : List ℕ). 32 ∷ (decimal n ++ ys)) (print-split ps ns)
+print-split (Offset ∷ ps) [] = refl
+print-split (Offset ∷ ps) (n ∷ ns) = ap (λ (ys : List ℕ). 32 ∷ (offset n ++ ys)) (print-split ps ns)
 
 -- A line of a form that a text gives is the form's own line.
 pub line-of-form : (text : List ℕ) (ps : List Piece) (ns : List ℕ) → pieces text ≡ split ps → line (pieces text) ns ≡ line ps ns

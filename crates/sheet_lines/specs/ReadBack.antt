@@ -9,7 +9,8 @@ use lib.Ieee.Fits.{and-l, and-r}
 use borrow.Author.Tests.{eq-eqb}
 use Rattle.sheet_digits.specs.ReadBack.{readHex-hex, readDecimal-decimal, noDigit}
 use Rattle.sheet_digits.specs.Digits.{digitOf}
-use Rattle.sheet_lines.specs.Forms.{Piece, Word, Bits, Number, print, afterWord, spaced, read, form, numbers}
+use Rattle.sheet_digits.specs.OffsetLaws.{offsetWords, readOffset-offset}
+use Rattle.sheet_lines.specs.Forms.{Piece, Word, Bits, Number, Offset, print, afterWord, spaced, read, form, numbers}
 use Rattle.sheet_lines.specs.declared.Kind.{Kind}
 use Rattle.sheet_lines.specs.declared.Kind.the-variants.{Box, Sag, NoDefault, Default, Material, Face, FaceBin, Vertex, Triangle, Fail, FailBin}
 
@@ -27,13 +28,15 @@ opens (Word [] ∷ ps) = false
 opens (Word (w ∷ ws) ∷ ps) = leb 10 (digitOf w)
 opens (Bits k ∷ ps) = true
 opens (Number ∷ ps) = true
+opens (Offset ∷ ps) = true
 
--- whether no digit follows a decimal number
+-- whether no digit follows a decimal number or an offset
 abbrev pub readable : List Piece → Bool
 readable [] = true
 readable (Word w ∷ ps) = readable ps
 readable (Bits k ∷ ps) = readable ps
 readable (Number ∷ ps) = opens ps && readable ps
+readable (Offset ∷ ps) = opens ps && readable ps
 
 -- whether the numbers are as many as the form has and not too large
 abbrev pub fits : List Piece → List ℕ → Bool
@@ -44,6 +47,8 @@ fits (Bits k ∷ ps) [] = false
 fits (Bits k ∷ ps) (n ∷ ns) = ltb n (16 ^ k) && fits ps ns
 fits (Number ∷ ps) [] = false
 fits (Number ∷ ps) (n ∷ ns) = ltb n (2 ^ 32) && fits ps ns
+fits (Offset ∷ ps) [] = false
+fits (Offset ∷ ps) (n ∷ ns) = ltb n offsetWords && fits ps ns
 
 opens-print : (ps : List Piece) (ns : List ℕ) → T (opens ps) → T (fits ps ns) → T (noDigit (print ps ns))
 unfolding print digitOf
@@ -54,6 +59,8 @@ opens-print (Bits k ∷ ps) [] o f = tt
 opens-print (Bits k ∷ ps) (n ∷ ns) o f = tt
 opens-print (Number ∷ ps) [] o f = tt
 opens-print (Number ∷ ps) (n ∷ ns) o f = tt
+opens-print (Offset ∷ ps) [] o f = tt
+opens-print (Offset ∷ ps) (n ∷ ns) o f = tt
 
 -- A line that was printed reads back.
 pub read-print : (ps : List Piece) (ns : List ℕ) → T (readable ps) → T (fits ps ns) → read ps (print ps ns) ≡ some ns
@@ -70,6 +77,11 @@ read-print (Number ∷ ps) (n ∷ ns) r f =
     let h : n < 2 ^ 32 = ltb→lt n (2 ^ 32) (and-l (ltb n (2 ^ 32)) (fits ps ns) f) in
     let g : T (fits ps ns) = and-r (ltb n (2 ^ 32)) (fits ps ns) f in
     rw (readDecimal-decimal n (print ps ns) h (opens-print ps ns (and-l (opens ps) (readable ps) r) g), read-print ps ns (and-r (opens ps) (readable ps) r) g, read)
+read-print (Offset ∷ ps) [] r f = absurd f
+read-print (Offset ∷ ps) (n ∷ ns) r f =
+    let h : n < offsetWords = ltb→lt n offsetWords (and-l (ltb n offsetWords) (fits ps ns) f) in
+    let g : T (fits ps ns) = and-r (ltb n offsetWords) (fits ps ns) f in
+    rw (readOffset-offset n (print ps ns) h (opens-print ps ns (and-l (opens ps) (readable ps) r) g), read-print ps ns (and-r (opens ps) (readable ps) r) g, read)
 
 -- Every form of the sheet reads back.
 pub forms-read-back : (k : Kind) → T (readable (form k))

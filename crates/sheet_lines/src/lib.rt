@@ -1,7 +1,7 @@
 // Lines of text by their forms: a word, then numbers, as the bench sheet and its answer have them.
 //
-// A form is given as a text: `#` stands for a space and a decimal number, `*` for a space and 8 digits of hex, `$` for a space and 16, and any other
-// byte for itself.
+// A form is given as a text: `#` stands for a space and a decimal number, `%` for a space and an offset, which may have a minus, `*` for a space and 8
+// digits of hex, `$` for a space and 16, and any other byte for itself.
 
 mod kinds;
 mod scanning;

@@ -4,6 +4,7 @@ use sheet_digit_reading::Taken;
 use sheet_digit_reading::missing;
 use sheet_digit_reading::read_decimal;
 use sheet_digit_reading::read_hex;
+use sheet_digit_reading::read_offset;
 ghost use Prim.Native.Nat.{_+_, _<_, _≤_};
 ghost use lib.ListN.{length, drop};
 ghost use Rattle.sheet_lines.specs.Counted.{countIn};
@@ -21,6 +22,9 @@ pub fn numbers_of(p: u8) -> usize
         return 1;
     }
     if p == 42 {
+        return 1;
+    }
+    if p == 37 {
         return 1;
     }
     0
@@ -57,6 +61,9 @@ fn number_at(line: &[u8], at: usize, p: u8) -> Taken
     }
     if p == 42 {
         return read_hex(line, at, 8);
+    }
+    if p == 37 {
+        return read_offset(line, at);
     }
     missing(at)
 }

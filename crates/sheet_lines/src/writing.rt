@@ -4,6 +4,7 @@ use crate::scanning::numbers_of;
 use sheet_digit_writing::put_byte;
 use sheet_digit_writing::put_decimal;
 use sheet_digit_writing::put_hex;
+use sheet_digit_writing::put_offset;
 ghost use mathlib.Core.Path.{_≡_};
 ghost use Prim.Native.Nat.{_≤_};
 ghost use lib.ListN.{length, getD};
@@ -24,6 +25,9 @@ fn put_number(out: &mut [u8], at: usize, p: u8, n: u64) -> usize
     }
     if p == 42 {
         return put_hex(out, at, 8, n);
+    }
+    if p == 37 {
+        return put_offset(out, at, n);
     }
     at
 }

@@ -53,6 +53,34 @@ impl Word for u32 {
     }
 }
 
+impl Word for u8 {
+    fn fence(place: usize) -> u8 {
+        0xE0 + place as u8
+    }
+
+    fn changed(self) -> u8 {
+        self ^ 1
+    }
+
+    fn same(a: &[u8], b: &[u8]) -> bool {
+        a == b
+    }
+}
+
+impl Word for i64 {
+    fn fence(place: usize) -> i64 {
+        u64::fence(place) as i64
+    }
+
+    fn changed(self) -> i64 {
+        self ^ 1
+    }
+
+    fn same(a: &[i64], b: &[i64]) -> bool {
+        a == b
+    }
+}
+
 impl Word for u64 {
     fn fence(place: usize) -> u64 {
         0xFE2C_E000_FE2C_E000 + place as u64
@@ -114,6 +142,11 @@ impl<'a, T: Word> Fenced<'a, T> {
             }
         }
         self.all[self.fence..].as_mut_ptr()
+    }
+
+    /// The slice itself, for what stands in a call's place.
+    pub fn lent(&mut self) -> &mut [T] {
+        &mut self.all[self.fence..self.fence + self.former.len()]
     }
 
     fn slice(&self) -> &[T] {

@@ -1,10 +1,11 @@
 //! The library's calls with every slice lent between fences. An error says what a call changed that it may not touch.
 
 use crate::fences::{Fenced, Spoil};
+use crate::plans::wrong;
 use crate::planted;
 use crate::work::Work;
 use cad_ir::math::Aabb;
-use compare::library::{Assembled, Judged, Lone, Measured, Mesh, Setting, Stitched, Turned, raw};
+use compare::library::{Assembled, Judged, Lone, Measured, Mesh, PlanRead, PlanWritten, Setting, Stitched, Turned, raw};
 use driver::flat::Flat;
 
 /// A body turned where it stands.
@@ -112,4 +113,34 @@ pub fn farthest(patch: &Lone, b: &Aabb) -> Result<Measured, String> {
 pub fn escapes(patch: &Lone, b: &Aabb) -> Result<Judged, String> {
     let (a, c) = (b.min, b.max);
     alone("escapes", patch, |p, pn, n, nn, i, ni| unsafe { raw::cad_escapes_body(p, pn, n, nn, i, ni, a.x, a.y, a.z, c.x, c.y, c.z) })
+}
+
+/// A plan's bins written to a list.
+pub fn read_plan(text: &[u8], list: &mut Vec<i64>) -> Result<PlanRead, String> {
+    let former = std::mem::take(list);
+    let (mut t, mut l) = (Fenced::new("bytes of the text", text), Fenced::new("numbers of the list", &former));
+    // Sound: each pointer has as many elements behind it as the length says, in a block of its own.
+    let mut answer = match wrong::planted() {
+        Some(fault) => wrong::reader::read(t.lent(), l.lent(), fault),
+        None => unsafe { raw::cad_read_plan(t.start(), t.len(), l.start(), l.len()) },
+    };
+    planted::spoil("read_plan", &mut answer, &mut [&mut t, &mut l], None);
+    t.kept()?;
+    *list = l.left()?;
+    Ok(answer)
+}
+
+/// A list written as text.
+pub fn write_plan(list: &[i64], out: &mut Vec<u8>) -> Result<PlanWritten, String> {
+    let former = std::mem::take(out);
+    let (mut l, mut o) = (Fenced::new("numbers of the list", list), Fenced::new("bytes of the output", &former));
+    // Sound: each pointer has as many elements behind it as the length says, in a block of its own.
+    let mut answer = match wrong::planted() {
+        Some(fault) => wrong::writer::write(l.lent(), o.lent(), fault),
+        None => unsafe { raw::cad_write_plan(l.start(), l.len(), o.start(), o.len()) },
+    };
+    planted::spoil("write_plan", &mut answer, &mut [&mut l, &mut o], None);
+    l.kept()?;
+    *out = o.left()?;
+    Ok(answer)
 }

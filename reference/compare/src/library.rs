@@ -49,8 +49,22 @@ pub struct Assembled {
     pub closed: u32,
 }
 
+#[repr(C)]
+#[derive(Debug, Clone, Copy, PartialEq, Default)]
+pub struct PlanRead {
+    pub refusal: u32,
+    pub entries: u64,
+}
+
+#[repr(C)]
+#[derive(Debug, Clone, Copy, PartialEq, Default)]
+pub struct PlanWritten {
+    pub refusal: u32,
+    pub length: u64,
+}
+
 pub mod raw {
-    use super::{Assembled, Judged, Measured, ROW, Stitched, Turned};
+    use super::{Assembled, Judged, Measured, PlanRead, PlanWritten, ROW, Stitched, Turned};
 
     #[rustfmt::skip]
     unsafe extern "C" {
@@ -69,6 +83,8 @@ pub mod raw {
         pub fn cad_turn(rows: *const u32, rows_len: usize, p: *const f32, pn: usize, n: *mut f32, nn: usize, i: *mut u32, ni: usize, work: *mut u64, work_len: usize) -> Turned;
         pub fn cad_stitch(rows: *const u32, rows_len: usize, p: *const f32, pn: usize, n: *const f32, nn: usize, i: *const u32, ni: usize, sag: f64, out_rows: *mut u32, out_rows_len: usize, op: *mut f32, opn: usize, on: *mut f32, onn: usize, oi: *mut u32, oin: usize, work: *mut u64, work_len: usize) -> Stitched;
         pub fn cad_assemble(rows: *const u32, rows_len: usize, p: *const f32, pn: usize, n: *const f32, nn: usize, i: *const u32, ni: usize, x0: f64, y0: f64, z0: f64, x1: f64, y1: f64, z1: f64, materials: *const u64, materials_len: usize, default: u64, mp: *mut f32, mpn: usize, mn: *mut f32, mnn: usize, mi: *mut u32, min: usize, parts: *mut u32, parts_len: usize, ranges: *mut u32, ranges_len: usize, failures: *mut u64, failures_len: usize, work: *mut u64, work_len: usize) -> Assembled;
+        pub fn cad_read_plan(text: *const u8, text_len: usize, list: *mut i64, list_len: usize) -> PlanRead;
+        pub fn cad_write_plan(list: *const i64, list_len: usize, out: *mut u8, out_len: usize) -> PlanWritten;
     }
 }
 
@@ -247,4 +263,20 @@ pub fn assemble(body: &Flat, setting: &Setting, mesh: &mut Mesh, work: &mut [u64
             work.len(),
         )
     }
+}
+
+/// How many numbers an entry of a plan's list takes: bin, x, y, z.
+pub const ENTRY: usize = 4;
+
+/// The most bins that a plan places.
+pub const MOST_ENTRIES: usize = 4096;
+
+/// A plan's bins written to the front of a list.
+pub fn read_plan(text: &[u8], list: &mut [i64]) -> PlanRead {
+    unsafe { raw::cad_read_plan(text.as_ptr(), text.len(), list.as_mut_ptr(), list.len()) }
+}
+
+/// A list written as text to the front of a slice.
+pub fn write_plan(list: &[i64], out: &mut [u8]) -> PlanWritten {
+    unsafe { raw::cad_write_plan(list.as_ptr(), list.len(), out.as_mut_ptr(), out.len()) }
 }

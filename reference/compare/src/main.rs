@@ -1,5 +1,5 @@
 //! Holds the proved library against the unchanged Rust on generated bodies: turning, stitching and assembling with their refusals,
-//! each patch alone, and the float steps against the processor's own.
+//! each patch alone, and the float steps against the processor's own. Plans, which the Rust has not, are held to a plain model.
 
 mod assembling;
 mod faces;
@@ -7,6 +7,7 @@ mod faults;
 mod fences;
 mod lent;
 mod patches;
+mod plans;
 mod planted;
 mod refusals;
 mod smallest;
@@ -25,6 +26,7 @@ use driver::generate::{KINDS, Kind, LARGE, SEAMS, body_of, kind};
 use driver::print;
 use driver::random::Random;
 use driver::sheet::{BENCH, Sheet, parse};
+use plans::wrong;
 use planted::{Plant, plant};
 use smallest::smallest;
 use std::ops::RangeInclusive;
@@ -36,6 +38,8 @@ const USAGE: &str = "usage: compare FIRST LAST [SIZE]
        compare --large FIRST LAST [TRIANGLES]
        compare --worst POINTS
        compare --sheets SHEET...
+       compare --plans FIRST LAST
+       compare --plan-program PROGRAM FIRST LAST
        compare --planted FIRST LAST
        compare --without-fences ...
 The bodies of every kind with the seeds FIRST to LAST, small ones and some of a size that goes with the seed, or only those of SIZE
@@ -44,6 +48,9 @@ With --small none of the large bodies and none of those made by hand.
 With --large only bodies of the large kinds, with TRIANGLES triangles, 262144 at most; 100000 if left out.
 With --worst the bodies that ask the most of stitching, one with POINTS loose points on one edge, and the time that this one takes.
 With --sheets only the bodies of these sheets.
+With --plans only plans, which every run has besides: 250 of each seed and a large one, and without --small those at the limits and every text
+that is one byte away from a small plan.
+With --plan-program a program reads the plans at the limits and some of each seed, and must print each one's listing or refusal.
 With --planted faults are planted behind the library's calls, and the seeds FIRST to LAST must find each of them.
 With --without-fences before any of these each lent slice is a block of memory of its own, for a tool that watches memory.";
 
@@ -122,11 +129,55 @@ fn compare_steps(seed: u64, tally: &mut Tally) {
     }
 }
 
+/// What a comparison of plans found, which ends the run where something differs.
+fn held_plans(result: Result<(), String>) {
+    if let Err(what) = result {
+        Tally::end_line();
+        fail(&format!("compare: plans: {what}"));
+    }
+}
+
+/// The plans at the limits and every text one byte away from a small one.
+fn compare_plans_by_hand(tally: &mut Tally) {
+    held_plans(plans::at_the_limits(&mut tally.plans));
+    held_plans(plans::one_byte_away(&mut tally.plans));
+}
+
+fn compare_plans(first: u64, last: u64, tally: &mut Tally) {
+    for seed in first..=last {
+        tally.show("plans", seed);
+        held_plans(plans::compared(seed, &mut tally.plans));
+    }
+}
+
+/// Plans and nothing else.
+fn compare_plans_alone((first, last, _): (u64, u64, Option<usize>), tally: &mut Tally) {
+    compare_plans_by_hand(tally);
+    compare_plans(first, last, tally);
+    Tally::end_line();
+    println!("compare: {}: no difference", tally.plans.said());
+}
+
+/// What a program prints of plans.
+fn compare_plan_program(program: &str, (first, last, _): (u64, u64, Option<usize>)) {
+    match plans::program::compared(program, first, last) {
+        Ok(texts) => println!("compare: {program} answers {texts} plans as the model does"),
+        Err(what) => fail(&format!("compare: {what}")),
+    }
+}
+
 fn compare_worst(points: usize, tally: &mut Tally) {
     match worst::compared(points) {
         Ok(bodies) => tally.worst += bodies,
         Err(what) => fail(&format!("compare: {what}")),
     }
+}
+
+/// The bodies made by hand and nothing else, with the time that the one of so many points takes.
+fn compare_and_time_worst(points: usize, tally: &mut Tally) {
+    compare_worst(points, tally);
+    let (bodies, seconds) = (tally.worst, worst::seconds(points));
+    println!("compare: {bodies} bodies made by hand: no difference; {points} loose points on one edge: {seconds:.2} s");
 }
 
 /// The bodies of every kind that go with seeds.
@@ -142,6 +193,7 @@ fn compare_seeds(first: u64, last: u64, size: Option<usize>, tally: &mut Tally) 
         }
         compare_steps(seed, tally);
     }
+    compare_plans(first, last, tally);
 }
 
 /// The body of a stored sheet, of any size.
@@ -156,6 +208,7 @@ fn compare_sheet(name: &str, tally: &mut Tally) {
 
 /// The bodies of a run without a word.
 fn compare_all(first: u64, last: u64, size: Option<usize>, tally: &mut Tally) {
+    compare_plans_by_hand(tally);
     compare_worst(WORST_POINTS, tally);
     compare_seeds(first, last, size, tally);
     compare_kinds(LARGE, first, MANY_TRIANGLES, tally);
@@ -165,10 +218,33 @@ fn compare_all(first: u64, last: u64, size: Option<usize>, tally: &mut Tally) {
 /// Whether a small body of a seed shows a planted fault.
 fn shows(fault: Plant, seeds: RangeInclusive<u64>, differs: fn(&Sheet, u64) -> bool) -> bool {
     plant(Some(fault));
+    if fault.of_plans() {
+        let found = plans::shows(*seeds.start(), *seeds.end());
+        plant(None);
+        return found;
+    }
     let mut bodies = seeds.flat_map(|seed| KINDS.iter().chain(SEAMS).filter_map(move |kind| Some((body_of(kind, seed, 0)?, seed))));
     let found = bodies.any(|(sheet, seed)| check(&sheet).is_ok() && differs(&sheet, seed));
     plant(None);
     found
+}
+
+/// Let each wrong reader and writer of plans stand in the calls' place, and say how many the comparison finds; one that is right must show nothing.
+fn find_wrong_plans(first: u64, last: u64) -> usize {
+    let shown = |fault: wrong::Fault| {
+        wrong::plant(Some(fault));
+        let found = plans::shows(first, last);
+        wrong::plant(None);
+        found
+    };
+    if shown(wrong::NONE) {
+        fail("compare: a reader and a writer of plans without a fault differ from the model");
+    }
+    let missed: Vec<wrong::Fault> = wrong::all().filter(|fault| !shown(*fault)).collect();
+    if !missed.is_empty() {
+        fail(&format!("compare: planted and not found: {missed:?}"));
+    }
+    wrong::all().count()
 }
 
 /// Plant each fault, and say how many the comparison finds, and the three calls in a row alone of those where a body is finished.
@@ -182,8 +258,10 @@ fn find_planted(first: u64, last: u64) {
     if !missed.is_empty() {
         fail(&format!("compare: planted and not found: {missed:?}"));
     }
+    let wrong = find_wrong_plans(first, last);
     println!(
-        "compare: {} planted faults, all found; {in_a_row} of the {} behind a finished call also by the three calls in a row alone",
+        "compare: {} planted faults, all found; {in_a_row} of the {} behind a finished call also by the three calls in a row alone; \
+         {wrong} wrong readers and writers of plans, all found",
         all.len(),
         chained.len()
     );
@@ -218,14 +296,11 @@ fn main() {
         }
         Some((word, [points])) if word == "--worst" => {
             let Ok(points) = points.parse() else { fail(USAGE) };
-            compare_worst(points, tally);
-            let seconds = worst::seconds(points);
-            return println!(
-                "compare: {} bodies made by hand: no difference; {points} loose points on one edge: {seconds:.2} s",
-                tally.worst
-            );
+            return compare_and_time_worst(points, tally);
         }
         Some((word, names)) if word == "--sheets" && !names.is_empty() => names.iter().for_each(|name| compare_sheet(name, tally)),
+        Some((word, rest)) if word == "--plans" => return compare_plans_alone(numbers(rest, MOST_ROWS), tally),
+        Some((word, [program, rest @ ..])) if word == "--plan-program" => return compare_plan_program(program, numbers(rest, MOST_ROWS)),
         Some((word, rest)) if word == "--planted" => {
             let (first, last, _) = numbers(rest, MOST_ROWS);
             return find_planted(first, last);

@@ -3,7 +3,7 @@
 
 use crate::fences::{Place, Spoil};
 use crate::work::Work;
-use compare::library::{Assembled, FAILURE, Judged, Measured, RANGE, Stitched, Turned};
+use compare::library::{Assembled, FAILURE, Judged, Measured, PlanRead, PlanWritten, RANGE, Stitched, Turned};
 use driver::flat::ROW;
 use std::cell::Cell;
 
@@ -48,14 +48,23 @@ pub struct Plant {
     pub what: What,
 }
 
+impl Plant {
+    /// Whether it lies behind a call that reads or writes plans.
+    pub fn of_plans(&self) -> bool {
+        self.call.ends_with("_plan")
+    }
+}
+
 /// The calls, with how many fields their answers and how many slices besides the work area they have, and whether they have one.
-const CALLS: [(&str, usize, usize, bool); 6] = [
+const CALLS: [(&str, usize, usize, bool); 8] = [
     ("turn", 3, 4, true),
     ("stitch", 4, 8, true),
     ("assemble", 10, 11, true),
     ("volume", 2, 3, false),
     ("farthest", 2, 3, false),
     ("escapes", 2, 3, false),
+    ("read_plan", 2, 2, false),
+    ("write_plan", 2, 2, false),
 ];
 
 thread_local! {
@@ -117,6 +126,8 @@ raised!(Stitched, |_, _, rows| rows; refusal + 1, vertices + 1, indices + 1, spl
 raised!(Assembled, |answer, k, _| if k == 9 { answer.ranges as usize } else { answer.failures as usize }; refusal + 1, vertices + 1, indices + 1, parts + 1, ranges + 1, failures + 1, edges + 1, opens + 1, overs + 1, closed + 1);
 raised!(Measured, |_, _, _| 0; refusal + 1, value + 1.0);
 raised!(Judged, |_, _, _| 0; refusal + 1, verdict + 1);
+raised!(PlanRead, |_, _, _| 0; refusal + 1, entries + 1);
+raised!(PlanWritten, |_, _, _| 0; refusal + 1, length + 1);
 
 /// Change what the planted fault changes, if it is one of this call.
 pub fn spoil(call: &str, answer: &mut dyn Answer, slices: &mut [&mut dyn Spoil], work: Option<&mut Work>) {

@@ -1,6 +1,7 @@
 //! What has been compared so far.
 
 use crate::assembling;
+use crate::plans;
 use crate::stitching::Held;
 use driver::sheet::Sheet;
 use std::io::IsTerminal;
@@ -31,6 +32,7 @@ pub struct Tally {
     assembled: assembling::Tally,
     /// Bodies made by hand.
     pub worst: u64,
+    pub plans: plans::Tally,
     shown: Option<Instant>,
 }
 
@@ -61,7 +63,8 @@ impl Tally {
         if shown.elapsed() > pause {
             self.shown = Some(Instant::now());
             let (start, end) = if terminal { ("\r\x1b[K", "") } else { ("", "\n") };
-            eprint!("{start}compare: {} bodies, {} refusals, now {kind} of seed {seed}{end}", self.bodies, self.refusals);
+            let plans = self.plans.plans;
+            eprint!("{start}compare: {} bodies, {} refusals, {plans} plans, now {kind} of seed {seed}{end}", self.bodies, self.refusals);
         }
     }
 
@@ -75,9 +78,10 @@ impl Tally {
     pub fn said(&self) -> String {
         let Tally { bodies, rows, refusals, steps, triangles, stitched, split, splits, open, outside, worst, .. } = self;
         let assembled = self.assembled.said();
+        let plans = if self.plans.read == 0 { String::new() } else { format!("; {}", self.plans.said()) };
         format!(
             "{worst} bodies made by hand, {bodies} of up to {triangles} triangles, {rows} rows; {stitched} stitched with their own sag, {split} of them split, \
-             {splits} splits ({outside} more outside the condition, {open} too open); {assembled}; {refusals} refusals, {steps} float steps"
+             {splits} splits ({outside} more outside the condition, {open} too open); {assembled}; {refusals} refusals, {steps} float steps{plans}"
         )
     }
 }

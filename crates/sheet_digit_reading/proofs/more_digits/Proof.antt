@@ -1,16 +1,16 @@
 -- `more_digits` meets its contract. Assumes nothing.
 use Prim.Native.Nat.{_-_}
 use lib.ListN.{length}
-use Rattle.sheet_digit_reading.proofs.ReadLaws.{Tens, tens-none, tens-stop, tens-more, tens-large, tens-all}
+use Rattle.sheet_digit_reading.proofs.ReadLaws.{Tens, tens-none, tens-room, tens-stop, tens-more, tens-large, tens-all}
 use borrow.Author.Needs.{needs}
 use Rattle.sheet_digit_reading.proofs.more_digits.Statement.{statement}
 use Rattle.sheet_digit_reading.proofs.more_digits.Tie as tie
 
 abbrev Inv-loop : tie.InvT-loop
-Inv-loop text at before value₀ i₀ value i = Tens text at before value i
+Inv-loop text at before most value₀ i₀ value i = Tens text at before most value i
 
 abbrev μ-loop : tie.MeasureT-loop
-μ-loop text at before value₀ i₀ value i = length text - i
+μ-loop text at before most value₀ i₀ value i = length text - i
 
 loop-holds : tie.Need-loop-holds Inv-loop μ-loop
 loop-holds c = search (needs, tens-none)
@@ -25,10 +25,10 @@ returns : tie.Need-returns Inv-loop μ-loop
 returns c = search (needs, tens-stop)
 
 mul-value : tie.Need-mul-value Inv-loop μ-loop
-mul-value c = search needs
+mul-value c = search (needs, tens-room)
 
 add-value : tie.Need-add-value Inv-loop μ-loop
-add-value c = search needs
+add-value c = search (needs, tens-room)
 
 missing-requires : tie.Need-missing-requires Inv-loop μ-loop
 missing-requires c κs = search needs

@@ -1,7 +1,7 @@
 -- `number_at` meets its contract. Assumes nothing.
-use Rattle.sheet_lines.specs.Forms.{Bits, Number}
+use Rattle.sheet_lines.specs.Forms.{Bits, Number, Offset}
 use Rattle.sheet_lines.specs.Pattern.{readNumber}
-use Rattle.sheet_lines.proofs.PieceLaws.{number-as, number-none, piece-long, piece-number, piece-short}
+use Rattle.sheet_lines.proofs.PieceLaws.{number-as, number-none, piece-long, piece-number, piece-offset, piece-short}
 use borrow.Author.Needs.{needs}
 use Rattle.sheet_lines.proofs.scanning.number_at.Statement.{statement}
 use Rattle.sheet_lines.proofs.scanning.number_at.Tie as tie
@@ -27,12 +27,19 @@ returns-3 : tie.Need-returns-3
 unfolding readNumber
 returns-3 c = search (needs, number-as (Bits 8), piece-short)
 
-missing-requires : tie.Need-missing-requires
-missing-requires c κs = search needs
+read-offset-requires : tie.Need-read-offset-requires
+read-offset-requires c κs = search needs
 
 returns-4 : tie.Need-returns-4
 unfolding readNumber
-returns-4 c = search (needs, number-none)
+returns-4 c = search (needs, number-as Offset, piece-offset)
+
+missing-requires : tie.Need-missing-requires
+missing-requires c κs = search needs
+
+returns-5 : tie.Need-returns-5
+unfolding readNumber
+returns-5 c = search (needs, number-none)
 
 pub number-at-spec : {M : Type 1} → statement M
 number-at-spec =
@@ -44,5 +51,7 @@ number-at-spec =
     returns-2
     read-hex-requires-2
     returns-3
+    read-offset-requires
+    returns-4
     missing-requires
-    returns-4)
+    returns-5)

@@ -1,7 +1,7 @@
 -- `put_number` meets its contract. Assumes nothing.
-use Rattle.sheet_lines.specs.Forms.{Bits, Number}
+use Rattle.sheet_lines.specs.Forms.{Bits, Number, Offset}
 use Rattle.sheet_lines.specs.Pattern.{printNumber}
-use Rattle.sheet_lines.proofs.PieceLaws.{piece-long, piece-number, piece-short}
+use Rattle.sheet_lines.proofs.PieceLaws.{piece-long, piece-number, piece-offset, piece-short}
 use Rattle.sheet_lines.proofs.WriteLaws.{put-as, put-none}
 use borrow.Author.Needs.{needs}
 use Rattle.sheet_lines.proofs.writing.put_number.Statement.{statement}
@@ -37,9 +37,19 @@ returns-3 : tie.Need-returns-3
 unfolding printNumber
 returns-3 c = search (needs, put-as (Bits 8), piece-short)
 
+put-offset-requires : tie.Need-put-offset-requires
+put-offset-requires c κs = search needs
+
+same-length-4 : tie.Need-same-length-4
+same-length-4 c = search needs
+
 returns-4 : tie.Need-returns-4
 unfolding printNumber
-returns-4 c = search (needs, put-none)
+returns-4 c = search (needs, put-as Offset, piece-offset)
+
+returns-5 : tie.Need-returns-5
+unfolding printNumber
+returns-5 c = search (needs, put-none)
 
 pub put-number-spec : {M : Type 1} → statement M
 put-number-spec =
@@ -54,4 +64,7 @@ put-number-spec =
     put-hex-requires-2
     same-length-3
     returns-3
-    returns-4)
+    put-offset-requires
+    same-length-4
+    returns-4
+    returns-5)

@@ -1,8 +1,8 @@
--- `read_decimal` meets its contract. Assumes nothing.
+-- `read_below` meets its contract. Assumes nothing.
 use Rattle.sheet_digit_reading.proofs.ReadLaws.{number-end, number-other, number-zero, number-more}
 use borrow.Author.Needs.{needs}
-use Rattle.sheet_digit_reading.proofs.read_decimal.Statement.{statement}
-use Rattle.sheet_digit_reading.proofs.read_decimal.Tie as tie
+use Rattle.sheet_digit_reading.proofs.read_below.Statement.{statement}
+use Rattle.sheet_digit_reading.proofs.read_below.Tie as tie
 
 missing-requires : tie.Need-missing-requires
 missing-requires c κs = search needs
@@ -22,8 +22,8 @@ missing-requires-2 c κs = search needs
 returns-2 : tie.Need-returns-2
 returns-2 c = search (needs, number-other)
 
-add-t8 : tie.Need-add-t8
-add-t8 c = search needs
+add-t9 : tie.Need-add-t9
+add-t9 c = search needs
 
 returns-3 : tie.Need-returns-3
 returns-3 c = search (needs, number-zero)
@@ -37,8 +37,8 @@ more-digits-requires c κs = search needs
 returns-4 : tie.Need-returns-4
 returns-4 c = search (needs, number-more)
 
-pub read-decimal-spec : {M : Type 1} → statement M
-read-decimal-spec =
+pub read-below-spec : {M : Type 1} → statement M
+read-below-spec =
     tie.close
     (tie.spec
     missing-requires
@@ -47,7 +47,7 @@ read-decimal-spec =
     digit-requires
     missing-requires-2
     returns-2
-    add-t8
+    add-t9
     returns-3
     add-more-digits
     more-digits-requires
