@@ -1,10 +1,12 @@
 //! Holds the proved library against the unchanged Rust on generated bodies: turning, stitching and assembling with their refusals,
-//! each patch alone, and the float steps against the processor's own. Plans, which the Rust has not, are held to a plain model.
+//! each patch alone, keys and cells of points, and the float steps against the processor's own. Plans, which the Rust has not, are held
+//! to a plain model.
 
 mod assembling;
 mod faces;
 mod faults;
 mod fences;
+mod keys;
 mod lent;
 mod patches;
 mod plans;
@@ -118,14 +120,16 @@ fn compare_kinds(kinds: &[Kind], seed: u64, size: usize, tally: &mut Tally) {
     }
 }
 
+/// Float steps, and keys of points.
 fn compare_steps(seed: u64, tally: &mut Tally) {
     let r = &mut Random::new(!seed);
     for _ in 0..STEPS_A_SEED {
-        if let Some(what) = steps::differ(r) {
+        if let Some(what) = steps::differ(r).or_else(|| keys::differ(r)) {
             Tally::end_line();
             fail(&format!("compare: {what}"));
         }
         tally.steps += 5;
+        tally.keys += 1;
     }
 }
 
