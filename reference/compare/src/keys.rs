@@ -25,9 +25,19 @@ fn coordinate(r: &mut Random) -> f32 {
     }
 }
 
-/// A point whose key, or a cell of it, isn't the source's, if it isn't.
-pub fn differ(r: &mut Random) -> Option<String> {
-    let p = [coordinate(r), coordinate(r), coordinate(r)];
+/// What differs where the key of a point, or a cell of it, isn't the source's.
+fn differing(p: [f32; 3]) -> Option<String> {
     let same = library::key(p) == source::key(&p) && p.iter().all(|v| library::cell(*v) == source::cell(*v));
     (!same).then(|| format!("key or cell of {p:?}"))
+}
+
+/// What differs of one point, if anything does.
+pub fn differ(r: &mut Random) -> Option<String> {
+    differing([coordinate(r), coordinate(r), coordinate(r)])
+}
+
+/// What differs of 2^32 points, in which each coordinate is every f32 once, each in an order of its own.
+pub fn differ_anywhere() -> Option<String> {
+    let point = |n: u32| [n, n.wrapping_mul(0x9E37_79B1), !n.wrapping_mul(0x85EB_CA77)].map(f32::from_bits);
+    (0..=u32::MAX).find_map(|n| differing(point(n)))
 }
