@@ -1,10 +1,12 @@
 //! Holds the proved library against the unchanged Rust on generated bodies: turning, stitching and assembling with their refusals,
-//! each patch alone, and the float steps against the processor's own. Plans, which the Rust has not, are held to a plain model.
+//! each patch alone, keys and cells of points, and the float steps against the processor's own. Plans, which the Rust has not, are held
+//! to a plain model.
 
 mod assembling;
 mod faces;
 mod faults;
 mod fences;
+mod keys;
 mod lent;
 mod patches;
 mod plans;
@@ -41,6 +43,7 @@ const USAGE: &str = "usage: compare FIRST LAST [SIZE]
        compare --plans FIRST LAST
        compare --plan-program PROGRAM FIRST LAST
        compare --planted FIRST LAST
+       compare --keys
        compare --without-fences ...
 The bodies of every kind with the seeds FIRST to LAST, small ones and some of a size that goes with the seed, or only those of SIZE
 pieces on each shape, 4096 at most. In the end, one body of every large kind with 100000 triangles and one at every limit.
@@ -52,6 +55,7 @@ With --plans only plans, which every run has besides: 250 of each seed and a lar
 that is one byte away from a small plan.
 With --plan-program a program reads the plans at the limits and some of each seed, and must print each one's listing or refusal.
 With --planted faults are planted behind the library's calls, and the seeds FIRST to LAST must find each of them.
+With --keys the keys and cells of 2^32 points in which each coordinate is every f32 once, in some minutes.
 With --without-fences before any of these each lent slice is a block of memory of its own, for a tool that watches memory.";
 
 /// Pieces on each shape, one of these for each seed besides the small body.
@@ -118,14 +122,16 @@ fn compare_kinds(kinds: &[Kind], seed: u64, size: usize, tally: &mut Tally) {
     }
 }
 
+/// Float steps, and keys of points.
 fn compare_steps(seed: u64, tally: &mut Tally) {
     let r = &mut Random::new(!seed);
     for _ in 0..STEPS_A_SEED {
-        if let Some(what) = steps::differ(r) {
+        if let Some(what) = steps::differ(r).or_else(|| keys::differ(r)) {
             Tally::end_line();
             fail(&format!("compare: {what}"));
         }
         tally.steps += 5;
+        tally.keys += 1;
     }
 }
 
@@ -267,6 +273,14 @@ fn find_planted(first: u64, last: u64) {
     );
 }
 
+/// The keys of points in which each coordinate is every f32.
+fn compare_keys() {
+    match keys::differ_anywhere() {
+        Some(what) => fail(&format!("compare: {what}")),
+        None => println!("compare: the keys of 2^32 points, and their cells: no difference"),
+    }
+}
+
 /// The first and the last seed and a size that is not above a limit.
 fn numbers(words: &[String], most: usize) -> (u64, u64, Option<usize>) {
     let numbers: Option<Vec<u64>> = words.iter().map(|w| w.parse().ok()).collect();
@@ -305,6 +319,7 @@ fn main() {
             let (first, last, _) = numbers(rest, MOST_ROWS);
             return find_planted(first, last);
         }
+        Some((word, [])) if word == "--keys" => return compare_keys(),
         _ => {
             let (first, last, size) = numbers(&words, MOST_ROWS);
             compare_all(first, last, size, tally);

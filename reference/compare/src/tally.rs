@@ -21,6 +21,7 @@ pub struct Tally {
     rows: u64,
     refusals: u64,
     pub steps: u64,
+    pub keys: u64,
     triangles: usize,
     /// Bodies stitched with their own sag, those of them that split, and the splits.
     stitched: u64,
@@ -76,12 +77,12 @@ impl Tally {
 
     /// All counts in one line.
     pub fn said(&self) -> String {
-        let Tally { bodies, rows, refusals, steps, triangles, stitched, split, splits, open, outside, worst, .. } = self;
+        let Tally { bodies, rows, refusals, steps, keys, triangles, stitched, split, splits, open, outside, worst, .. } = self;
         let assembled = self.assembled.said();
         let plans = if self.plans.read == 0 { String::new() } else { format!("; {}", self.plans.said()) };
         format!(
             "{worst} bodies made by hand, {bodies} of up to {triangles} triangles, {rows} rows; {stitched} stitched with their own sag, {split} of them split, \
-             {splits} splits ({outside} more outside the condition, {open} too open); {assembled}; {refusals} refusals, {steps} float steps{plans}"
+             {splits} splits ({outside} more outside the condition, {open} too open); {assembled}; {refusals} refusals, {steps} float steps, {keys} keys{plans}"
         )
     }
 }
