@@ -8,12 +8,7 @@ ghost use Rattle.body_refusals.specs.BodyChecks.{beforeWork, bodyChecks};
 ghost use Rattle.body_rows.specs.Body.{firstFailing};
 
 // The number of the first of the checks 11 to 23 that fails, or 0.
-pub fn failing_before_work(
-    rows: &[u32],
-    positions: &[f32],
-    normals: &[f32],
-    indices: &[u32],
-) -> u32
+pub fn failing_before_work(rows: &[u32], positions: &[f32], normals: &[f32], indices: &[u32]) -> u32
     ensures { λ r. ⌜ r ≡ firstFailing (beforeWork (now (rows .entry)) (now (positions .entry)) (now (normals .entry)) (now (indices .entry))) ⌝ }
 {
     let t = table_failing(rows, positions, normals, indices);

@@ -1,9 +1,9 @@
-// The cell of a coordinate, from the bits of its f32.
+// The cell of a coordinate, and the whole number nearest a multiple of it, from the bits of its f32.
 ghost use mathlib.Core.Path.{_≡_};
-ghost use Prim.Native.Nat.{_^_, _<_, min};
+ghost use Prim.Native.Nat.{_^_, _≤_, _<_, min};
 ghost use Rattle.float_round.specs.Integral.{halfUp};
 ghost use Rattle.point_rules.specs.Points as Points;
-ghost use Rattle.point_cell.specs.Scale.{Scale};
+ghost use Rattle.point_cell.specs.Scale.{NearestWord, Scale};
 use float_steps::bits_of_f32;
 
 // How many cells a unit of length has.
@@ -32,7 +32,7 @@ fn half_up(q: u64) -> u64
 
 // How far the whole number nearest factor × v is from zero, or the most that is asked for: the 24 digits of v times the factor are below 2^44, so that one shift
 // rounds them, a half up.
-pub fn nearest_size(v: f32, factor: u64, most: u64) -> u64
+fn nearest_size(v: f32, factor: u64, most: u64) -> u64
     requires { ⌜ Scale factor most ⌝ }
     ensures { λ r. ⌜ r ≡ min (Points.nearestSize factor v) most ⌝ }
 {
@@ -55,6 +55,20 @@ pub fn nearest_size(v: f32, factor: u64, most: u64) -> u64
         }
     }
     most
+}
+
+// The word of the whole number nearest factor × v: `middle` more, so that it isn't negative, and no farther from it than it is from zero.
+pub fn nearest_word(v: f32, factor: u64, middle: u64) -> u64
+    requires { ⌜ Scale factor middle ⌝ }
+    requires { ⌜ middle ≤ 2 ^ 62 ⌝ }
+    ensures { λ r. ⌜ NearestWord factor middle v r ⌝ }
+{
+    let n = nearest_size(v, factor, middle);
+    if bits_of_f32(v) < 2147483648 {
+        middle + n
+    } else {
+        middle - n
+    }
 }
 
 // How far the cell is from zero, before the sign decides the clamp.
