@@ -2,5 +2,6 @@
 pub mod Peg
 pub mod Answers
 pub mod Nearest
+pub mod PlaceLaws
 pub mod Evaluation
 pub mod Claims

@@ -144,7 +144,7 @@ least-of h (x ∷ hs) = step h (x ∷ hs) (least-of x hs)
 
 module _ (hits : List Hit) where
   -- a hit that no other is below wins, so that its bin is listed
-  listed : (h : Hit) → Among h hits → ((g : Hit) → Among g hits → h .square ≤ g .square) → Has (h .bin) (nearestBins hits)
+  pub listed : (h : Hit) → Among h hits → ((g : Hit) → Among g hits → h .square ≤ g .square) → Has (h .bin) (nearestBins hits)
   unfolding nearestBins winners
   listed h m l =
       has-ascending (h .bin) (map (λ h. h .bin) (winners hits)) (hit-bin (winners hits) h (passes-filter (λ h. all (λ g. leb (h .square) (g .square)) hits) hits h m (least-all h hits l)))
