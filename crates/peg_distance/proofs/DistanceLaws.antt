@@ -23,8 +23,8 @@ use Rattle.peg_distance.specs.declared.target.Target.{Target}
 -- ---- a coordinate
 
 -- one shift rounds it
-pub peg-scale : Scale micrometres middle
-peg-scale = record { few = lit≤ tt; low = lit≤ tt; top = lit≤ tt }
+pub peg-scale : (factor : ℕ) → 1 ≤ factor → factor ≤ 1000000 → Scale factor middle
+peg-scale factor l h = record { few = h; low = lit≤ tt; top = omega arith }
 
 -- what stands for a distance is the distance, or both are beyond the reach
 told-same : (p a : ℕ) → p ≡ a → min p (suc reach) ≡ min a (suc reach)
