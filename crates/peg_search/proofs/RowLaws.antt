@@ -1,5 +1,6 @@
 -- The laws of a placed body's rows: where each stands, and the vertices of the first k. Assumes nothing.
 use mathlib.Core.Path.{_≡_, refl, sym, ap, _∙_, subst}
+use mathlib.Core.Logic.{_⊎_, inl, inr}
 use mathlib.Core.Bool.{Bool, true, false, _&&_, cond}
 use mathlib.Core.List.{List, [], _∷_, _++_, append-assoc, append-nil}
 use Prim.Native.Nat.{ℕ, zero, suc, _+_, _-_, _*_, _≤_, _<_, min}
@@ -24,8 +25,8 @@ use Rattle.peg_definition.specs.Peg.{Hit, apart, hitsOf, micrometres, near, pla
 use Rattle.peg_distance.specs.Words.{Aimed, AxisAim, RowAim, RowRange, apartFrom, beyond, leastTo, middle, squareTo}
 use Rattle.peg_distance.specs.declared.target.PegWords.{PegWords}
 use Rattle.peg_distance.specs.declared.target.Target.{Target}
-use Rattle.peg_search.specs.Hits.{leastOf, least-append, least-most, row-least-bin}
-use Rattle.peg_search.specs.Search.{Placed, bodyHits, pegOf}
+use Rattle.peg_search.specs.Hits.{Ties, leastOf, least-append, least-most, row-bin, row-least-bin, ties-either, ties-left}
+use Rattle.peg_search.specs.Search.{Placed, RowThere, bodyHits, pegOf}
 
 -- ---- a row's vertices, by the peg less its place
 
@@ -123,6 +124,13 @@ module _ (table : List ℕ) (ps : List Float) (list : List ℤ) (peg : PegWords)
       ∙ least-append (front k) (hitsOf (pegOf peg) (drop k patches) (drop (length (take k patches)) (placesOf list))) in
       omega arith
 
+  -- what those of the first k have, all have
+  pub front-ties : (s b k : ℕ) → Ties s b (front k) → Ties s b (bodyHits table ps list peg)
+  front-ties s b k t =
+      subst (Ties s b)
+      (sym (ap (λ (l : List Patch). hitsOf (pegOf peg) l (placesOf list)) (sym (take-append-drop k patches)) ∙ hits-append (pegOf peg) (take k patches) (drop k patches) (placesOf list)))
+      (ties-left s b (front k) (hitsOf (pegOf peg) (drop k patches) (drop (length (take k patches)) (placesOf list))) t)
+
   module _ (p : Placed table ps list peg) (k : ℕ) (h : k < length (rowsOf table)) where
     place-there : 3 * k + 2 < length list
     place-there = omega (arith, p .places)
@@ -189,6 +197,9 @@ module _ (table : List ℕ) (ps : List Float) (list : List ℤ) (peg : PegWords)
     pub end-there : from + 3 * v ≤ length ps
     end-there = omega (arith, row-few, p .positions, at .begins)
 
+    pub whole-row : RowThere table ps list peg k from (from + 3 * v)
+    whole-row = record { row = row-there; order = omega arith; inside = end-there; range = row-range table ps list peg p k row-there }
+
     pub at-next : AtRow table n (k + 1) (from + 3 * v)
     at-next = record { all = at .all; low = omega arith; begins = omega (arith, at .begins, e, vertices-next table k row-there) }
 
@@ -201,3 +212,24 @@ module _ (table : List ℕ) (ps : List Float) (list : List ℤ) (peg : PegWords)
       where
         span : from + 3 * v - from ≡ 3 * rowAt table k .vertices
         span = omega (arith, e)
+
+-- ---- the bins of the vertices
+
+-- each vertex is of a row, and has its bin
+pub record OfRow (table : List ℕ) (b : ℕ) : Type 0 where
+  pub row : ℕ
+  pub there : row < length (rowsOf table)
+  pub is : rowAt table row .bin ≡ b
+
+pub ties-row : (table : List ℕ) (ps : List Float) (list : List ℤ) (peg : PegWords) → Placed table ps list peg → (s b : ℕ) → Ties s b (bodyHits table ps list peg) → OfRow table b
+ties-row table ps list peg p s b t = upto (length (rowsOf table)) (omega arith) (subst (Ties s b) (sym (front-all table ps list peg (length (rowsOf table)) (omega arith))) t)
+  where
+    upto : (k : ℕ) → k ≤ length (rowsOf table) → Ties s b (front table ps list peg k) → OfRow table b
+    upto zero l u = absurd (subst (Ties s b) (front-none table ps list peg) u)
+    upto (suc k) l u =
+        go (ties-either s b (front table ps list peg k) (rowOf table ps list peg k)
+        (subst (Ties s b) (front-more table ps list peg p k l) (subst (λ (n : ℕ). Ties s b (front table ps list peg n)) (sym (add-one k)) u))) (λ v. upto k (omega arith) v)
+      where
+        go : Ties s b (front table ps list peg k) ⊎ Ties s b (rowOf table ps list peg k) → (Ties s b (front table ps list peg k) → OfRow table b) → OfRow table b
+        go (inl v) r = r v
+        go (inr v) r = record { row = k; there = l; is = sym (row-bin (pegOf peg) (rowAt table k .bin) (placeAt list k) _ s b v) }

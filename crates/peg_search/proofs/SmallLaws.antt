@@ -7,7 +7,7 @@ use native.Mathlib.Omega.{arith}
 use borrow.Author.Tests.{lt-ltb, le-ltb, eq-eqb, ne-eqb, not-true, not-false}
 use lib.Dec.{ltb, eqb}
 use lib.ListN.{length, set}
-use Rattle.peg_search.specs.Search.{BinPut, bestWith, foundWith, mayBeNext}
+use Rattle.peg_search.specs.Search.{BinPut, bestWith, lowerBin, rowTies}
 use Rattle.peg_search.specs.declared.best.Best.{Best}
 
 -- ---- one row more
@@ -31,21 +31,23 @@ module _ (b : Best) (s bin : ℕ) where
         best-same n = rw (le-ltb s (b .square) h, le-ltb (b .square) s l, le-ltb bin (b .low) m, le-ltb (b .high) bin n)
 
 -- ---- the next bin
-pub next-below : (bin first found : ℕ) → bin < first → false ≡ mayBeNext bin first found
-next-below bin first found h = rw (lt-ltb bin first h)
+module _ (bin first found : ℕ) where
+  pub lower-below : bin < first → found ≡ lowerBin bin first found
+  lower-below h = rw (lt-ltb bin first h)
 
-pub next-tested : (bin first found : ℕ) → first ≤ bin → ltb bin found ≡ mayBeNext bin first found
-next-tested bin first found h = rw (le-ltb bin first h)
+  pub lower-kept : first ≤ bin → found < bin → found ≡ lowerBin bin first found
+  lower-kept h l = rw (le-ltb bin first h, lt-ltb found bin l)
 
-module _ (first found bin s m : ℕ) (t : Bool) (e : t ≡ mayBeNext bin first found) where
-  pub found-kept : not t ≡ true → found ≡ foundWith first found bin s m
-  found-kept q = rw (sym e, not-true t q)
+  pub lower-here : first ≤ bin → bin ≤ found → bin ≡ lowerBin bin first found
+  lower-here h l = rw (le-ltb bin first h, le-ltb found bin l)
 
-  pub found-other : {q : ℕ} → not t ≡ false → q ≡ m → (q ≡ s → ⊥) → found ≡ foundWith first found bin s m
-  found-other f g n = rw (sym e, not-false t f, ne-eqb m s (λ z. n (g ∙ z)))
+-- ---- a row of the wanted bin
+module _ (bin wanted s m : ℕ) {b : ℕ} (e : b ≡ bin) where
+  pub row-other : (b ≡ wanted → ⊥) → false ≡ rowTies bin wanted s m
+  row-other n = rw (ne-eqb bin wanted (λ q. n (e ∙ q)))
 
-  pub found-here : {q : ℕ} → not t ≡ false → q ≡ m → q ≡ s → bin ≡ foundWith first found bin s m
-  found-here f g n = rw (sym e, not-false t f, eq-eqb m s (sym g ∙ n))
+  pub row-tested : {q : ℕ} → b ≡ wanted → q ≡ m → eqb q s ≡ rowTies bin wanted s m
+  row-tested w f = ap (λ (n : ℕ). eqb n s) f ∙ rw (eq-eqb bin wanted (sym e ∙ w))
 
 -- ---- a bin put
 pub put-inside : (E : List ℕ) (i n : ℕ) → i < length E → BinPut E i n (set E i n)

@@ -1,7 +1,7 @@
 -- What the passes over the rows ask and give. Assumes nothing.
 use mathlib.Core.Path.{_≡_}
 use mathlib.Core.Logic.{_⊎_}
-use mathlib.Core.Bool.{Bool, true, false, not, _&&_, cond}
+use mathlib.Core.Bool.{Bool, true, false, _&&_, cond}
 use mathlib.Core.List.{List, []}
 use Prim.Native.Nat.{ℕ, suc, _+_, _*_, _≤_, _<_}
 use lib.Dec.{eqb, leb, ltb}
@@ -16,7 +16,7 @@ use Rattle.body_refusals.specs.TableChecks.{mostBin, mostVertices}
 use Rattle.plan_definition.specs.Places.{Place, inRange}
 use Rattle.peg_definition.specs.Peg.{Hit, hitsOf, placesOf}
 use Rattle.peg_definition.specs.PlaceLaws.{placeAt}
-use Rattle.peg_distance.specs.Words.{beyond}
+use Rattle.peg_distance.specs.Words.{RowRange, beyond}
 use Rattle.peg_distance.specs.declared.target.PegWords.{PegWords}
 use Rattle.peg_search.specs.Hits.{Ties, leastOf}
 use Rattle.peg_search.specs.declared.best.Best.{Best}
@@ -71,20 +71,33 @@ pub record BestOf (hits : List Hit) (r : Best) : Type 0 where
 abbrev pub noBin : ℕ
 noBin = suc mostBin
 
--- whether a bin may be the next: from `first` on, and below what was found
-abbrev pub mayBeNext : ℕ → ℕ → ℕ → Bool
-mayBeNext bin first found = not (ltb bin first) && ltb bin found
+-- the lower of a row's bin, from `first` on, and what was found
+abbrev pub lowerBin : ℕ → ℕ → ℕ → ℕ
+lowerBin bin first found = cond (ltb bin first) found (cond (ltb found bin) found bin)
 
--- what was found, with a row of a bin that comes as near as m looked at too
-abbrev pub foundWith : ℕ → ℕ → ℕ → ℕ → ℕ → ℕ
-foundWith first found bin s m = cond (mayBeNext bin first found) (cond (eqb m s) bin found) found
-
--- r is the lowest bin from `first` on that shares the sum of squares s, or none does
-pub record NextBin (hits : List Hit) (s first r : ℕ) : Type 0 where
+-- r is the lowest bin of a row from `first` on, or no row has one
+pub record NextBin (table : List ℕ) (first r : ℕ) : Type 0 where
   pub most : r ≤ noBin
   pub from : r < noBin → first ≤ r
-  pub ties : r < noBin → Ties s r hits
-  pub lowest : (b : ℕ) → first ≤ b → Ties s b hits → r ≤ b
+  pub lowest : (k : ℕ) → k < length (rowsOf table) → first ≤ rowAt table k .bin → r ≤ rowAt table k .bin
+
+-- ---- whether a bin has the smallest sum of squares
+
+-- row k is there, with its coordinates from `from` up to `to` and its place in range
+pub record RowThere (table : List ℕ) (ps : List Float) (list : List ℤ) (peg : PegWords) (k from to : ℕ) : Type 0 where
+  pub row : k < length (rowsOf table)
+  pub order : from ≤ to
+  pub inside : to ≤ length ps
+  pub range : RowRange list k peg
+
+-- whether a row of a bin that comes as near as m is of the wanted bin, and comes as near as s
+abbrev pub rowTies : ℕ → ℕ → ℕ → ℕ → Bool
+rowTies bin wanted s m = eqb bin wanted && eqb m s
+
+-- r tells it
+pub record BinTies (hits : List Hit) (s bin : ℕ) (r : Bool) : Type 0 where
+  pub has : r ≡ true → Ties s bin hits
+  pub none : r ≡ false → Ties s bin hits → ⊥
 
 -- ---- the list
 
@@ -92,6 +105,13 @@ pub record NextBin (hits : List Hit) (s first r : ℕ) : Type 0 where
 pub record BinPut (E : List ℕ) (i n : ℕ) (W : List ℕ) : Type 0 where
   pub inside : i < length E → W ≡ set E i n
   pub outside : length E ≤ i → W ≡ E
+
+-- a bin went behind the i bins of a list if it has the sum of squares s; r is how many there are then
+pub record OneListed (hits : List Hit) (s bin : ℕ) (E W : List ℕ) (i r : ℕ) : Type 0 where
+  pub tells : Bool
+  pub ties : BinTies hits s bin tells
+  pub put : tells ≡ true → BinPut E i bin W × (r ≡ i + 1)
+  pub kept : tells ≡ false → (W ≡ E) × (r ≡ i)
 
 -- r is how many bins there are; where a list has room for them, they went into its front
 pub record Listed (bins E W : List ℕ) (r : ℕ) : Type 0 where

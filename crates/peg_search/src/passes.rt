@@ -16,7 +16,8 @@ ghost use Rattle.peg_distance.specs.Words.{RowRange, beyond};
 ghost use Rattle.peg_definition.specs.Peg.{nearestBins, rowHits};
 ghost use Rattle.peg_definition.specs.PlaceLaws.{placeAt};
 ghost use Rattle.peg_search.specs.Hits.{leastOf};
-ghost use Rattle.peg_search.specs.Search.{BestOf, BinPut, Listed, NextBin, Placed, bodyHits, foundWith, mayBeNext, pegOf};
+ghost use Rattle.peg_search.specs.Search.{BestOf, BinPut, BinTies, Listed, NextBin, OneListed, Placed, RowThere, bodyHits, lowerBin, pegOf, rowTies};
+ghost use Rattle.body_rows.specs.Rows.{rowAt};
 
 // A bin number that no row has.
 const NO_BIN: u32 = 65536;
@@ -58,18 +59,36 @@ pub fn find_best(rows: &[u32], positions: &[f32], places: &[i64], peg: PegWords)
     best
 }
 
-// Whether a row's bin may be the next one: from `first` on, and below what was found.
-fn may_be_next(bin: u32, first: u32, found: u32) -> bool
-    ensures { λ r. ⌜ r ≡ mayBeNext bin first found ⌝ }
+// The lower of a row's bin, from `first` on, and what was found.
+fn lower_bin(bin: u32, first: u32, found: u32) -> u32
+    ensures { λ r. ⌜ r ≡ lowerBin bin first found ⌝ }
 {
     if bin < first {
-        return false;
+        return found;
     }
-    bin < found
+    if found < bin {
+        return found;
+    }
+    bin
 }
 
-// What was found with row k looked at too: its bin, if it may be the next and comes as near as `square`. A row whose bin cannot be it is passed over.
-fn found_with(
+// The lowest bin of a row from `first` on, 65,536 if there is none.
+fn next_bin(rows: &[u32], first: u32) -> u32
+    ensures { λ r. ⌜ NextBin (now (rows .entry)) first r ⌝ }
+{
+    let n = row_count(rows);
+    let mut found = NO_BIN;
+    let mut k = 0usize;
+    while k < n {
+        found = lower_bin(bin(rows, k), first, found);
+        k += 1;
+    }
+    found
+}
+
+// Whether row k has the bin and comes as near as `square`; the vertices of other bins' rows are passed over.
+fn row_ties(
+    rows: &[u32],
     positions: &[f32],
     from: usize,
     to: usize,
@@ -77,61 +96,44 @@ fn found_with(
     k: usize,
     peg: PegWords,
     square: u64,
-    first: u32,
-    found: u32,
-    bin: u32,
-) -> u32
-    requires { ⌜ from ≤ to ⌝ }
-    requires { ⌜ to ≤ length (now positions) ⌝ }
-    requires { ⌜ RowRange (now places) k peg ⌝ }
-    ensures { λ r. ⌜ r ≡ foundWith first found bin square
+    wanted: u32,
+) -> bool
+    requires { ⌜ RowThere (now rows) (now positions) (now places) peg k from to ⌝ }
+    ensures { λ r. ⌜ r ≡ rowTies (rowAt (now (rows .entry)) k .bin) wanted square
         (leastOf (rowHits (pegOf peg) 0 (placeAt (now (places .entry)) k) (take (to - from) (drop from (now (positions .entry)))))) ⌝ }
 {
-    if !may_be_next(bin, first, found) {
-        return found;
+    if bin(rows, k) != wanted {
+        return false;
     }
-    if row_square(positions, from, to, places, k, peg) != square {
-        return found;
-    }
-    bin
+    row_square(positions, from, to, places, k, peg) == square
 }
 
-// The lowest bin from `first` on that has the smallest sum of squares, 65,536 if there is none.
-fn next_bin(
+// Whether a bin has the smallest sum of squares: a pass over its rows alone.
+fn bin_ties(
     rows: &[u32],
     positions: &[f32],
     places: &[i64],
     peg: PegWords,
     square: u64,
-    first: u32,
-) -> u32
+    wanted: u32,
+) -> bool
     requires { ⌜ Placed (now rows) (now positions) (now places) peg ⌝ }
     requires { ⌜ square ≡ leastOf (bodyHits (now rows) (now positions) (now places) peg) ⌝ }
     requires { ⌜ square < beyond ⌝ }
-    ensures { λ r. ⌜ NextBin (bodyHits (now (rows .entry)) (now (positions .entry)) (now (places .entry)) peg) square first r ⌝ }
+    ensures { λ r. ⌜ BinTies (bodyHits (now (rows .entry)) (now (positions .entry)) (now (places .entry)) peg) square wanted r ⌝ }
 {
     let n = row_count(rows);
-    let mut found = NO_BIN;
     let mut from = 0usize;
     let mut k = 0usize;
     while k < n {
         let to = from + 3 * vertices(rows, k) as usize;
-        found = found_with(
-            positions,
-            from,
-            to,
-            places,
-            k,
-            peg,
-            square,
-            first,
-            found,
-            bin(rows, k),
-        );
+        if row_ties(rows, positions, from, to, places, k, peg, square, wanted) {
+            return true;
+        }
         from = to;
         k += 1;
     }
-    found
+    false
 }
 
 // Item i of a list, where it has one, becomes a bin.
@@ -143,7 +145,33 @@ fn put_bin(bins: &mut [u32], i: usize, bin: u32)
     }
 }
 
-// The bins that share the smallest sum of squares, ascending, into the front of a list as far as it goes; answers how many they are. A pass finds each but the lowest.
+// A bin into a list behind the i bins of it, if it has the smallest sum of squares; answers how many there are then.
+fn list_bin(
+    rows: &[u32],
+    positions: &[f32],
+    places: &[i64],
+    peg: PegWords,
+    square: u64,
+    wanted: u32,
+    bins: &mut [u32],
+    i: usize,
+) -> usize
+    requires { ⌜ Placed (now rows) (now positions) (now places) peg ⌝ }
+    requires { ⌜ square ≡ leastOf (bodyHits (now rows) (now positions) (now places) peg) ⌝ }
+    requires { ⌜ square < beyond ⌝ }
+    requires { ⌜ i < 65536 ⌝ }
+    ensures { λ r. ⌜ OneListed (bodyHits (now (rows .entry)) (now (positions .entry)) (now (places .entry)) peg) square wanted (now (bins .entry))
+        (now (bins .exit)) i r ⌝ }
+{
+    if !bin_ties(rows, positions, places, peg, square, wanted) {
+        return i;
+    }
+    put_bin(bins, i, wanted);
+    i + 1
+}
+
+// The bins that share the smallest sum of squares, ascending, into the front of a list as far as it goes; answers how many they are. One bin takes no pass more;
+// of several, each bin of a row from the lowest to the highest is looked at in turn.
 pub fn list_bins(
     rows: &[u32],
     positions: &[f32],
@@ -160,9 +188,8 @@ pub fn list_bins(
     let mut b = best.low;
     let mut i = 0usize;
     while b < best.high {
-        put_bin(bins, i, b);
-        b = next_bin(rows, positions, places, peg, best.square, b + 1);
-        i += 1;
+        i = list_bin(rows, positions, places, peg, best.square, b, bins, i);
+        b = next_bin(rows, b + 1);
     }
     put_bin(bins, i, b);
     i + 1

@@ -1,8 +1,8 @@
 -- `list_bins` meets its contract. Assumes nothing.
-use Prim.Native.Nat.{_-_}
 use borrow.Author.Needs.{needs}
+use Prim.Native.Nat.{_-_}
 use Rattle.peg_search.specs.Search.{bodyHits}
-use Rattle.peg_search.proofs.ListLaws.{Listing, count-fits, least-is, listing-all, listing-fits, listing-more, listing-nearer, listing-none}
+use Rattle.peg_search.proofs.ListLaws.{Listing, count-few, count-fits, least-is, listing-all, listing-fits, listing-more, listing-nearer, listing-none}
 use Rattle.peg_search.proofs.passes.list_bins.Statement.{statement}
 use Rattle.peg_search.proofs.passes.list_bins.Tie as tie
 
@@ -15,17 +15,14 @@ abbrev μ-loop : tie.MeasureT-loop
 loop-holds : tie.Need-loop-holds Inv-loop μ-loop
 loop-holds c = search listing-none
 
-put-bin-requires : tie.Need-put-bin-requires Inv-loop μ-loop
-put-bin-requires c κs = search needs
+list-bin-requires : tie.Need-list-bin-requires Inv-loop μ-loop
+list-bin-requires c κs = (search needs, (search least-is, (search needs, search count-few)))
 
 add-next-bin : tie.Need-add-next-bin Inv-loop μ-loop
 add-next-bin c = search (needs, listing-fits)
 
 next-bin-requires : tie.Need-next-bin-requires Inv-loop μ-loop
-next-bin-requires c κs = search (needs, least-is)
-
-add-i : tie.Need-add-i Inv-loop μ-loop
-add-i c = search (needs, count-fits)
+next-bin-requires c κs = search needs
 
 loop-less : tie.Need-loop-less Inv-loop μ-loop
 loop-less c = search listing-nearer
@@ -33,8 +30,8 @@ loop-less c = search listing-nearer
 loop-again : tie.Need-loop-again Inv-loop μ-loop
 loop-again c = search listing-more
 
-put-bin-requires-2 : tie.Need-put-bin-requires-2 Inv-loop μ-loop
-put-bin-requires-2 c κs = search needs
+put-bin-requires : tie.Need-put-bin-requires Inv-loop μ-loop
+put-bin-requires c κs = search needs
 
 add-result : tie.Need-add-result Inv-loop μ-loop
 add-result c = search (needs, count-fits)
@@ -52,13 +49,12 @@ list-bins-spec =
     Inv-loop
     μ-loop
     loop-holds
-    put-bin-requires
+    list-bin-requires
     add-next-bin
     next-bin-requires
-    add-i
     loop-less
     loop-again
-    put-bin-requires-2
+    put-bin-requires
     add-result
     same-length
     returns)
