@@ -8,8 +8,9 @@
  *     cad_stitch    writes the stitched body into second slices
  *     cad_assemble  writes the mesh, its parts, ranges and failures
  *
- * cad_read_plan and cad_write_plan turn the text of a yard plan, which says where bins stand, into a list and back. The other calls
- * read a face of a body, ask about one patch alone, or are the float steps on which the three are built.
+ * cad_read_plan and cad_write_plan turn the text of a yard plan, which says where bins stand, into a list and back. cad_nearest_bins
+ * says which of the bins that stand there a probe peg is nearest to. The other calls read a face of a body, ask about one patch alone,
+ * or are the float steps on which the three are built.
  *
  * No call allocates, keeps anything between calls, or has any state of its own: a caller lends every slice, and threads may call at
  * once with slices of their own. What each call answers and what it leaves in each slice is proved against a definition, refusals
@@ -36,7 +37,8 @@
  *     rows       CAD_ROW_NUMBERS * F numbers: for each row its shell, its face, its outcome, its vertex count, its index count and
  *                its bin. An outcome of 0 is a patch; 1 to 255 is a failure that came from upstream, and its row has no vertices and
  *                no indices.
- *                A bin, 0 to 65,535, says whose face it is: it goes through all calls as it is and changes nothing else.
+ *                A bin, 0 to 65,535, says whose face it is: it goes through the three calls as it is and changes nothing else, and
+ *                is what cad_nearest_bins answers with.
  *     positions  3 * V floats: x, y, z of each vertex; the rows' vertices follow one another without gaps
  *     normals    3 * V floats, laid out likewise
  *     indices    I numbers, three a triangle; the rows' indices follow one another, and count from 0 within their row's vertices
@@ -106,6 +108,10 @@ extern "C" {
 /* The most bytes of a bin's line, its LF included: cad_write_plan never refuses so many for each entry with 68. */
 #define CAD_MOST_PLAN_LINE 57
 
+/* Numbers that a row's place takes: its x, y and z. How far from a peg a vertex may be on each axis, in micrometres, to count as near. */
+#define CAD_PLACE_NUMBERS 3
+#define CAD_PEG_REACH 5000
+
 /* The work area that a call needs for the body handed to it, in 64-bit words (check 31): for cad_assemble the stitched one. Its
    arguments are evaluated once. */
 #define CAD_WORK_WORDS(vertices, indices, rows) \
@@ -124,7 +130,8 @@ extern "C" {
 
 /*
  * Why a call is refused, in the order in which the checks go; each looks at the whole body before the next, but 61 to 64 at one line
- * of a plan, or one entry of a list, before the next line or entry. Numbers 51 and 52 are the bench program's, for its text.
+ * of a plan, or one entry of a list, before the next line or entry. 65 and 66 come straight after 23: their call needs no work area.
+ * Numbers 51 and 52 are the bench program's, for its text.
  */
 enum CadRefusal {
     CAD_DONE = 0,
@@ -145,6 +152,8 @@ enum CadRefusal {
     CAD_REFUSED_DEPTH = 62,          /* cad_read_plan: a seventeenth group is open at once */
     CAD_REFUSED_PLACE = 63,          /* a bin's place is beyond plus or minus CAD_MOST_OFFSET on an axis */
     CAD_REFUSED_ENTRIES = 64,        /* there is a bin beyond CAD_MOST_PLAN_ENTRIES, or beyond the list lent to cad_read_plan */
+    CAD_REFUSED_PEG = 65,            /* cad_nearest_bins: the peg or a row's place is beyond CAD_MOST_OFFSET, or places are fewer than rows */
+    CAD_REFUSED_BIN_LIST = 66,       /* cad_nearest_bins: the bin list is shorter than the bins that share the smallest distance */
     CAD_REFUSED_TEXT = 68            /* cad_write_plan: the slice is shorter than the text */
 };
 
@@ -211,11 +220,17 @@ typedef struct CadPlanWritten {
     uint64_t length;  /* bytes of the text */
 } CadPlanWritten;
 
+/* cad_nearest_bins's answer. */
+typedef struct CadNearestBins {
+    uint32_t refusal; /* enum CadRefusal */
+    uint32_t bins;    /* bins written, all at one distance from the peg; 0 if no vertex is near it */
+} CadNearestBins;
+
 /* The library's layout of all these; a compiler that was told to pack structures stops here. */
 typedef char cad_layout_is_the_library_s[sizeof(float) == 4 && sizeof(double) == 8 && sizeof(size_t) == 8 && sizeof(bool) == 1 &&
                                          sizeof(CadTurned) == 16 && sizeof(CadStitched) == 24 && sizeof(CadAssembled) == 56 &&
                                          sizeof(CadMeasured) == 16 && sizeof(CadJudged) == 8 &&
-                                         sizeof(CadPlanRead) == 16 && sizeof(CadPlanWritten) == 16 &&
+                                         sizeof(CadPlanRead) == 16 && sizeof(CadPlanWritten) == 16 && sizeof(CadNearestBins) == 8 &&
                                          sizeof(CadRow) == CAD_ROW_NUMBERS * sizeof(uint32_t) ? 1 : -1];
 
 /*
@@ -337,6 +352,34 @@ CadPlanRead cad_read_plan(const uint8_t *text, size_t text_len,
  */
 CadPlanWritten cad_write_plan(const int64_t *list, size_t list_len,
                               uint8_t *out, size_t out_len);
+
+/*
+ * Which bins a probe peg is nearest to, exactly. Bodies that a plan places are lent as one body, their rows one after another: each row
+ * is drawn near its own bin's origin, in millimetres, and moved by its place, in whole micrometres as the peg's is.
+ *
+ * Each vertex, used by a triangle or not, is taken to the nearest whole micrometre, halves away from zero, and its row's place is added
+ * then. One that is more than CAD_PEG_REACH from the peg on any axis is ignored. Of the others the smallest sum of the squares of the
+ * three differences wins: the answer is every bin that has a vertex with that sum, ascending, each once. Without a vertex near there is
+ * no bin. Distances are to vertices, never to the walls between them.
+ *
+ *     rows_len CAD_ROW_NUMBERS * F, positions_len 3 * V, normals_len 3 * V, indices_len I
+ *     places_len at least CAD_PLACE_NUMBERS * F: x, y and z of each row's place, of a failed row's too, each within plus or minus
+ *         CAD_MOST_OFFSET. Numbers behind the last row's are not looked at
+ *     x, y, z: the peg, each within plus or minus CAD_MOST_OFFSET
+ *     bins_len at least the answer's bins, of which there is at most one a row (F is always enough). What stands behind them stays
+ *         as it was
+ *
+ * There is no work area. A refusal leaves the whole bin list as it was. An answer of no bins fits an empty list.
+ *
+ * Refusals: 11, 12, 13, 14, 15, 21, 22, 23, 65, 66.
+ */
+CadNearestBins cad_nearest_bins(const uint32_t *rows, size_t rows_len,
+                                const float *positions, size_t positions_len,
+                                const float *normals, size_t normals_len,
+                                const uint32_t *indices, size_t indices_len,
+                                const int64_t *places, size_t places_len,
+                                int64_t x, int64_t y, int64_t z,
+                                uint32_t *bins, size_t bins_len);
 
 /*
  * One face of a body. Nothing is refused: a row past the end has face 0 and no indices, and slices may be of any length.

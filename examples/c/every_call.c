@@ -56,6 +56,14 @@ static CadAssembled assemble(uint64_t default_material)
                         lent.failures, 2 * CAD_FAILURE_NUMBERS, lent.work, lent.work_len);
 }
 
+/* The bins nearest to a peg on the y axis; the first row stands 4 km out and the second a tenth of a millimetre further. */
+static CadNearestBins nearest(int64_t y, uint32_t *bins, size_t bins_len)
+{
+    static const int64_t places[2 * CAD_PLACE_NUMBERS] = {0, INT64_C(4000000000), 0, 0, INT64_C(4000000100), 0};
+    return cad_nearest_bins(lent.rows, lent.rows_len, lent.positions, lent.positions_len, lent.normals, lent.positions_len,
+                            lent.indices, lent.indices_len, places, 2 * CAD_PLACE_NUMBERS, 0, y, 0, bins, bins_len);
+}
+
 /* The stitched body, which stands in the output slices, assembled into those of the body before, with a work area of so many words. */
 static CadAssembled assemble_stitched(const CadStitched *sewn, size_t words)
 {
@@ -163,6 +171,23 @@ static void plans(void)
     printf("an empty plan, all pointers null: %" PRIu32 ", %" PRIu64 " entries\n", none.refusal, none.entries);
 }
 
+/* A peg nearer to the second row's bin, one in the middle, and one a metre off; in room for three bins, each 9 before. */
+static void pegs(void)
+{
+    static const int64_t along[3] = {INT64_C(4000000070), INT64_C(4000000050), INT64_C(4001000000)};
+    fresh();
+    for (size_t k = 0; k < 3; k++) {
+        uint32_t bins[3] = {9, 9, 9};
+        const CadNearestBins near = nearest(along[k], bins, 3);
+        printf("nearest bins: %" PRIu32 ", %" PRIu32 " bins:", near.refusal, near.bins);
+        for (size_t b = 0; b < 3; b++)
+            printf(" %" PRIu32, bins[b]);
+        printf("\n");
+    }
+    const CadNearestBins none = cad_nearest_bins(NULL, 0, NULL, 0, NULL, 0, NULL, 0, NULL, 0, 0, 0, 0, NULL, 0);
+    printf("no rows, all pointers null: %" PRIu32 ", %" PRIu32 " bins\n", none.refusal, none.bins);
+}
+
 /* The same body with as many unused vertices as there may be, so that the new one is too many. */
 static uint32_t stitched_limit(void)
 {
@@ -199,6 +224,7 @@ static uint32_t refused_plan(enum CadRefusal refusal)
 /* The body spoiled in the way of one refusal, and the call that gives it. */
 static uint32_t refused(enum CadRefusal refusal)
 {
+    uint32_t bin = 0;
     fresh();
     switch (refusal) {
     case CAD_REFUSED_TABLE:
@@ -239,6 +265,10 @@ static uint32_t refused(enum CadRefusal refusal)
     case CAD_REFUSED_MESH:
         lent.out_len = 26;
         return assemble(CAD_NO_MATERIAL).refusal;
+    case CAD_REFUSED_PEG:
+        return nearest(CAD_MOST_OFFSET + 1, &bin, 1).refusal;
+    case CAD_REFUSED_BIN_LIST:
+        return nearest(INT64_C(4000000050), &bin, 1).refusal;
     default:
         return refused_plan(refusal);
     }
@@ -249,11 +279,13 @@ int main(void)
     static const enum CadRefusal all[] = {CAD_REFUSED_TABLE, CAD_REFUSED_OUTCOME, CAD_REFUSED_LIMIT, CAD_REFUSED_LENGTHS, CAD_REFUSED_BIN,
                                           CAD_REFUSED_TRIANGLES, CAD_REFUSED_INDEX, CAD_REFUSED_NOT_FINITE, CAD_REFUSED_WORK_AREA,
                                           CAD_REFUSED_STITCHED_LIMIT, CAD_REFUSED_OUTPUT, CAD_REFUSED_MATERIAL, CAD_REFUSED_MESH,
-                                          CAD_REFUSED_LINE, CAD_REFUSED_DEPTH, CAD_REFUSED_PLACE, CAD_REFUSED_ENTRIES, CAD_REFUSED_TEXT};
+                                          CAD_REFUSED_LINE, CAD_REFUSED_DEPTH, CAD_REFUSED_PLACE, CAD_REFUSED_ENTRIES, CAD_REFUSED_PEG,
+                                          CAD_REFUSED_BIN_LIST, CAD_REFUSED_TEXT};
     steps();
     patches();
     done();
     plans();
+    pegs();
     for (size_t k = 0; k < sizeof all / sizeof all[0]; k++)
         printf("refused with %" PRIu32 "\n", refused(all[k]));
     return 0;

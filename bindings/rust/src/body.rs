@@ -8,7 +8,8 @@ use std::fmt;
 #[repr(transparent)]
 pub struct FaceId(pub u32);
 
-/// The number of a bin, 0 to 65,535: whose face it is. It goes through all calls as it is, and changes nothing else.
+/// The number of a bin, 0 to 65,535: whose face it is. It goes through turning, stitching and assembling as it is and changes nothing
+/// else, and is what [`nearest_bins`](crate::nearest_bins) answers with.
 #[derive(Debug, Clone, Copy, PartialEq, Eq, PartialOrd, Ord, Hash, Default)]
 #[repr(transparent)]
 pub struct BinId(pub u32);
@@ -178,6 +179,23 @@ impl Body {
     /// Become a copy of another body, in the lists that are there.
     pub fn copy_from(&mut self, other: BodyRef<'_>) {
         self.clear();
+        self.append(other);
+    }
+
+    /// The rows of another body behind its own, as bodies are laid together for [`nearest_bins`](crate::nearest_bins). Indices count
+    /// within their row, so they stay as they are; so do shells and faces.
+    ///
+    /// ```
+    /// use body_finisher::{BinId, Body, FaceId};
+    ///
+    /// let (mut first, mut second) = (Body::default(), Body::default());
+    /// first.push_patch(0, FaceId(7), BinId(1), &[[0.0; 3]; 3], &[[0.0; 3]; 3], &[0, 1, 2])?;
+    /// second.push_failure(0, FaceId(8), BinId(2), 3)?;
+    /// first.append(second.view());
+    /// assert_eq!((first.rows.len(), first.rows[1].bin, first.positions.len()), (2, BinId(2), 3));
+    /// # Ok::<(), body_finisher::RowError>(())
+    /// ```
+    pub fn append(&mut self, other: BodyRef<'_>) {
         self.rows.extend_from_slice(other.rows);
         self.positions.extend_from_slice(other.positions);
         self.normals.extend_from_slice(other.normals);

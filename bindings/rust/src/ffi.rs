@@ -6,9 +6,9 @@
 //! the processor's usual floating-point state for granted, as Rust does everywhere.
 
 use crate::answers::{Assembled, Stitched, Turned};
-use crate::body::{BodyMut, BodyOut, BodyRef, FaceId, Point, Row};
+use crate::body::{BinId, BodyMut, BodyOut, BodyRef, FaceId, Point, Row};
 use crate::mesh::{Aabb, MeshOut, Setting};
-use crate::plan::RawPlacedBin;
+use crate::plan::{Place, RawPlacedBin};
 use crate::refusal::Refusal;
 
 #[repr(C)]
@@ -64,6 +64,12 @@ struct CadPlanWritten {
     length: u64,
 }
 
+#[repr(C)]
+struct CadNearestBins {
+    refusal: u32,
+    bins: u32,
+}
+
 #[rustfmt::skip]
 extern "C" {
     fn cad_turn(rows: *const u32, rows_len: usize, positions: *const f32, positions_len: usize, normals: *mut f32, normals_len: usize, indices: *mut u32, indices_len: usize, work: *mut u64, work_len: usize) -> CadTurned;
@@ -71,6 +77,7 @@ extern "C" {
     fn cad_assemble(rows: *const u32, rows_len: usize, positions: *const f32, positions_len: usize, normals: *const f32, normals_len: usize, indices: *const u32, indices_len: usize, min_x: f64, min_y: f64, min_z: f64, max_x: f64, max_y: f64, max_z: f64, materials: *const u64, materials_len: usize, default_material: u64, mesh_positions: *mut f32, mesh_positions_len: usize, mesh_normals: *mut f32, mesh_normals_len: usize, mesh_indices: *mut u32, mesh_indices_len: usize, parts: *mut u32, parts_len: usize, ranges: *mut u32, ranges_len: usize, failures: *mut u64, failures_len: usize, work: *mut u64, work_len: usize) -> CadAssembled;
     fn cad_read_plan(text: *const u8, text_len: usize, list: *mut i64, list_len: usize) -> CadPlanRead;
     fn cad_write_plan(list: *const i64, list_len: usize, out: *mut u8, out_len: usize) -> CadPlanWritten;
+    fn cad_nearest_bins(rows: *const u32, rows_len: usize, positions: *const f32, positions_len: usize, normals: *const f32, normals_len: usize, indices: *const u32, indices_len: usize, places: *const i64, places_len: usize, x: i64, y: i64, z: i64, bins: *mut u32, bins_len: usize) -> CadNearestBins;
     fn cad_face_at(rows: *const Row, rows_len: usize, k: usize) -> u32;
     fn cad_face_indices(rows: *const u32, rows_len: usize, indices: *const u32, indices_len: usize, stitched_rows: *const u32, stitched_rows_len: usize, stitched_indices: *const u32, stitched_indices_len: usize, k: usize, out: *mut u32, out_len: usize) -> u64;
     fn cad_patch_volume(positions: *const f32, positions_len: usize, normals: *const f32, normals_len: usize, indices: *const u32, indices_len: usize, flip: bool) -> CadMeasured;
@@ -189,6 +196,24 @@ pub fn write_plan(list: &[RawPlacedBin], out: &mut [u8]) -> Result<u64, Refusal>
     // Sound: each pair is a live slice of the numbers that the call takes; out comes from &mut, so it overlaps nothing.
     let answer = unsafe { cad_write_plan(list, list_len, out.as_mut_ptr(), out.len()) };
     unless_refused(answer.refusal, answer.length)
+}
+
+#[rustfmt::skip]
+pub fn nearest_bins(body: BodyRef<'_>, places: &[Place], peg: Place, bins: &mut [BinId]) -> Result<u32, Refusal> {
+    let (rows, rows_len) = numbers(body.rows);
+    let (positions, positions_len) = numbers(body.positions);
+    let (normals, normals_len) = numbers(body.normals);
+    let (indices, indices_len) = (body.indices.as_ptr(), body.indices.len());
+    let (places, places_len) = numbers(places);
+    let [x, y, z] = peg;
+    let (bins, bins_len) = numbers_mut(bins);
+    // Sound: each pair is a live slice of the numbers that the call takes; the bins come from &mut, so they overlap nothing. A place is
+    // three numbers and a bin is one, of any value.
+    let answer = unsafe {
+        cad_nearest_bins(rows, rows_len, positions, positions_len, normals, normals_len, indices, indices_len, places, places_len,
+            x, y, z, bins, bins_len)
+    };
+    unless_refused(answer.refusal, answer.bins)
 }
 
 pub fn face_at(rows: &[Row], k: usize) -> FaceId {

@@ -20,10 +20,10 @@
 //! ```
 
 use crate::answers::{Assembled, Stitched, Turned};
-use crate::body::{BodyMut, BodyOut, BodyRef, FaceId, Point, Row};
+use crate::body::{BinId, BodyMut, BodyOut, BodyRef, FaceId, Point, Row};
 use crate::ffi;
 use crate::mesh::{Aabb, MeshOut, Setting};
-use crate::plan::RawPlacedBin;
+use crate::plan::{Place, RawPlacedBin};
 use crate::refusal::Refusal;
 
 /// Turns the rows of a body so that neighbours of one shell agree on which side is outside: corners 1 and 2 of a turned row's triangles
@@ -75,6 +75,29 @@ pub fn read_plan(text: &[u8], list: &mut [RawPlacedBin]) -> Result<u64, Refusal>
 /// ```
 pub fn write_plan(list: &[RawPlacedBin], out: &mut [u8]) -> Result<u64, Refusal> {
     ffi::write_plan(list, out)
+}
+
+/// The bins that a peg is nearest to go to the front of `bins`, ascending, each once, and the answer is how many there are; see
+/// [`nearest_bins`](crate::nearest_bins). Places beyond the last row's are not looked at. As many bins as the body has rows are always
+/// room enough. What stands behind the bins stays as it was, and after a refusal all of it.
+///
+/// ```
+/// use body_finisher::{lent, BinId, Body, FaceId, Refusal};
+///
+/// let (corners, up) = ([[0.0; 3], [10.0, 0.0, 0.0], [0.0, 10.0, 0.0]], [[0.0, 0.0, 1.0]; 3]);
+/// let mut body = Body::default();
+/// body.push_patch(0, FaceId(0), BinId(8), &corners, &up, &[0, 1, 2])?;
+/// body.push_patch(1, FaceId(1), BinId(7), &corners, &up, &[0, 1, 2])?;
+///
+/// let (places, mut bins) = ([[0, 0, 0], [100, 0, 0]], [BinId(9); 3]);
+/// assert_eq!(lent::nearest_bins(body.view(), &places, [50, 0, 0], &mut bins[..1]), Err(Refusal::BinList));
+/// assert_eq!(lent::nearest_bins(body.view(), &places, [50, 0, 0], &mut bins), Ok(2));
+/// assert_eq!(bins, [BinId(7), BinId(8), BinId(9)]);
+/// assert_eq!(lent::nearest_bins(body.view(), &places, [-5_001, 0, 0], &mut []), Ok(0));
+/// # Ok::<(), Box<dyn std::error::Error>>(())
+/// ```
+pub fn nearest_bins(body: BodyRef<'_>, places: &[Place], peg: Place, bins: &mut [BinId]) -> Result<u32, Refusal> {
+    ffi::nearest_bins(body, places, peg, bins)
 }
 
 /// The face of row k of a table, or face 0 past its end.

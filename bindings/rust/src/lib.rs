@@ -5,6 +5,7 @@
 //! - [`Finisher`] finishes bodies one after another, with a work area that it keeps.
 //! - [`lent`] has the same calls with every slice lent by the caller, without an allocation.
 //! - [`read_plan`] and [`write_plan`] turn the text of a yard plan, which says where bins stand, into a list and back.
+//! - [`nearest_bins`] says which of the bins that a plan places a probe peg is nearest to.
 //! - [`face_at`] and [`face_indices`] read one face of a body, [`patch_volume`], [`farthest`] and [`escapes_body`] ask about one patch alone;
 //!   [`steps`] has the float steps.
 //!
@@ -36,6 +37,7 @@ mod ffi;
 mod finisher;
 pub mod lent;
 mod mesh;
+mod peg;
 mod plan;
 mod refusal;
 pub mod steps;
@@ -45,5 +47,6 @@ pub use body::{work_words, BinId, Body, BodyMut, BodyOut, BodyRef, FaceId, Point
 pub use finisher::{Counts, Finished, Finisher, MOST_BIN, MOST_INDICES, MOST_ROWS, MOST_VERTICES};
 pub use lent::{escapes_body, face_at, face_indices, farthest, patch_volume};
 pub use mesh::{Aabb, Entry, FaceFailure, FaceRange, Failure, MaterialId, Mesh, MeshOut, Part, RawFailure, Setting};
-pub use plan::{read_plan, write_plan, PlacedBin, RawPlacedBin, MOST_OFFSET, MOST_PLAN_ENTRIES, MOST_PLAN_LINE};
+pub use peg::{nearest_bins, places_of, PlaceError, PEG_REACH};
+pub use plan::{read_plan, write_plan, Place, PlacedBin, RawPlacedBin, MOST_OFFSET, MOST_PLAN_ENTRIES, MOST_PLAN_LINE};
 pub use refusal::Refusal;

@@ -25,11 +25,14 @@ pub const MOST_PLAN_LINE: usize = 57;
 /// The fewest bytes of a bin's line.
 const LEAST_PLAN_LINE: usize = b"(bin 0 0 0 0)\n".len();
 
-/// A bin, and where it stands: x, y and z in whole micrometres.
+/// A place in the yard: x, y and z in whole micrometres.
+pub type Place = [i64; 3];
+
+/// A bin, and where it stands.
 #[derive(Debug, Clone, Copy, PartialEq, Eq, PartialOrd, Ord, Hash, Default)]
 pub struct PlacedBin {
     pub bin: BinId,
-    pub place: [i64; 3],
+    pub place: Place,
 }
 
 /// A placed bin as it is lent: four 64-bit numbers, which may be any.
@@ -37,7 +40,7 @@ pub struct PlacedBin {
 #[repr(C)]
 pub struct RawPlacedBin {
     pub bin: i64,
-    pub place: [i64; 3],
+    pub place: Place,
 }
 
 impl RawPlacedBin {

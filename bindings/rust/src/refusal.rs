@@ -49,13 +49,17 @@ pub enum Refusal {
     Place,
     /// 64: a bin beyond the 4,096th, or beyond the list.
     Entries,
+    /// 65: a peg, or the place of a row, failed or not, is beyond plus or minus 2^40 on an axis, or there are fewer places than rows.
+    Peg,
+    /// 66: the bin list is shorter than the bins that share the smallest distance from a peg.
+    BinList,
     /// 68: the slice is shorter than the text that is written to it.
     Text,
 }
 
 impl Refusal {
-    /// Every refusal, in the order in which the checks go.
-    pub const ALL: [Refusal; 18] = [
+    /// Every refusal, in the order in which the checks go; those of a peg come straight after 23.
+    pub const ALL: [Refusal; 20] = [
         Refusal::Table,
         Refusal::Outcome,
         Refusal::Limit,
@@ -73,6 +77,8 @@ impl Refusal {
         Refusal::Depth,
         Refusal::Place,
         Refusal::Entries,
+        Refusal::Peg,
+        Refusal::BinList,
         Refusal::Text,
     ];
 
@@ -96,6 +102,8 @@ impl Refusal {
             Refusal::Depth => 62,
             Refusal::Place => 63,
             Refusal::Entries => 64,
+            Refusal::Peg => 65,
+            Refusal::BinList => 66,
             Refusal::Text => 68,
         }
     }
@@ -127,6 +135,8 @@ impl Refusal {
             Refusal::Depth => "a seventeenth group is open at once",
             Refusal::Place => "a bin's place is beyond plus or minus 2^40 on an axis",
             Refusal::Entries => "there is a bin beyond the 4,096th, or beyond the list",
+            Refusal::Peg => "the peg or a row's place is beyond plus or minus 2^40 on an axis, or there are fewer places than rows",
+            Refusal::BinList => "the bin list is shorter than the bins that share the smallest distance",
             Refusal::Text => "the slice is shorter than the text",
         }
     }

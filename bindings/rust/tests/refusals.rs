@@ -73,6 +73,9 @@ fn broken_bodies_are_refused_by_every_call_and_nothing_changes() {
         assert_eq!(finisher.assemble(body.view(), &NOTHING, &mut mesh), Err(refusal));
         assert_eq!(finisher.finish_into(body.view(), 1.0, &NOTHING, &mut mesh), Err(refusal));
         assert_eq!(mesh, former_mesh(), "{refusal:?}: the mesh is as it was");
+        let mut bins = [BinId(9); 2];
+        assert_eq!(lent::nearest_bins(body.view(), &[], [0; 3], &mut bins), Err(refusal));
+        assert_eq!(bins, [BinId(9); 2], "{refusal:?}: the bin list is as it was");
     }
 }
 

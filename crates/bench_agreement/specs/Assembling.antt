@@ -35,7 +35,9 @@ use Rattle.bench_agreement.specs.Answers.{or-same, orRefusal, pick, refu
 use Rattle.bench_agreement.specs.Within.{Within}
 use Rattle.bench_agreement.specs.Fronts.{text-fronts, written-front}
 use Rattle.bench_agreement.specs.Zeros.{acceptance-zeros, bad-zeros}
-use Rattle.bench_agreement.specs.Bodies.{Fitting, area-enough, beforeWork, before-tabled, checks-before, fitting, fitting-large}
+use Rattle.body_checks.specs.Accepted.{clean-before, checks-before}
+use Rattle.body_refusals.specs.BodyChecks.{beforeWork}
+use Rattle.bench_agreement.specs.Bodies.{Fitting, area-enough, fitting, fitting-large}
 
 -- ---- the sizes of a mesh
 
@@ -163,7 +165,7 @@ module _ (limits : Limits) (box : Aabb) (materials : List ℕ) (default : ℕ) (
           ≡ pick b (pick (badMaterials materials default) (refusalLine 42) saidIn) (refusalLine k)
       go k e true q =
           let z = e ∙ eqb-true k 0 q in
-          let fits = mesh-fits limits box materials default table ps ns is (before-tabled table ps ns is z) (room z) in
+          let fits = mesh-fits limits box materials default table ps ns is (clean-before table ps ns is z .tabled) (room z) in
           let out = clearedSlices limits (rowsOf table) work in
           ap (λ (a : AfterAssemble). printed (ended t s a))
           (assembled-by (rowsOf table) materials default acceptedIn out (not-short limits (length (rowsOf table)) acceptedIn (rowsOf table) work fits))
@@ -216,11 +218,11 @@ module _ (small large : Limits) (w : Within small large) where
       let patches = patchesOf rows ps ns is in
       let first = firstFailing (beforeWork table ps ns is) in
       let v = acceptance box materials default patches in
-      let room : first ≡ 0 → Fitting small rows = λ e. fitting small table ps ns is (before-tabled table ps ns is e) lt lp li in
+      let room : first ≡ 0 → Fitting small rows = λ e. fitting small table ps ns is (clean-before table ps ns is e .tabled) lt lp li in
       let text : first ≡ 0 → meshSaid u r (writeMesh (acceptance box (materials ++ replicate n 0) default patches) (clearedSlices large rows after))
       ≡ meshSaid t s (writeMesh v (clearedSlices small rows before)) =
       λ e.
-      let fits = mesh-fits small box materials default table ps ns is (before-tabled table ps ns is e) (room e) in
+      let fits = mesh-fits small box materials default table ps ns is (clean-before table ps ns is e .tabled) (room e) in
       ap (λ (a : Acceptance). meshSaid u r (writeMesh a (clearedSlices large rows after))) (acceptance-zeros box materials n default patches)
       ∙ (λ j. lines-same v (length rows) rows before after fits j ++ counts-same v rows before after t u s r et ea es j) in
       assembled-text large box (materials ++ replicate n 0) default table ps ns is after u r (λ e. fitting-large small large rows w (room e)) la

@@ -18,7 +18,9 @@ use Rattle.bench_definition.specs.Finish.{Outcome, Refused, Sheet, area, finish
 use Rattle.sheet_meaning.specs.Bench.{printed}
 use Rattle.bench_agreement.specs.Answers.{or-unless, orRefusal, pick, refusal-printed}
 use Rattle.bench_agreement.specs.Within.{Spacious, Within}
-use Rattle.bench_agreement.specs.Bodies.{Fitting, area-enough, beforeWork, before-tabled, checks-before, cleared-length, fitting, fitting-large}
+use Rattle.body_checks.specs.Accepted.{clean-before, checks-before}
+use Rattle.body_refusals.specs.BodyChecks.{beforeWork}
+use Rattle.bench_agreement.specs.Bodies.{Fitting, area-enough, cleared-length, fitting, fitting-large}
 use Rattle.bench_agreement.specs.Stitching.{stitch-said, withFaces}
 
 -- what the calls give, by turn's answer
@@ -64,7 +66,7 @@ module _ (small large : Limits) (w : Within small large) (spacious : Spacious sm
   room e =
       let ps = map f32 (x .positions) in
       let ns = map f32 (x .normals) in
-      fitting small (x .table) ps ns (x .indices) (before-tabled (x .table) ps ns (x .indices) e) few-rows
+      fitting small (x .table) ps ns (x .indices) (clean-before (x .table) ps ns (x .indices) e .tabled) few-rows
       (omega (arith, length-map (x .positions) f32, few-vertices, spacious .vertices)) (omega (arith, few-indices, spacious .indices))
 
   -- and is stitched alike

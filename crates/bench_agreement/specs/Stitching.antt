@@ -29,7 +29,9 @@ use Rattle.sheet_meaning.specs.Bench.{printed}
 use Rattle.bench_agreement.specs.Answers.{or-same, or-unless, orRefusal, pick, refusal-printed}
 use Rattle.bench_agreement.specs.Within.{Within}
 use Rattle.bench_agreement.specs.Fronts.{written-front}
-use Rattle.bench_agreement.specs.Bodies.{Fitting, area-enough, beforeWork, checks-before, cleared-length, fitting-large}
+use Rattle.body_checks.specs.Accepted.{checks-before}
+use Rattle.body_refusals.specs.BodyChecks.{beforeWork}
+use Rattle.bench_agreement.specs.Bodies.{Fitting, area-enough, cleared-length, fitting-large}
 use Rattle.bench_agreement.specs.Assembling.{assemble-said, ended}
 
 -- ---- 33, then 32

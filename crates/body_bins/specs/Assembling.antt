@@ -8,7 +8,7 @@ use native.Mathlib.Omega.{arith}
 use lib.ListN.{length, drop, length-map}
 use lib.Dec.{ltb, eqb}
 use lib.Ieee.{Float}
-use Rattle.lists.specs.Lists.{sumOf, written}
+use Rattle.lists.specs.Lists.{insertNew, sumOf, written}
 use Rattle.point_rules.specs.Points.{bits}
 use Rattle.body_rows.specs.Body.{Row, Patch, check, rowsOf, patchesOf, firstFailing}
 use Rattle.body_refusals.specs.BodyChecks.{bodyChecks}
@@ -18,7 +18,7 @@ use Rattle.mesh_verdicts.specs.declared.Failure.the-variants.{Empty, Upstream, 
 use Rattle.mesh_verdicts.specs.Failures.{failureOf}
 use Rattle.mesh_materials.specs.Materials.{materialOf, badMaterials}
 use Rattle.mesh_acceptance.specs.Acceptance.{failureWidth, Accepted, Failed, Acceptance, withPatch, acceptance, acceptedVertices, acceptedIndices, failureNumbers}
-use Rattle.mesh_layout.specs.Mesh.{partWidth, rangeWidth, Vertices, Laid, verticesOf, writtenVertices, laidFrom, insertNew, materialsOf, runOf, runsOf, startOf, partOf, rangeOf, rangesFrom}
+use Rattle.mesh_layout.specs.Mesh.{partWidth, rangeWidth, Vertices, Laid, verticesOf, writtenVertices, laidFrom, materialsOf, runOf, runsOf, startOf, partOf, rangeOf, rangesFrom}
 use Rattle.mesh_counts.specs.Counts.{Counts, countsOf, closedBy}
 use Rattle.mesh_room.specs.Slices.{MeshSlices, meshTooShort, tooShort, meshChecks}
 use Rattle.mesh_definition.specs.Assemble.{AfterAssemble, meshOf, refuseMesh, writeMesh, clearedMesh, assembleOrRefuse, assembleOf}

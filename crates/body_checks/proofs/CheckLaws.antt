@@ -1,7 +1,7 @@
 -- The checks of a body and of a patch alone, put together from their parts. Assumes nothing.
-use mathlib.Core.Path.{_≡_, refl, sym, ap, _∙_}
+use mathlib.Core.Path.{_≡_, refl, sym, ap, _∙_, subst}
 use mathlib.Core.Bool.{Bool, true, false, not, _||_}
-use mathlib.Core.List.{List, [], _∷_, _++_, append-assoc}
+use mathlib.Core.List.{List, [], _∷_, _++_}
 use Prim.Native.Nat.{ℕ, _*_, _/_, _%_, _≤_, _<_}
 use native.Mathlib.Omega.{arith}
 use lib.ListN.{length}
@@ -11,11 +11,11 @@ use borrow.Author.Tests.{eq-eqb, ne-eqb, lt-ltb, le-ltb, ltb-false}
 use Rattle.lists.specs.Lists.{any, all}
 use Rattle.lists.specs.Any.{any-one}
 use Rattle.body_table_checks.specs.Tabled.{Tabled, tabled}
-use Rattle.body_checks.specs.Accepted.{lone-vertices, lone-indices, lone-inside}
+use Rattle.body_checks.specs.Accepted.{clean-before, before-numbered, checks-before, lone-vertices, lone-indices, lone-inside}
 use Rattle.body_rows.specs.Body.{Row, Patch, check, rowsOf, patchesOf, allVertices, allIndices, firstFailing, workNeeded}
 use Rattle.body_refusals.specs.TableChecks.{badRow, badBin, tooLarge, tableChecks}
 use Rattle.body_refusals.specs.PatchChecks.{badIndices, patchChecks}
-use Rattle.body_refusals.specs.BodyChecks.{bodyChecks, loneTable, loneChecks}
+use Rattle.body_refusals.specs.BodyChecks.{beforeWork, bodyChecks, loneTable, loneChecks}
 use Rattle.body_table_checks.specs.TableTests.{notWhole}
 use Rattle.body_patch_checks.specs.PatchTests.{partTriangle, notFinite, any-indices}
 use Rattle.body_rows.specs.Checks.{numbered, first-here, first-next, first-none, first-stop, first-on}
@@ -24,55 +24,48 @@ use Rattle.body_rows.specs.Rows.{Total, WholeRows}
 use Rattle.body_table_checks.specs.TableFirst as Table
 use Rattle.body_patch_checks.specs.PatchFirst as Patch′
 
--- ---- every check has a number above 0
+-- ---- every check of the table has a number above 0
 table-numbered : (table : List ℕ) (rows : List Row) (ps ns : List Float) (is : List ℕ) → all numbered (tableChecks table rows ps ns is) ≡ true
 unfolding tableChecks all
 table-numbered table rows ps ns is = refl
-
--- and of the patches
-patch-numbered : (patches : List Patch) → all numbered (patchChecks patches) ≡ true
-unfolding patchChecks all
-patch-numbered patches = refl
 
 -- ---- the checks of the table have passed
 pub table-passed : (table : List ℕ) (ps ns : List Float) (is : List ℕ) {t : ℕ} → t ≡ firstFailing (tableChecks table (rowsOf table) ps ns is) → t ≡ 0 → Tabled table ps ns is
 table-passed table ps ns is e z = tabled table ps ns is (sym e ∙ z)
 
--- so the table is whole rows
-pub rows-passed : (table : List ℕ) (ps ns : List Float) (is : List ℕ) {t : ℕ} → t ≡ firstFailing (tableChecks table (rowsOf table) ps ns is) → t ≡ 0 → WholeRows table
-rows-passed table ps ns is e z = tabled table ps ns is (sym e ∙ z) .rows
+-- ---- the checks before 31
+module _ (table : List ℕ) (ps ns : List Float) (is : List ℕ) {t : ℕ} (et : t ≡ firstFailing (tableChecks table (rowsOf table) ps ns is)) where
+  -- a check of the table fails
+  pub before-table : (t ≡ 0 → ⊥) → t ≡ firstFailing (beforeWork table ps ns is)
+  unfolding beforeWork
+  before-table h = et ∙ first-stop (tableChecks table (rowsOf table) ps ns is) _ (λ z. h (et ∙ z))
+
+  -- none does: the checks of the patches decide
+  pub before-patch : {p : ℕ} → t ≡ 0 → p ≡ firstFailing (patchChecks (patchesOf (rowsOf table) ps ns is)) → p ≡ firstFailing (beforeWork table ps ns is)
+  unfolding beforeWork
+  before-patch z ep = ep ∙ first-on (tableChecks table (rowsOf table) ps ns is) _ (table-numbered table (rowsOf table) ps ns is) (sym et ∙ z)
 
 -- ---- a body
-module _ (table : List ℕ) (ps ns : List Float) (is : List ℕ) (words : ℕ) {t : ℕ} (et : t ≡ firstFailing (tableChecks table (rowsOf table) ps ns is)) where
-  -- a check of the table fails
-  pub body-table : (t ≡ 0 → ⊥) → t ≡ firstFailing (bodyChecks table ps ns is words)
+module _ (table : List ℕ) (ps ns : List Float) (is : List ℕ) (words : ℕ) {n : ℕ} (en : n ≡ firstFailing (beforeWork table ps ns is)) where
+  -- a check before 31 fails
+  pub body-before : (n ≡ 0 → ⊥) → n ≡ firstFailing (bodyChecks table ps ns is words)
   unfolding bodyChecks
-  body-table h = et ∙ first-stop (tableChecks table (rowsOf table) ps ns is) _ (λ z. h (et ∙ z)) ∙ ap firstFailing (sym (append-assoc (tableChecks table (rowsOf table) ps ns is) _ _))
+  body-before h = en ∙ first-stop (beforeWork table ps ns is) _ (λ z. h (en ∙ z))
 
-  module _ (zt : t ≡ 0) {p : ℕ} (ep : p ≡ firstFailing (patchChecks (patchesOf (rowsOf table) ps ns is))) where
-    -- none does: the rest decides
-    on-table : firstFailing (patchChecks (patchesOf (rowsOf table) ps ns is) ++ check 31 (ltb words (workNeeded (rowsOf table))) ∷ []) ≡ firstFailing (bodyChecks table ps ns is words)
-    unfolding bodyChecks
-    on-table =
-        first-on (tableChecks table (rowsOf table) ps ns is) _ (table-numbered table (rowsOf table) ps ns is) (sym et ∙ zt)
-        ∙ ap firstFailing (sym (append-assoc (tableChecks table (rowsOf table) ps ns is) _ _))
+  module _ (z : n ≡ 0) where
+    -- so the table is whole rows
+    pub rows-passed : WholeRows table
+    rows-passed = clean-before table ps ns is (sym en ∙ z) .tabled .rows
 
-    -- a check of the patches fails
-    pub body-patch : (p ≡ 0 → ⊥) → p ≡ firstFailing (bodyChecks table ps ns is words)
-    body-patch h = ep ∙ first-stop (patchChecks (patchesOf (rowsOf table) ps ns is)) _ (λ z. h (ep ∙ z)) ∙ on-table
-
-    module _ (zp : p ≡ 0) {w : ℕ} (ew : w ≡ workNeeded (rowsOf table)) where
-      -- none does: the words decide
-      on-patch : firstFailing (check 31 (ltb words (workNeeded (rowsOf table))) ∷ []) ≡ firstFailing (bodyChecks table ps ns is words)
-      on-patch = first-on (patchChecks (patchesOf (rowsOf table) ps ns is)) _ (patch-numbered (patchesOf (rowsOf table) ps ns is)) (sym ep ∙ zp) ∙ on-table
-
+    module _ {w : ℕ} (ew : w ≡ workNeeded (rowsOf table)) where
       -- the work area is too small
       pub body-words : words < w → 31 ≡ firstFailing (bodyChecks table ps ns is words)
-      body-words h = first-here 31 [] (ap (ltb words) (sym ew) ∙ lt-ltb words w h) ∙ on-patch
+      unfolding bodyChecks
+      body-words h = first-here 31 [] (ap (ltb words) (sym ew) ∙ lt-ltb words w h) ∙ first-on (beforeWork table ps ns is) _ (before-numbered table ps ns is) (sym en ∙ z)
 
       -- it is large enough
       pub body-none : w ≤ words → 0 ≡ firstFailing (bodyChecks table ps ns is words)
-      body-none h = first-none ∙ first-next 31 [] (ap (ltb words) (sym ew) ∙ le-ltb words w h) ∙ on-patch
+      body-none h = sym (checks-before table ps ns is words (λ e. subst (λ (k : ℕ). k ≤ words) ew h) ∙ sym en ∙ z)
 
 -- ---- a patch alone
 module _ (ps ns : List Float) (is : List ℕ) where
@@ -162,13 +155,13 @@ module _ (ps ns : List Float) (is : List ℕ) where
         pub lone-none : d ≡ false → 0 ≡ firstFailing (patchChecks (patchesOf (rowsOf (loneTable ps is)) ps ns is))
         lone-none h = Patch′.fails-no-patch (loneTable ps is) ps ns is ok lone-parts whole-triangles (eb ∙ inside-is) pb ed h
 
-  module _ {t : ℕ} (et : t ≡ firstFailing (tableChecks (loneTable ps is) (rowsOf (loneTable ps is)) ps ns is)) where
-    -- a check of the table fails
-    pub lone-table : (t ≡ 0 → ⊥) → t ≡ firstFailing (loneChecks ps ns is)
-    unfolding loneChecks
-    lone-table h = et ∙ first-stop (tableChecks (loneTable ps is) (rowsOf (loneTable ps is)) ps ns is) _ (λ z. h (et ∙ z))
+  -- a check of its table fails
+  pub lone-table : {t : ℕ} → t ≡ firstFailing (tableChecks (loneTable ps is) (rowsOf (loneTable ps is)) ps ns is) → (t ≡ 0 → ⊥) → t ≡ firstFailing (loneChecks ps ns is)
+  unfolding loneChecks
+  lone-table et h = before-table (loneTable ps is) ps ns is et h
 
-    -- none does: the checks of the patch decide
-    pub lone-patch : {p : ℕ} → t ≡ 0 → p ≡ firstFailing (patchChecks (patchesOf (rowsOf (loneTable ps is)) ps ns is)) → p ≡ firstFailing (loneChecks ps ns is)
-    unfolding loneChecks
-    lone-patch z ep = ep ∙ first-on (tableChecks (loneTable ps is) (rowsOf (loneTable ps is)) ps ns is) _ (table-numbered (loneTable ps is) (rowsOf (loneTable ps is)) ps ns is) (sym et ∙ z)
+  -- none does: the checks of the patch decide
+  pub lone-patch : {t p : ℕ} → t ≡ firstFailing (tableChecks (loneTable ps is) (rowsOf (loneTable ps is)) ps ns is) → t ≡ 0
+      → p ≡ firstFailing (patchChecks (patchesOf (rowsOf (loneTable ps is)) ps ns is)) → p ≡ firstFailing (loneChecks ps ns is)
+  unfolding loneChecks
+  lone-patch et z ep = before-patch (loneTable ps is) ps ns is et z ep

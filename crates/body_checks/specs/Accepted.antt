@@ -1,56 +1,92 @@
 -- What a body has once its checks have passed. Assumes nothing.
 use mathlib.Core.Path.{_≡_, refl, sym, ap, _∙_, subst}
 use mathlib.Core.Bool.{true, false, not}
-use mathlib.Core.List.{List, [], _∷_}
-use Prim.Native.Nat.{ℕ, _+_, _*_, _/_, _%_, _≤_, _<_}
+use mathlib.Core.List.{List, [], _∷_, _++_}
+use Prim.Native.Nat.{ℕ, zero, suc, _+_, _*_, _/_, _%_, _≤_, _<_}
 use native.Mathlib.Nat.{add-zero}
 use native.Mathlib.Omega.{arith}
 use lib.ListN.{length, getD, take, drop, length-drop}
 use lib.Seq.{length-take-le, getD-take, getD-drop, take-length}
 use lib.Dec.{leb, ltb, eqb}
 use lib.Ieee.{Float, nan}
-use borrow.Author.Tests.{ltb-false, leb-false, eqb-true, not-false, ne-eqb}
+use borrow.Author.Tests.{le-ltb, ltb-false, leb-false, eqb-true, not-false, ne-eqb}
 use Rattle.float_steps.specs.Floats.{finite}
-use Rattle.lists.specs.Lists.{any, sumOf}
+use Rattle.lists.specs.Lists.{all, any, sumOf}
 use Rattle.lists.specs.Any.{any-none, any-one}
-use Rattle.body_rows.specs.Body.{rowWidth, Row, rowsOf, patchesOf, allVertices, allIndices, firstFailing, workNeeded}
+use Rattle.body_rows.specs.Body.{rowWidth, Row, check, rowsOf, patchesOf, allVertices, allIndices, firstFailing, workNeeded}
 use Rattle.body_refusals.specs.TableChecks.{mostBin, badRow, badBin, tableChecks}
 use Rattle.body_refusals.specs.PatchChecks.{badIndices, patchChecks}
-use Rattle.body_refusals.specs.BodyChecks.{bodyChecks, loneTable, loneChecks}
+use Rattle.body_refusals.specs.BodyChecks.{beforeWork, bodyChecks, loneTable, loneChecks}
 use Rattle.body_rows.specs.Rows.{rowAt, noRow, indicesBefore, verticesBefore, WholeRows}
 use Rattle.body_rows.specs.Patches.{noPatch, patchFrom, patch-at, length-patches, indices-room, any-row, any-number}
 use Rattle.body_patch_checks.specs.PatchTests.{partTriangle, notFinite}
-use Rattle.body_rows.specs.Checks.{clear-first}
+use Rattle.body_rows.specs.Checks.{clear-first, first-next, first-none, first-on, first-stop, numbered}
 use Rattle.lists.specs.Both.{or-left, or-right}
-use Rattle.body_table_checks.specs.Tabled.{Tabled, tabled-by, tabled}
-use Rattle.body_patch_checks.specs.Patched.{Patched, patched}
+use Rattle.body_table_checks.specs.Tabled.{Tabled, tabled-by}
+use Rattle.body_patch_checks.specs.Patched.{Patched}
 
--- what all the checks give, as the tests stand in the definitions
-pub record Clean (table : List ℕ) (ps ns : List Float) (is : List ℕ) (words : ℕ) : Type 0 where
+-- ---- the checks before that of the work area
+
+-- what they give, as the tests stand in the definitions
+pub record CleanBefore (table : List ℕ) (ps ns : List Float) (is : List ℕ) : Type 0 where
   -- the checks 11 to 15 have passed
   pub tabled : Tabled table ps ns is
   -- the checks 21 to 23 have passed
   pub patched : Patched (patchesOf (rowsOf table) ps ns is)
-  pub enough : workNeeded (rowsOf table) ≤ words
 
--- all checks have passed
-pub clean : (table : List ℕ) (ps ns : List Float) (is : List ℕ) (words : ℕ) → firstFailing (bodyChecks table ps ns is words) ≡ 0 → Clean table ps ns is words
-unfolding bodyChecks tableChecks patchChecks
-clean table ps ns is words h =
-    let c11 = clear-first 10 _ _ h in
-    let c12 = clear-first 11 _ _ (c11 .rest) in
-    let c13 = clear-first 12 _ _ (c12 .rest) in
-    let c14 = clear-first 13 _ _ (c13 .rest) in
-    let c15 = clear-first 14 _ _ (c14 .rest) in
-    let c21 = clear-first 20 _ _ (c15 .rest) in
-    let c22 = clear-first 21 _ _ (c21 .rest) in
-    let c23 = clear-first 22 _ _ (c22 .rest) in
-    let c31 = clear-first 30 _ _ (c23 .rest) in
-    record {
-      tabled = tabled-by table ps ns is (c11 .here) (c12 .here) (c13 .here) (c14 .here) (c15 .here);
-      patched = record { threes = c21 .here; inside = c22 .here; numbers = c23 .here };
-      enough = ltb-false words (workNeeded (rowsOf table)) (c31 .here);
-    }
+module _ (table : List ℕ) (ps ns : List Float) (is : List ℕ) where
+  -- they have passed
+  pub clean-before : firstFailing (beforeWork table ps ns is) ≡ 0 → CleanBefore table ps ns is
+  unfolding beforeWork tableChecks patchChecks
+  clean-before h =
+      let c11 = clear-first 10 _ _ h in
+      let c12 = clear-first 11 _ _ (c11 .rest) in
+      let c13 = clear-first 12 _ _ (c12 .rest) in
+      let c14 = clear-first 13 _ _ (c13 .rest) in
+      let c15 = clear-first 14 _ _ (c14 .rest) in
+      let c21 = clear-first 20 _ _ (c15 .rest) in
+      let c22 = clear-first 21 _ _ (c21 .rest) in
+      let c23 = clear-first 22 _ _ (c22 .rest) in
+      record {
+        tabled = tabled-by table ps ns is (c11 .here) (c12 .here) (c13 .here) (c14 .here) (c15 .here);
+        patched = record { threes = c21 .here; inside = c22 .here; numbers = c23 .here };
+      }
+
+  -- each of them has a number above 0
+  pub before-numbered : all numbered (beforeWork table ps ns is) ≡ true
+  unfolding beforeWork tableChecks patchChecks all
+  before-numbered = refl
+
+  -- Where the work area suffices, they decide.
+  pub checks-before : (words : ℕ) → (firstFailing (beforeWork table ps ns is) ≡ 0 → workNeeded (rowsOf table) ≤ words)
+      → firstFailing (bodyChecks table ps ns is words) ≡ firstFailing (beforeWork table ps ns is)
+  unfolding bodyChecks
+  checks-before words enough = go (firstFailing (beforeWork table ps ns is)) refl
+    where
+      go : (k : ℕ) → firstFailing (beforeWork table ps ns is) ≡ k → firstFailing (beforeWork table ps ns is ++ check 31 (ltb words (workNeeded (rowsOf table))) ∷ [])
+          ≡ firstFailing (beforeWork table ps ns is)
+      go zero e =
+          sym (first-on (beforeWork table ps ns is) (check 31 (ltb words (workNeeded (rowsOf table))) ∷ []) before-numbered e)
+          ∙ sym (first-none ∙ first-next 31 [] (le-ltb words (workNeeded (rowsOf table)) (enough e)))
+          ∙ sym e
+      go (suc k) e = sym (first-stop (beforeWork table ps ns is) (check 31 (ltb words (workNeeded (rowsOf table))) ∷ []) (λ z. omega arith))
+
+  module _ (words : ℕ) (h : firstFailing (bodyChecks table ps ns is words) ≡ 0) where
+    -- where all checks have passed, these have
+    pub before-passed : firstFailing (beforeWork table ps ns is) ≡ 0
+    unfolding bodyChecks
+    before-passed = go (firstFailing (beforeWork table ps ns is)) refl
+      where
+        go : (k : ℕ) → firstFailing (beforeWork table ps ns is) ≡ k → k ≡ 0
+        go zero e = refl
+        go (suc k) e = sym e ∙ first-stop (beforeWork table ps ns is) _ (λ z. omega arith) ∙ h
+
+    -- and the work area has its words
+    pub enough-words : workNeeded (rowsOf table) ≤ words
+    unfolding bodyChecks
+    enough-words = ltb-false words (workNeeded (rowsOf table)) (clear-first 30 _ _ (first-on (beforeWork table ps ns is) _ before-numbered before-passed ∙ h) .here)
+
+-- ---- a body that was accepted
 
 -- What a caller may go by in a body that was accepted: each fact of its rows, slices and work area.
 pub record Passed (table : List ℕ) (ps ns : List Float) (is : List ℕ) (words : ℕ) : Type 0 where
@@ -112,7 +148,7 @@ inside-at table ps ns is fit e k j h l =
 pub passed : (table : List ℕ) (ps ns : List Float) (is : List ℕ) (words : ℕ) → firstFailing (bodyChecks table ps ns is words) ≡ 0 → Passed table ps ns is words
 unfolding rowAt
 passed table ps ns is words h =
-    let c = clean table ps ns is words h in
+    let c = clean-before table ps ns is (before-passed table ps ns is words h) in
     let t = c .tabled in
     let rows = rowsOf table in
     let numbers = sym (any-number notFinite rows ps ns is (t .all-positions) (t .all-normals)) ∙ c .patched .numbers in
@@ -132,7 +168,7 @@ passed table ps ns is words h =
       inside = inside-at table ps ns is (t .all-indices) (c .patched .inside);
       finite-positions = finite-at ps (or-left (any notFinite ps) (any notFinite ns) numbers);
       finite-normals = finite-at ns (or-right (any notFinite ps) (any notFinite ns) numbers);
-      enough = c .enough;
+      enough = enough-words table ps ns is words h;
     }
 
 -- an accepted body's table is whole rows, and not too many
@@ -175,28 +211,21 @@ module _ (ps ns : List Float) (is : List ℕ) where
 
   -- the checks of a patch alone have passed
   pub passed-alone : firstFailing (loneChecks ps ns is) ≡ 0 → PassedAlone ps ns is
-  unfolding loneChecks tableChecks patchChecks
+  unfolding loneChecks
   passed-alone h =
-      let c11 = clear-first 10 _ _ h in
-      let c12 = clear-first 11 _ _ (c11 .rest) in
-      let c13 = clear-first 12 _ _ (c12 .rest) in
-      let c14 = clear-first 13 _ _ (c13 .rest) in
-      let c15 = clear-first 14 _ _ (c14 .rest) in
-      let c21 = clear-first 20 _ _ (c15 .rest) in
-      let c22 = clear-first 21 _ _ (c21 .rest) in
-      let c23 = clear-first 22 _ _ (c22 .rest) in
-      let t = tabled-by (loneTable ps is) ps ns is (c11 .here) (c12 .here) (c13 .here) (c14 .here) (c15 .here) in
+      let c = clean-before (loneTable ps is) ps ns is h in
+      let t = c .tabled in
       let rows = rowsOf (loneTable ps is) in
-      let numbers = sym (any-number notFinite rows ps ns is (t .all-positions) (t .all-normals)) ∙ c23 .here in
+      let numbers = sym (any-number notFinite rows ps ns is (t .all-positions) (t .all-normals)) ∙ c .patched .numbers in
       let three : partTriangle (record { shell = 0; face = 0; outcome = 0; vertices = length ps / 3; indices = length is; bin = 0 }) ≡ false =
-      sym (any-one partTriangle _) ∙ ap (any partTriangle) (sym lone-rows) ∙ sym (any-row partTriangle rows ps ns is) ∙ c21 .here in
+      sym (any-one partTriangle _) ∙ ap (any partTriangle) (sym lone-rows) ∙ sym (any-row partTriangle rows ps ns is) ∙ c .patched .threes in
       record {
         vertices = omega (arith, t .all-positions, lone-vertices);
         all-normals = omega (arith, t .all-positions, t .all-normals);
         few-positions = omega (arith, t .all-positions, t .vertices);
         few-indices = omega (arith, t .indices, lone-indices);
         threes = eqb-true (length is % 3) 0 (not-false (eqb (length is % 3) 0) three);
-        inside = λ k l. below (getD is k 0) (leb-false (length ps / 3) (getD is k 0) (any-none (λ i. leb (length ps / 3) i) is 0 (sym lone-inside ∙ c22 .here) k l));
+        inside = λ k l. below (getD is k 0) (leb-false (length ps / 3) (getD is k 0) (any-none (λ i. leb (length ps / 3) i) is 0 (sym lone-inside ∙ c .patched .inside) k l));
         finite-positions = finite-at ps (or-left (any notFinite ps) (any notFinite ns) numbers);
         finite-normals = finite-at ns (or-right (any notFinite ps) (any notFinite ns) numbers);
       }

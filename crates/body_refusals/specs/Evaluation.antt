@@ -3,9 +3,9 @@ use Prim.Native.Nat.{ℕ}
 use Rattle.body_rows.specs.Evaluation as Body
 use Rattle.body_refusals.specs.TableChecks.{badRow, badBin, tooLarge, tableChecks}
 use Rattle.body_refusals.specs.PatchChecks.{badIndices, patchChecks}
-use Rattle.body_refusals.specs.BodyChecks.{bodyChecks, loneTable, loneChecks}
+use Rattle.body_refusals.specs.BodyChecks.{beforeWork, bodyChecks, loneTable, loneChecks}
 
 -- every definition that computes
 unfoldable pub evaluation : ℕ
-unfolding Body.evaluation badRow badBin tooLarge tableChecks badIndices patchChecks bodyChecks loneTable loneChecks
+unfolding Body.evaluation badRow badBin tooLarge tableChecks badIndices patchChecks beforeWork bodyChecks loneTable loneChecks
 evaluation = 0

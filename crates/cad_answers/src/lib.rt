@@ -2,6 +2,7 @@
 
 mod assembling;
 mod patch;
+mod pegs;
 mod plans;
 mod stitching;
 mod turning;
@@ -13,6 +14,8 @@ pub use patch::CadMeasured;
 pub use patch::box_of;
 pub use patch::judged_answer;
 pub use patch::measured_answer;
+pub use pegs::CadNearestBins;
+pub use pegs::nearest_answer;
 pub use plans::CadPlanRead;
 pub use plans::CadPlanWritten;
 pub use plans::listing_answer;

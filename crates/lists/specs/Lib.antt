@@ -9,3 +9,4 @@ pub mod Table
 pub mod Evaluation
 pub mod Both
 pub mod Members
+pub mod Rising

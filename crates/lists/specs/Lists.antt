@@ -4,6 +4,7 @@ use mathlib.Core.List.{List, [], _∷_, _++_}
 use mathlib.Core.Option.{Option, none, some}
 use Prim.Native.Nat.{ℕ, zero, suc, _+_}
 use lib.ListN.{length, drop}
+use lib.Dec.{ltb, eqb}
 
 module _ {A : Type 0} where
   -- whether one of the items passes
@@ -45,3 +46,13 @@ module _ {A : Type 0} where
   -- Output beyond the written part is unchanged: a slice that held `old`, after xs was written to its front.
   unfoldable pub written : List A → List A → List A
   written xs old = xs ++ drop (length xs) old
+
+-- a number into an ascending list, once
+unfoldable pub insertNew : ℕ → List ℕ → List ℕ
+insertNew n [] = n ∷ []
+insertNew n (x ∷ xs) = let rest = x ∷ insertNew n xs in cond (ltb n x) (n ∷ x ∷ xs) (cond (eqb n x) (x ∷ xs) rest)
+
+-- numbers in ascending order, each once
+unfoldable pub ascending : List ℕ → List ℕ
+ascending [] = []
+ascending (n ∷ ns) = insertNew n (ascending ns)

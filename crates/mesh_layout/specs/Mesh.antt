@@ -5,7 +5,7 @@ use Prim.Native.Nat.{ℕ, _+_}
 use lib.ListN.{length}
 use lib.Dec.{ltb, eqb}
 use lib.Ieee.{Float}
-use Rattle.lists.specs.Lists.{sumOf, written}
+use Rattle.lists.specs.Lists.{insertNew, sumOf, written}
 use Rattle.mesh_acceptance.specs.Acceptance.{Accepted}
 
 -- ---- the mesh's vertices, as they are held
@@ -37,11 +37,6 @@ unfoldable pub laidFrom : ℕ → List Accepted → List Laid
 laidFrom base [] = []
 laidFrom base (a ∷ rest) =
     record { face = a .patch .row .face; bin = a .patch .row .bin; material = a .material; indices = map (λ i. base + i) (a .patch .indices) } ∷ laidFrom (base + a .patch .row .vertices) rest
-
--- a number into an ascending list, once
-unfoldable pub insertNew : ℕ → List ℕ → List ℕ
-insertNew n [] = n ∷ []
-insertNew n (x ∷ xs) = let rest = x ∷ insertNew n xs in cond (ltb n x) (n ∷ x ∷ xs) (cond (eqb n x) (x ∷ xs) rest)
 
 -- the materials of the accepted patches, ascending
 unfoldable pub materialsOf : List Laid → List ℕ

@@ -11,7 +11,8 @@ use lib.Dec.{eqb}
 use Rattle.lists.specs.Lists.{sumOf}
 use Rattle.mesh_layout.specs.Mesh.{Laid, materialsOf, runOf, runsOf}
 use Rattle.lists.specs.Members.{Has}
-use Rattle.mesh_layout.specs.MaterialLaws.{laidMaterials, materials-have, Rising, rising-has, materials-rise}
+use Rattle.mesh_layout.specs.MaterialLaws.{laidMaterials, materials-have, materials-rise}
+use Rattle.lists.specs.Rising.{Rising, rising-has}
 
 -- what a patch adds to the runs of some materials
 added : ℕ → List ℕ → List ℕ → ℕ

@@ -18,7 +18,8 @@ use Rattle.mesh_layout.specs.Mesh.{partWidth, Laid, materialsOf, runOf, runsOf,
 use Rattle.mesh_layout.specs.JudgedRows.{JudgedRow, judgedRows, judgedIn, laidBy, runBy, indicesWith}
 use Rattle.mesh_layout.specs.RowLaws.{judged-long}
 use Rattle.mesh_layout.specs.LaidLaws.{run-by, run-long, judged-indices, laid-low, laid-few, laid-has, has-laid}
-use Rattle.mesh_layout.specs.MaterialLaws.{materials-have, have-materials, materials-rise, rising-all, rising-from, rising-none, start-same, start-next, start-low, start-none, materials-few}
+use Rattle.lists.specs.Rising.{rising-all, rising-from, rising-none}
+use Rattle.mesh_layout.specs.MaterialLaws.{materials-have, have-materials, materials-rise, start-same, start-next, start-low, start-none, materials-few}
 use Rattle.mesh_layout.specs.Parts.{laidIn, RunsWritable, RunsWritten}
 use Rattle.mesh_material_order.specs.Order.{placeWord, orderWord, Orderable, RowAt, Ordered, RowsOrdered, OrderRoom, FirstAccepted}
 use Rattle.mesh_runs.specs.Runs.{RunWritable, RunWritten}

@@ -7,6 +7,7 @@ use native.Mathlib.Omega.{arith}
 use lib.IntN.{ℤ}
 use lib.ListN.{length, drop}
 use Rattle.lists.specs.Lists.{written}
+use Rattle.slice_front.specs.FrontLaws.{front-none}
 use Rattle.slice_append.specs.Appended.{Appended, appended-written}
 use Rattle.plan_definition.specs.Places.{total}
 use Rattle.plan_definition.specs.Grammar.{Entry}
@@ -34,11 +35,6 @@ start-ready text w room n e q = subst (λ (x : SumWords). Ready text 0 x 0 room)
 stands : (w : SumWords) → w ≡ originWords → Stands [] 0 w
 unfolding total
 stands w e = subst (Stands [] 0) (sym e) (record { deep = refl; sum-is = refl })
-
--- an empty list before another
-no-more : (W0 E : List ℤ) → length W0 ≡ 0 → W0 ++ E ≡ E
-no-more [] E h = refl
-no-more (x ∷ W0) E h = absurd (omega arith)
 
 -- the whole text was read without a refusal, or with one
 module _ (text : List ℕ) (w : SumWords) (room : ℕ) (E W : List ℤ) (s : Step) (e : w ≡ originWords) (v : GroupRead text 0 w 0 0 room E W s) where
@@ -74,7 +70,7 @@ plan-refused text E W0 w room s e q v n = go (s .refusal) refl
         let is : readingOf text E ≡ Reading.Refused (suc k) = rw (here ∙ z, planOf) in
         record {
           answer = ap PlanAnswer.Refused z ∙ ap planAnswer (sym is);
-          list = no-more W0 E (v .read .long) ∙ ap (λ (x : Reading). listAfter x E) (sym is);
+          list = front-none W0 E (v .read .long) ∙ ap (λ (x : Reading). listAfter x E) (sym is);
         }
 
 -- A plan that no line refuses is listed in front of the list.
@@ -87,7 +83,7 @@ plan-listed text E W0 W w1 w2 room first second e1 e2 q v1 z1 v2 = go (second .r
     none-offends = passed text w1 room [] W0 first e1 v1 z1
 
     same : W0 ++ E ≡ E
-    same = no-more W0 E (v1 .read .long)
+    same = front-none W0 E (v1 .read .long)
 
     go : (k : ℕ) → second .refusal ≡ k → PlanRead text E W (PlanAnswer.Listed (second .count))
     go (suc k) z = absurd (omega (arith, none-offends, refused-by text w2 room (W0 ++ E) W second e2 v2 (λ n. omega arith)))

@@ -2,3 +2,4 @@
 pub mod Rounding
 pub mod Fields
 pub mod Signs
+pub mod Words

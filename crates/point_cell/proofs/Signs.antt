@@ -12,7 +12,7 @@ use mir.Val.{SFits, toZ, ofZ}
 use mir.ValLaws.{toZ-ofZ, toZ-pos}
 use lib.Dec.{leb, eqb, lit≤}
 use lib.Ieee.{Float, nan, inf, fin, binary32, odd, ofFields, toBits, fits}
-use Rattle.point_rules.specs.Points.{cell, cellSize, clamped, pattern}
+use Rattle.point_rules.specs.Points.{cell, nearestSize, cellSize, clamped, pattern}
 use Rattle.point_cell.proofs.Fields.{is}
 
 -- ---- the sign
@@ -30,18 +30,19 @@ clamp-once false n = ap pos (two n)
 
 -- a finite number
 odd-cell : (d : ℕ) (s : Bool) (q k l : ℕ) → cell (odd d s q k l) ≡ clamped s (cellSize (odd d s q k l))
-unfolding odd cell cellSize
+unfolding odd cell nearestSize
 odd-cell d s zero k l = clamp-once s _
 odd-cell d s (suc q) k l = clamp-once s _
 
 -- an infinity
 inf-cell : (s : Bool) → cell (inf s) ≡ clamped s (cellSize (inf s))
-unfolding cell cellSize
-inf-cell s = refl
+unfolding cell nearestSize
+inf-cell true = refl
+inf-cell false = refl
 
 -- a NaN
 nan-cell : (s : Bool) → cell nan ≡ clamped s (cellSize nan)
-unfolding cell cellSize
+unfolding cell nearestSize
 nan-cell true = refl
 nan-cell false = refl
 
@@ -89,10 +90,7 @@ lower-is k l = toZ-ofZ w64 _ (lower-fits k l) ∙ zero-less-is k l
 
 -- ---- the cell and its 64 bits, by the sign
 size-le : (x : Float) → cellSize x ≤ 2 ^ 63
-unfolding cellSize
-size-le nan = lit≤ tt
-size-le (inf s) = lit≤ tt
-size-le (fin s m e) = min-le-right _ _
+size-le x = min-le-right _ _
 
 module _ (x : Float) (b n : ℕ) (f : fits binary32 x ≡ true) (at : b ≡ toBits binary32 x) (size : n ≡ cellSize x) where
   -- the cell from the sign and the size

@@ -1,9 +1,13 @@
-// The cell of a coordinate, from the bits of its f32.
+// The cell of a coordinate, and the whole number nearest a multiple of it, from the bits of its f32.
 ghost use mathlib.Core.Path.{_≡_};
-ghost use Prim.Native.Nat.{_^_, _<_, min};
+ghost use Prim.Native.Nat.{_^_, _≤_, _<_, min};
 ghost use Rattle.float_round.specs.Integral.{halfUp};
 ghost use Rattle.point_rules.specs.Points as Points;
+ghost use Rattle.point_cell.specs.Scale.{NearestWord, Scale};
 use float_steps::bits_of_f32;
+
+// How many cells a unit of length has.
+const CELLS: u64 = 1000000;
 
 // 2^63: no cell is further from zero.
 const LIMIT: u64 = 9223372036854775808;
@@ -11,11 +15,11 @@ const LIMIT: u64 = 9223372036854775808;
 // The largest cell.
 const LARGEST: i64 = 9223372036854775807;
 
-// n, or 2^63 where that is less.
-fn limited(n: u64) -> u64
-    ensures { λ r. ⌜ r ≡ min n (2 ^ 63) ⌝ }
+// n, or the most that it may be.
+fn at_most(n: u64, most: u64) -> u64
+    ensures { λ r. ⌜ r ≡ min n most ⌝ }
 {
-    if n < LIMIT { n } else { LIMIT }
+    if n < most { n } else { most }
 }
 
 // q / 2 to the nearest whole number, a half up.
@@ -26,14 +30,16 @@ fn half_up(q: u64) -> u64
     (q + 1) / 2
 }
 
-// How far the cell is from zero: the 24 digits of v times 1,000,000 are below 2^44, so that one shift rounds them, a half up.
-fn cell_size(v: f32) -> u64
-    ensures { λ r. ⌜ r ≡ Points.cellSize v ⌝ }
+// How far the whole number nearest factor × v is from zero, or the most that is asked for: the 24 digits of v times the factor are below 2^44, so that one shift
+// rounds them, a half up.
+fn nearest_size(v: f32, factor: u64, most: u64) -> u64
+    requires { ⌜ Scale factor most ⌝ }
+    ensures { λ r. ⌜ r ≡ min (Points.nearestSize factor v) most ⌝ }
 {
     let b = bits_of_f32(v) as u64;
     let e = b % 2147483648 / 8388608;
     let t = b % 8388608;
-    let a = 1000000 * (8388608 + t);
+    let a = factor * (8388608 + t);
     if e < 105 {
         return 0;
     }
@@ -41,14 +47,35 @@ fn cell_size(v: f32) -> u64
         return half_up(a >> (149 - e));
     }
     if e < 171 {
-        return limited(a << (e - 150));
+        return at_most(a << (e - 150), most);
     }
     if e == 255 {
         if t != 0 {
             return 0;
         }
     }
-    LIMIT
+    most
+}
+
+// The word of the whole number nearest factor × v: `middle` more, so that it isn't negative, and no farther from it than it is from zero.
+pub fn nearest_word(v: f32, factor: u64, middle: u64) -> u64
+    requires { ⌜ Scale factor middle ⌝ }
+    requires { ⌜ middle ≤ 2 ^ 62 ⌝ }
+    ensures { λ r. ⌜ NearestWord factor middle v r ⌝ }
+{
+    let n = nearest_size(v, factor, middle);
+    if bits_of_f32(v) < 2147483648 {
+        middle + n
+    } else {
+        middle - n
+    }
+}
+
+// How far the cell is from zero, before the sign decides the clamp.
+fn cell_size(v: f32) -> u64
+    ensures { λ r. ⌜ r ≡ Points.cellSize v ⌝ }
+{
+    nearest_size(v, CELLS, LIMIT)
 }
 
 // The 64 bits of the cell of v.

@@ -21,11 +21,26 @@ cell nan = pos 0
 cell (inf s) = clamped s (2 ^ 63)
 cell (fin s m e) = clamped s (halfUp (1_000_000 * m * up e) (down e))
 
+-- How far the whole number nearest factor × v is from zero, halves away from zero: of a NaN 0; an infinity counts as 2^128, which no finite f32 reaches.
+unfoldable pub nearestSize : ℕ → Float → ℕ
+nearestSize factor nan = 0
+nearestSize factor (inf s) = factor * 2 ^ 128
+nearestSize factor (fin s m e) = halfUp (factor * m * up e) (down e)
+
+-- a magnitude with its sign (true is minus)
+abbrev pub signed : Bool → ℕ → ℤ
+signed true n = negℤ (pos n)
+signed false n = pos n
+
+-- the whole number nearest factor × v
+unfoldable pub nearest : ℕ → Float → ℤ
+nearest factor nan = pos 0
+nearest factor (inf s) = signed s (nearestSize factor (inf s))
+nearest factor (fin s m e) = signed s (nearestSize factor (fin s m e))
+
 -- how far the cell of v is from zero before the sign decides the clamp: at most 2^63
-unfoldable pub cellSize : Float → ℕ
-cellSize nan = 0
-cellSize (inf s) = 2 ^ 63
-cellSize (fin s m e) = min (halfUp (1_000_000 * m * up e) (down e)) (2 ^ 63)
+abbrev pub cellSize : Float → ℕ
+cellSize v = min (nearestSize 1_000_000 v) (2 ^ 63)
 
 -- whether two whole numbers are the same
 abbrev pub sameℤ : ℤ → ℤ → Bool

@@ -13,7 +13,7 @@ use Rattle.point_rules.specs.Rule.{Rule, names}
 use Rattle.join_definition.specs.Join.{joined}
 use Rattle.body_rows.specs.Body.{Row, Patch, rowsOf, patchesOf, allVertices, allIndices, firstFailing}
 use Rattle.body_refusals.specs.BodyChecks.{bodyChecks}
-use Rattle.body_checks.specs.Accepted.{Clean}
+use Rattle.body_checks.specs.Accepted.{CleanBefore}
 use Rattle.turn_definition.specs.Orient.{AfterTurn, walksOf, turnBody, refuseTurn, turnOf}
 use Rattle.turn_definition.specs.Reversal.{swapped, length-swapped, turnedPatch, turnedBody}
 use Rattle.turn_walk.specs.Walk.{coloured}
@@ -80,7 +80,7 @@ turn-is rule table ps ns is work h = ap (λ (k : ℕ). pick k) h
       | false ↦ refuseTurn n ns is work
     ]
 
-pub output-is : (rule : Rule) (table : List ℕ) (ps ns : List Float) (is work : List ℕ) {words : ℕ} → Clean table ps ns is words → firstFailing (bodyChecks table ps ns is (length work)) ≡ 0
+pub output-is : (rule : Rule) (table : List ℕ) (ps ns : List Float) (is work : List ℕ) → CleanBefore table ps ns is → firstFailing (bodyChecks table ps ns is (length work)) ≡ 0
     → patchesOf (rowsOf table) ps (turnOf rule table ps ns is work .normals) (turnOf rule table ps ns is work .indices)
     ≡ turnedBody (walksOf (patchesOf (rowsOf table) ps ns is) (joined (names rule ps)) .colours) (patchesOf (rowsOf table) ps ns is)
 unfolding turnBody

@@ -17,7 +17,7 @@ use Rattle.join_definition.specs.Join.{joined}
 use Rattle.body_rows.specs.Body.{Patch, trianglesOf, rowsOf, patchesOf}
 use Rattle.body_refusals.specs.PatchChecks.{badIndices}
 use Rattle.body_patch_checks.specs.PatchTests.{partTriangle, notFinite}
-use Rattle.body_checks.specs.Accepted.{Clean, clean}
+use Rattle.body_checks.specs.Accepted.{CleanBefore, before-passed, clean-before}
 use Rattle.patch_geometry.specs.Geometry.{zero64}
 use Rattle.turn_definition.specs.Groups.{Group}
 use Rattle.turn_definition.specs.Orient.{AfterTurn, walksOf, turnOf}
@@ -57,7 +57,7 @@ triangles-few (a ∷ []) = omega arith
 triangles-few (a ∷ b ∷ []) = omega arith
 triangles-few (a ∷ b ∷ c ∷ is) = let h = triangles-few is in omega arith
 
-patch-good : (table : List ℕ) (ps ns : List Float) (is : List ℕ) {words : ℕ} → F32s ps → Clean table ps ns is words
+patch-good : (table : List ℕ) (ps ns : List Float) (is : List ℕ) → F32s ps → CleanBefore table ps ns is
     → (n : ℕ) → n < length (patchesOf (rowsOf table) ps ns is) → PatchGood (patchAt (patchesOf (rowsOf table) ps ns is) n)
 unfolding patchAt
 patch-good table ps ns is f c n l =
@@ -121,7 +121,7 @@ volume-rule rule table ps ns is work f h =
     let patches = patchesOf (rowsOf table) ps ns is in
     let w = walksOf patches (joined (names rule ps)) in
     let z = accepted rule table ps ns is work h in
-    let c = clean table ps ns is (length work) z in
+    let c = clean-before table ps ns is (before-passed table ps ns is (length work) z) in
     let l : length patches ≤ 4096 = subst (λ (k : ℕ). k ≤ 4096) (sym (length-patches (rowsOf table) ps ns is)) (c .tabled .rows .few) in
     subst (λ (after : List Patch). T (all (ruleHolds patches after) (w .groups))) (sym (output-is rule table ps ns is work c z))
     (all-pass (ruleHolds patches (turnedBody (w .colours) patches)) (w .groups)

@@ -1,7 +1,9 @@
-//! Times the library's stages beside the unchanged Rust's, in one process, on the same bodies, in turn; and plans, which the Rust has not.
+//! Times the library's stages beside the unchanged Rust's, in one process, on the same bodies, in turn; and plans and the lookup of a peg's
+//! bins, which the Rust has not.
 
 mod assemble;
 mod growth;
+mod peg;
 mod plan;
 mod stitch;
 mod turn;
@@ -14,7 +16,8 @@ use driver::command::fail;
 use driver::sheet::Sheet;
 
 const USAGE: &str = "usage: bench [STAGE]   a table of each stage, or of one: turn, turn-new-work, stitch, stitch-new-slices,
-       assemble, assemble-new-slices, assemble-materials, assemble-materials-new-slices, whole, whole-new-slices, yard, growth, growth-open, plan";
+       assemble, assemble-new-slices, assemble-materials, assemble-materials-new-slices, whole, whole-new-slices, yard, growth, growth-open, plan,
+       peg";
 
 /// A stage's name, the bodies it is timed on, and how both sides are timed on a body, so many rounds.
 type Stage = (&'static str, fn() -> Vec<Body>, fn(&Sheet, usize) -> Times);
@@ -33,8 +36,13 @@ const STAGES: &[Stage] = &[
 ];
 
 /// Tables of another form.
-const OTHERS: &[(&str, fn())] =
-    &[("yard", table_of_yard), ("growth", growth::table), ("growth-open", growth::table_of_open_edges), ("plan", plan::table)];
+const OTHERS: &[(&str, fn())] = &[
+    ("yard", table_of_yard),
+    ("growth", growth::table),
+    ("growth-open", growth::table_of_open_edges),
+    ("plan", plan::table),
+    ("peg", peg::table),
+];
 
 const YARD_ROUNDS: usize = 101;
 

@@ -1,11 +1,14 @@
 //! The library's calls with every slice lent between fences. An error says what a call changed that it may not touch.
 
 use crate::fences::{Fenced, Spoil};
+use crate::pegs;
 use crate::plans::wrong;
 use crate::planted;
 use crate::work::Work;
 use cad_ir::math::Aabb;
-use compare::library::{Assembled, Judged, Lone, Measured, Mesh, PlanRead, PlanWritten, Setting, Stitched, Turned, raw};
+use compare::library::{
+    Assembled, Judged, Lone, Lookup, Measured, Mesh, NearestBins, PlanRead, PlanWritten, Setting, Stitched, Turned, raw,
+};
 use driver::flat::Flat;
 
 /// A body turned where it stands.
@@ -142,5 +145,30 @@ pub fn write_plan(list: &[i64], out: &mut Vec<u8>) -> Result<PlanWritten, String
     planted::spoil("write_plan", &mut answer, &mut [&mut l, &mut o], None);
     l.kept()?;
     *out = o.left()?;
+    Ok(answer)
+}
+
+/// The bins nearest a peg written to a list.
+pub fn nearest_bins(lookup: &Lookup, bins: &mut Vec<u32>) -> Result<NearestBins, String> {
+    let (former, body, [x, y, z]) = (std::mem::take(bins), &lookup.body, lookup.peg);
+    let (mut rows, mut p) = (Fenced::new("rows", &body.rows), Fenced::new("positions", &body.positions));
+    let (mut n, mut i) = (Fenced::new("normals", &body.normals), Fenced::new("indices", &body.indices));
+    let (mut places, mut b) = (Fenced::new("places", &lookup.places), Fenced::new("numbers of the bin list", &former));
+    // Sound: each pointer has as many elements behind it as the length says, in a block of its own.
+    #[rustfmt::skip]
+    let mut answer = match pegs::wrong::planted() {
+        Some(wrong) => pegs::wrong::lookup::find(lookup, b.lent(), wrong),
+        None => unsafe {
+            raw::cad_nearest_bins(rows.start(), rows.len(), p.start(), p.len(), n.start(), n.len(), i.start(), i.len(),
+                places.start(), places.len(), x, y, z, b.start(), b.len())
+        },
+    };
+    planted::spoil("nearest_bins", &mut answer, &mut [&mut rows, &mut p, &mut n, &mut i, &mut places, &mut b], None);
+    rows.kept()?;
+    p.kept()?;
+    n.kept()?;
+    i.kept()?;
+    places.kept()?;
+    *bins = b.left()?;
     Ok(answer)
 }

@@ -63,8 +63,15 @@ pub struct PlanWritten {
     pub length: u64,
 }
 
+#[repr(C)]
+#[derive(Debug, Clone, Copy, PartialEq, Default)]
+pub struct NearestBins {
+    pub refusal: u32,
+    pub bins: u32,
+}
+
 pub mod raw {
-    use super::{Assembled, Judged, Measured, PlanRead, PlanWritten, ROW, Stitched, Turned};
+    use super::{Assembled, Judged, Measured, NearestBins, PlanRead, PlanWritten, ROW, Stitched, Turned};
 
     #[rustfmt::skip]
     unsafe extern "C" {
@@ -85,6 +92,8 @@ pub mod raw {
         pub fn cad_assemble(rows: *const u32, rows_len: usize, p: *const f32, pn: usize, n: *const f32, nn: usize, i: *const u32, ni: usize, x0: f64, y0: f64, z0: f64, x1: f64, y1: f64, z1: f64, materials: *const u64, materials_len: usize, default: u64, mp: *mut f32, mpn: usize, mn: *mut f32, mnn: usize, mi: *mut u32, min: usize, parts: *mut u32, parts_len: usize, ranges: *mut u32, ranges_len: usize, failures: *mut u64, failures_len: usize, work: *mut u64, work_len: usize) -> Assembled;
         pub fn cad_read_plan(text: *const u8, text_len: usize, list: *mut i64, list_len: usize) -> PlanRead;
         pub fn cad_write_plan(list: *const i64, list_len: usize, out: *mut u8, out_len: usize) -> PlanWritten;
+        pub fn cad_nearest_bins(rows: *const u32, rows_len: usize, p: *const f32, pn: usize, n: *const f32, nn: usize, i: *const u32, ni: usize,
+            places: *const i64, places_len: usize, x: i64, y: i64, z: i64, bins: *mut u32, bins_len: usize) -> NearestBins;
     }
 }
 
@@ -279,4 +288,26 @@ pub fn read_plan(text: &[u8], list: &mut [i64]) -> PlanRead {
 /// A list written as text to the front of a slice.
 pub fn write_plan(list: &[i64], out: &mut [u8]) -> PlanWritten {
     unsafe { raw::cad_write_plan(list.as_ptr(), list.len(), out.as_mut_ptr(), out.len()) }
+}
+
+/// How many numbers a row's place takes: x, y, z.
+pub const PLACE: usize = 3;
+
+/// A body with a place for each row, in micrometres, behind which more numbers may stand; and a peg.
+#[derive(Debug, Clone, Default)]
+pub struct Lookup {
+    pub body: Flat,
+    pub places: Vec<i64>,
+    pub peg: [i64; 3],
+}
+
+/// The bins nearest a peg written to the front of a list.
+#[rustfmt::skip]
+pub fn nearest_bins(lookup: &Lookup, bins: &mut [u32]) -> NearestBins {
+    let Flat { rows, positions: p, normals: n, indices: i } = &lookup.body;
+    let (places, [x, y, z]) = (&lookup.places, lookup.peg);
+    unsafe {
+        raw::cad_nearest_bins(rows.as_ptr(), rows.len(), p.as_ptr(), p.len(), n.as_ptr(), n.len(), i.as_ptr(), i.len(),
+            places.as_ptr(), places.len(), x, y, z, bins.as_mut_ptr(), bins.len())
+    }
 }

@@ -1,6 +1,6 @@
 //! Holds the proved library against the unchanged Rust on generated bodies: turning, stitching and assembling with their refusals,
-//! each patch alone, keys and cells of points, and the float steps against the processor's own. Plans, which the Rust has not, are held
-//! to a plain model.
+//! each patch alone, keys and cells of points, and the float steps against the processor's own. Plans and the lookup of a peg's bins,
+//! which the Rust has not, are held to plain models.
 
 mod assembling;
 mod faces;
@@ -9,6 +9,7 @@ mod fences;
 mod keys;
 mod lent;
 mod patches;
+mod pegs;
 mod plans;
 mod planted;
 mod refusals;
@@ -28,7 +29,6 @@ use driver::generate::{KINDS, Kind, LARGE, SEAMS, body_of, kind};
 use driver::print;
 use driver::random::Random;
 use driver::sheet::{BENCH, Sheet, parse};
-use plans::wrong;
 use planted::{Plant, plant};
 use smallest::smallest;
 use std::ops::RangeInclusive;
@@ -41,6 +41,7 @@ const USAGE: &str = "usage: compare FIRST LAST [SIZE]
        compare --worst POINTS
        compare --sheets SHEET...
        compare --plans FIRST LAST
+       compare --pegs FIRST LAST
        compare --plan-program PROGRAM FIRST LAST
        compare --planted FIRST LAST
        compare --keys
@@ -53,6 +54,8 @@ With --worst the bodies that ask the most of stitching, one with POINTS loose po
 With --sheets only the bodies of these sheets.
 With --plans only plans, which every run has besides: 250 of each seed and a large one, and without --small those at the limits and every text
 that is one byte away from a small plan.
+With --pegs only lookups of a peg's bins, which every run has besides: about a thousand placed bodies of each seed and their damaged copies, and without
+--small those at the limits.
 With --plan-program a program reads the plans at the limits and some of each seed, and must print each one's listing or refusal.
 With --planted faults are planted behind the library's calls, and the seeds FIRST to LAST must find each of them.
 With --keys the keys and cells of 2^32 points in which each coordinate is every f32 once, in some minutes.
@@ -135,24 +138,24 @@ fn compare_steps(seed: u64, tally: &mut Tally) {
     }
 }
 
-/// What a comparison of plans found, which ends the run where something differs.
-fn held_plans(result: Result<(), String>) {
+/// What a comparison with a model found, which ends the run where something differs.
+fn held(name: &str, result: Result<(), String>) {
     if let Err(what) = result {
         Tally::end_line();
-        fail(&format!("compare: plans: {what}"));
+        fail(&format!("compare: {name}: {what}"));
     }
 }
 
 /// The plans at the limits and every text one byte away from a small one.
 fn compare_plans_by_hand(tally: &mut Tally) {
-    held_plans(plans::at_the_limits(&mut tally.plans));
-    held_plans(plans::one_byte_away(&mut tally.plans));
+    held("plans", plans::at_the_limits(&mut tally.plans));
+    held("plans", plans::one_byte_away(&mut tally.plans));
 }
 
 fn compare_plans(first: u64, last: u64, tally: &mut Tally) {
     for seed in first..=last {
         tally.show("plans", seed);
-        held_plans(plans::compared(seed, &mut tally.plans));
+        held("plans", plans::compared(seed, &mut tally.plans));
     }
 }
 
@@ -162,6 +165,26 @@ fn compare_plans_alone((first, last, _): (u64, u64, Option<usize>), tally: &mut 
     compare_plans(first, last, tally);
     Tally::end_line();
     println!("compare: {}: no difference", tally.plans.said());
+}
+
+/// The lookups of a peg's bins at the limits.
+fn compare_pegs_by_hand(tally: &mut Tally) {
+    held("pegs", pegs::at_the_limits(&mut tally.pegs));
+}
+
+fn compare_pegs(first: u64, last: u64, tally: &mut Tally) {
+    for seed in first..=last {
+        tally.show("pegs", seed);
+        held("pegs", pegs::compared(seed, &mut tally.pegs));
+    }
+}
+
+/// Lookups of a peg's bins and nothing else.
+fn compare_pegs_alone((first, last, _): (u64, u64, Option<usize>), tally: &mut Tally) {
+    compare_pegs_by_hand(tally);
+    compare_pegs(first, last, tally);
+    Tally::end_line();
+    println!("compare: {}: no difference", tally.pegs.said());
 }
 
 /// What a program prints of plans.
@@ -200,6 +223,7 @@ fn compare_seeds(first: u64, last: u64, size: Option<usize>, tally: &mut Tally) 
         compare_steps(seed, tally);
     }
     compare_plans(first, last, tally);
+    compare_pegs(first, last, tally);
 }
 
 /// The body of a stored sheet, of any size.
@@ -215,6 +239,7 @@ fn compare_sheet(name: &str, tally: &mut Tally) {
 /// The bodies of a run without a word.
 fn compare_all(first: u64, last: u64, size: Option<usize>, tally: &mut Tally) {
     compare_plans_by_hand(tally);
+    compare_pegs_by_hand(tally);
     compare_worst(WORST_POINTS, tally);
     compare_seeds(first, last, size, tally);
     compare_kinds(LARGE, first, MANY_TRIANGLES, tally);
@@ -224,8 +249,9 @@ fn compare_all(first: u64, last: u64, size: Option<usize>, tally: &mut Tally) {
 /// Whether a small body of a seed shows a planted fault.
 fn shows(fault: Plant, seeds: RangeInclusive<u64>, differs: fn(&Sheet, u64) -> bool) -> bool {
     plant(Some(fault));
-    if fault.of_plans() {
-        let found = plans::shows(*seeds.start(), *seeds.end());
+    if fault.of_plans() || fault.of_pegs() {
+        let shows = if fault.of_plans() { plans::shows } else { pegs::shows };
+        let found = shows(*seeds.start(), *seeds.end());
         plant(None);
         return found;
     }
@@ -235,22 +261,31 @@ fn shows(fault: Plant, seeds: RangeInclusive<u64>, differs: fn(&Sheet, u64) -> b
     found
 }
 
-/// Let each wrong reader and writer of plans stand in the calls' place, and say how many the comparison finds; one that is right must show nothing.
-fn find_wrong_plans(first: u64, last: u64) -> usize {
-    let shown = |fault: wrong::Fault| {
-        wrong::plant(Some(fault));
-        let found = plans::shows(first, last);
-        wrong::plant(None);
+/// Let each wrong stand-in take the calls' place, and say how many the comparison finds; one that is right must show nothing.
+fn find_wrong<T: Copy + std::fmt::Debug>(name: &str, all: &[T], right: T, plant: fn(Option<T>), shows: impl Fn() -> bool) -> usize {
+    let shown = |fault: T| {
+        plant(Some(fault));
+        let found = shows();
+        plant(None);
         found
     };
-    if shown(wrong::NONE) {
-        fail("compare: a reader and a writer of plans without a fault differ from the model");
+    if shown(right) {
+        fail(&format!("compare: {name} without a fault differ from the model"));
     }
-    let missed: Vec<wrong::Fault> = wrong::all().filter(|fault| !shown(*fault)).collect();
+    let missed: Vec<&T> = all.iter().filter(|fault| !shown(**fault)).collect();
     if !missed.is_empty() {
         fail(&format!("compare: planted and not found: {missed:?}"));
     }
-    wrong::all().count()
+    all.len()
+}
+
+fn find_wrong_plans(first: u64, last: u64) -> usize {
+    let all: Vec<plans::wrong::Fault> = plans::wrong::all().collect();
+    find_wrong("a reader and a writer of plans", &all, plans::wrong::NONE, plans::wrong::plant, || plans::shows(first, last))
+}
+
+fn find_wrong_lookups(first: u64, last: u64) -> usize {
+    find_wrong("lookups", pegs::wrong::ALL, pegs::wrong::Wrong::Nothing, pegs::wrong::plant, || pegs::shows(first, last))
 }
 
 /// Plant each fault, and say how many the comparison finds, and the three calls in a row alone of those where a body is finished.
@@ -264,10 +299,10 @@ fn find_planted(first: u64, last: u64) {
     if !missed.is_empty() {
         fail(&format!("compare: planted and not found: {missed:?}"));
     }
-    let wrong = find_wrong_plans(first, last);
+    let (plans, lookups) = (find_wrong_plans(first, last), find_wrong_lookups(first, last));
     println!(
         "compare: {} planted faults, all found; {in_a_row} of the {} behind a finished call also by the three calls in a row alone; \
-         {wrong} wrong readers and writers of plans, all found",
+         {plans} wrong readers and writers of plans and {lookups} wrong lookups of a peg's bins, all found",
         all.len(),
         chained.len()
     );
@@ -314,6 +349,7 @@ fn main() {
         }
         Some((word, names)) if word == "--sheets" && !names.is_empty() => names.iter().for_each(|name| compare_sheet(name, tally)),
         Some((word, rest)) if word == "--plans" => return compare_plans_alone(numbers(rest, MOST_ROWS), tally),
+        Some((word, rest)) if word == "--pegs" => return compare_pegs_alone(numbers(rest, MOST_ROWS), tally),
         Some((word, [program, rest @ ..])) if word == "--plan-program" => return compare_plan_program(program, numbers(rest, MOST_ROWS)),
         Some((word, rest)) if word == "--planted" => {
             let (first, last, _) = numbers(rest, MOST_ROWS);

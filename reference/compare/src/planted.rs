@@ -3,7 +3,7 @@
 
 use crate::fences::{Place, Spoil};
 use crate::work::Work;
-use compare::library::{Assembled, FAILURE, Judged, Measured, PlanRead, PlanWritten, RANGE, Stitched, Turned};
+use compare::library::{Assembled, FAILURE, Judged, Measured, NearestBins, PlanRead, PlanWritten, RANGE, Stitched, Turned};
 use driver::flat::ROW;
 use std::cell::Cell;
 
@@ -53,10 +53,15 @@ impl Plant {
     pub fn of_plans(&self) -> bool {
         self.call.ends_with("_plan")
     }
+
+    /// Whether it lies behind the call that looks for a peg's bins.
+    pub fn of_pegs(&self) -> bool {
+        self.call == "nearest_bins"
+    }
 }
 
 /// The calls, with how many fields their answers and how many slices besides the work area they have, and whether they have one.
-const CALLS: [(&str, usize, usize, bool); 8] = [
+const CALLS: [(&str, usize, usize, bool); 9] = [
     ("turn", 3, 4, true),
     ("stitch", 4, 8, true),
     ("assemble", 10, 11, true),
@@ -65,6 +70,7 @@ const CALLS: [(&str, usize, usize, bool); 8] = [
     ("escapes", 2, 3, false),
     ("read_plan", 2, 2, false),
     ("write_plan", 2, 2, false),
+    ("nearest_bins", 2, 6, false),
 ];
 
 thread_local! {
@@ -128,6 +134,7 @@ raised!(Measured, |_, _, _| 0; refusal + 1, value + 1.0);
 raised!(Judged, |_, _, _| 0; refusal + 1, verdict + 1);
 raised!(PlanRead, |_, _, _| 0; refusal + 1, entries + 1);
 raised!(PlanWritten, |_, _, _| 0; refusal + 1, length + 1);
+raised!(NearestBins, |_, _, _| 0; refusal + 1, bins + 1);
 
 /// Change what the planted fault changes, if it is one of this call.
 pub fn spoil(call: &str, answer: &mut dyn Answer, slices: &mut [&mut dyn Spoil], work: Option<&mut Work>) {

@@ -1,6 +1,7 @@
 //! What has been compared so far.
 
 use crate::assembling;
+use crate::pegs;
 use crate::plans;
 use crate::stitching::Held;
 use driver::sheet::Sheet;
@@ -34,6 +35,7 @@ pub struct Tally {
     /// Bodies made by hand.
     pub worst: u64,
     pub plans: plans::Tally,
+    pub pegs: pegs::Tally,
     shown: Option<Instant>,
 }
 
@@ -64,8 +66,11 @@ impl Tally {
         if shown.elapsed() > pause {
             self.shown = Some(Instant::now());
             let (start, end) = if terminal { ("\r\x1b[K", "") } else { ("", "\n") };
-            let plans = self.plans.plans;
-            eprint!("{start}compare: {} bodies, {} refusals, {plans} plans, now {kind} of seed {seed}{end}", self.bodies, self.refusals);
+            let Tally { bodies, refusals, plans, pegs, .. } = self;
+            let (plans, lookups) = (plans.plans, pegs.lookups);
+            eprint!(
+                "{start}compare: {bodies} bodies, {refusals} refusals, {plans} plans, {lookups} lookups, now {kind} of seed {seed}{end}"
+            );
         }
     }
 
@@ -80,9 +85,11 @@ impl Tally {
         let Tally { bodies, rows, refusals, steps, keys, triangles, stitched, split, splits, open, outside, worst, .. } = self;
         let assembled = self.assembled.said();
         let plans = if self.plans.read == 0 { String::new() } else { format!("; {}", self.plans.said()) };
+        let pegs = if self.pegs.lookups == 0 { String::new() } else { format!("; {}", self.pegs.said()) };
         format!(
             "{worst} bodies made by hand, {bodies} of up to {triangles} triangles, {rows} rows; {stitched} stitched with their own sag, {split} of them split, \
-             {splits} splits ({outside} more outside the condition, {open} too open); {assembled}; {refusals} refusals, {steps} float steps, {keys} keys{plans}"
+             {splits} splits ({outside} more outside the condition, {open} too open); {assembled}; {refusals} refusals, {steps} float steps, \
+             {keys} keys{plans}{pegs}"
         )
     }
 }

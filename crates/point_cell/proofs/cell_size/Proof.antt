@@ -1,70 +1,14 @@
 -- `point_cell::cell_size` meets its contract. Assumes nothing.
-use Rattle.point_cell.proofs.Fields.{size-low, quotient-fits, size-mid, size-high, size-nan, size-inf, size-over}
 use borrow.Author.Needs.{needs}
+use Rattle.point_cell.specs.Scale.{cell-scale}
 use Rattle.point_cell.proofs.cell_size.Statement.{statement}
 use Rattle.point_cell.proofs.cell_size.Tie as tie
 
-bits-of-f32-requires : tie.Need-bits-of-f32-requires
-bits-of-f32-requires c κs = search needs
-
-cast-b : tie.Need-cast-b
-cast-b c = search needs
-
-add-a : tie.Need-add-a
-add-a c = search needs
-
-mul-a : tie.Need-mul-a
-mul-a c = search needs
+nearest-size-requires : tie.Need-nearest-size-requires
+nearest-size-requires c κs = search cell-scale
 
 returns : tie.Need-returns
-returns c = search size-low
-
-sub-half-up : tie.Need-sub-half-up
-sub-half-up c = search needs
-
-shr-half-up : tie.Need-shr-half-up
-shr-half-up c = search needs
-
-half-up-requires : tie.Need-half-up-requires
-half-up-requires c κs = search quotient-fits
-
-returns-2 : tie.Need-returns-2
-returns-2 c = search size-mid
-
-shl-limited : tie.Need-shl-limited
-shl-limited c = search needs
-
-limited-requires : tie.Need-limited-requires
-limited-requires c κs = search needs
-
-returns-3 : tie.Need-returns-3
-returns-3 c = search size-high
-
-returns-4 : tie.Need-returns-4
-returns-4 c = search size-nan
-
-returns-5 : tie.Need-returns-5
-returns-5 c = search size-inf
-
-returns-6 : tie.Need-returns-6
-returns-6 c = search size-over
+returns c = search needs
 
 pub cell-size-spec : {M : Type 1} → statement M
-cell-size-spec =
-    tie.close
-    (tie.spec
-    bits-of-f32-requires
-    cast-b
-    add-a
-    mul-a
-    returns
-    sub-half-up
-    shr-half-up
-    half-up-requires
-    returns-2
-    shl-limited
-    limited-requires
-    returns-3
-    returns-4
-    returns-5
-    returns-6)
+cell-size-spec = tie.close (tie.spec nearest-size-requires returns)

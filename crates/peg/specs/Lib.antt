@@ -1,0 +1,2 @@
+-- What a lookup answers and leaves.
+pub mod Answer
