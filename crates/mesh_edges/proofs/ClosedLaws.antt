@@ -1,15 +1,17 @@
 -- Laws of whether a mesh is closed: a look for −0.0, and the counts by which it is told. Assumes nothing.
 use mathlib.Core.Path.{_≡_, refl, sym, ap, _∙_}
-use mathlib.Core.Bool.{Bool, true, false, not, _&&_}
-use mathlib.Core.List.{List}
+use mathlib.Core.Bool.{Bool, true, false, not, _&&_, _||_}
+use mathlib.Core.List.{List, [], _∷_}
 use Prim.Native.Nat.{ℕ, _+_, _*_, _^_, _≤_, _<_}
 use native.Mathlib.Omega.{arith}
 use borrow.Author.Tests.{eq-eqb, ne-eqb, not-true, not-false}
 use lib.Dec.{eqb}
-use lib.ListN.{length, getD, drop}
+use native.Mathlib.Numerals.{add-one}
+use lib.ListN.{length, getD, take, drop}
+use lib.Seq.{take-all, take-suc}
 use lib.Ieee.{Float, nan}
 use Rattle.lists.specs.Lists.{any}
-use Rattle.lists.specs.Any.{Searched, searched-all, searched-hit, searched-more}
+use Rattle.lists.specs.Any.{any-append, any-one}
 use Rattle.lists.specs.Stretches.{rest-less}
 use Rattle.float_steps.specs.Floats.{bits32}
 use Rattle.point_rules.specs.Rule.{names}
@@ -25,12 +27,28 @@ use Rattle.mesh_edges.specs.Mesh.{ClosedTold, EdgesCounted, MeshCounted,
 use Rattle.mesh_edges.specs.declared.mesh.MeshEdges.{MeshEdges}
 
 -- ---- a look for −0.0
-module _ (ps : List Float) (k : ℕ) (s : Searched minusZero ps k) (h : k < length ps) {b : ℕ} (e : b ≡ bits32 (getD ps k nan)) where
-  pub minus-zero-hit : b ≡ 2147483648 → true ≡ any minusZero ps
-  minus-zero-hit q = searched-hit nan s h (eq-eqb (bits32 (getD ps k nan)) (2 ^ 31) (sym e ∙ q))
 
-  pub minus-zero-more : (b ≡ 2147483648 → ⊥) → Searched minusZero ps (k + 1)
-  minus-zero-more q = searched-more nan s h (ne-eqb (bits32 (getD ps k nan)) (2 ^ 31) (λ f. q (e ∙ f)))
+-- the first k positions were looked at
+pub record Looked (ps : List Float) (k : ℕ) (found : Bool) : Type 0 where
+  pub low : k ≤ length ps
+  pub is : found ≡ any minusZero (take k ps)
+
+pub looked-none : (ps : List Float) → Looked ps 0 false
+unfolding any
+looked-none ps = record { low = omega arith; is = refl }
+
+pub looked-more : (ps : List Float) (k : ℕ) {found : Bool} → Looked ps k found → k < length ps → {b : ℕ} → b ≡ bits32 (getD ps k nan) → Looked ps (k + 1) (found || eqb b 2147483648)
+looked-more ps k v h e = record {
+  low = omega arith;
+  is =
+      (λ i. v .is i || eqb (e i) (2 ^ 31))
+      ∙ ap (λ (t : Bool). any minusZero (take k ps) || t) (sym (any-one minusZero (getD ps k nan)))
+      ∙ sym (any-append minusZero (take k ps) (getD ps k nan ∷ []))
+      ∙ ap (any minusZero) (sym (ap (λ (n : ℕ). take n ps) (add-one k) ∙ take-suc ps k nan h));
+}
+
+pub looked-all : (ps : List Float) (k : ℕ) {found : Bool} → Looked ps k found → length ps ≤ k → found ≡ any minusZero ps
+looked-all ps k v h = v .is ∙ ap (any minusZero) (take-all k ps h)
 
 -- ---- closed by counts
 pub closed-is : (c : EdgeCounts) {r : Bool} → r ≡ (eqb (c .opens) 0 && eqb (c .overs) 0) → r ≡ closedBy (countsIn c)

@@ -27,18 +27,17 @@ pub struct MeshEdges {
     pub closed: bool,
 }
 
-// Whether a position is -0.0.
+// Whether a position is -0.0. All are looked at, without a jump, so that the processor takes several at a time.
 fn any_minus_zero(positions: &[f32]) -> bool
     ensures { λ r. ⌜ r ≡ any minusZero (now (positions .entry)) ⌝ }
 {
+    let mut found = false;
     let mut k = 0usize;
     while k < positions.len() {
-        if bits_of_f32(positions[k]) == MINUS_ZERO {
-            return true;
-        }
+        found = found | (bits_of_f32(positions[k]) == MINUS_ZERO);
         k += 1;
     }
-    false
+    found
 }
 
 // The v vertices are joined by a rule, and behind their table each use of an edge is named.

@@ -2,20 +2,18 @@
 use borrow.Author.Needs.{needs}
 use Prim.Native.Nat.{_-_}
 use lib.ListN.{length}
-use Rattle.lists.specs.Any.{Searched, searched-all, searched-none}
-use Rattle.point_rules.specs.Zeros.{minusZero}
-use Rattle.mesh_edges.proofs.ClosedLaws.{minus-zero-hit, minus-zero-more}
+use Rattle.mesh_edges.proofs.ClosedLaws.{Looked, looked-all, looked-more, looked-none}
 use Rattle.mesh_edges.proofs.mesh.any_minus_zero.Statement.{statement}
 use Rattle.mesh_edges.proofs.mesh.any_minus_zero.Tie as tie
 
 abbrev Inv-loop : tie.InvT-loop
-Inv-loop positions k₀ k = Searched minusZero positions k
+Inv-loop positions found₀ k₀ found k = Looked positions k found
 
 abbrev μ-loop : tie.MeasureT-loop
-μ-loop positions k₀ k = length positions - k
+μ-loop positions found₀ k₀ found k = length positions - k
 
 loop-holds : tie.Need-loop-holds Inv-loop μ-loop
-loop-holds c = searched-none minusZero _
+loop-holds c = search looked-none
 
 mul-bits-of-f32 : tie.Need-mul-bits-of-f32 Inv-loop μ-loop
 mul-bits-of-f32 c = search needs
@@ -26,9 +24,6 @@ shared-slice-read-bits-of-f32 c = search needs
 bits-of-f32-requires : tie.Need-bits-of-f32-requires Inv-loop μ-loop
 bits-of-f32-requires c κs = search needs
 
-returns : tie.Need-returns Inv-loop μ-loop
-returns c = search minus-zero-hit
-
 add-k : tie.Need-add-k Inv-loop μ-loop
 add-k c = search needs
 
@@ -36,10 +31,10 @@ loop-less : tie.Need-loop-less Inv-loop μ-loop
 loop-less c = search needs
 
 loop-again : tie.Need-loop-again Inv-loop μ-loop
-loop-again c = search minus-zero-more
+loop-again c = search looked-more
 
-returns-2 : tie.Need-returns-2 Inv-loop μ-loop
-returns-2 c = search searched-all
+returns : tie.Need-returns Inv-loop μ-loop
+returns c = search looked-all
 
 pub any-minus-zero-spec : {M : Type 1} → statement M
 any-minus-zero-spec =
@@ -51,8 +46,7 @@ any-minus-zero-spec =
     mul-bits-of-f32
     shared-slice-read-bits-of-f32
     bits-of-f32-requires
-    returns
     add-k
     loop-less
     loop-again
-    returns-2)
+    returns)
