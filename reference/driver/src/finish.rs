@@ -10,7 +10,6 @@ use cad_tess::Report;
 use cad_tess::edge::take_printed;
 use cad_tess::face::{Patch, patch_of, probe};
 use cad_tess::options::Resolved;
-use std::collections::HashMap;
 use std::sync::Once;
 
 /// The largest face number of a material line: the source wants a list as long as that.
@@ -48,20 +47,9 @@ pub struct Finished {
 }
 
 impl Finished {
-    /// Added by document 01: no edge has one use or more than two. The Rust's counts tell 0.0 and -0.0 apart; here, by N5 of document 02,
-    /// they are one point.
+    /// Added by document 01: no edge is open and none is over.
     pub fn closed(&self) -> bool {
-        let point = |index: u32| self.positions[index as usize].map(|v| (v + 0.0).to_bits());
-        let mut uses: HashMap<[[u32; 3]; 2], usize> = HashMap::new();
-        for corners in self.indices.chunks_exact(3) {
-            for (from, to) in [(0, 1), (1, 2), (2, 0)] {
-                let (a, b) = (point(corners[from]), point(corners[to]));
-                if a != b {
-                    *uses.entry([a.min(b), a.max(b)]).or_default() += 1;
-                }
-            }
-        }
-        uses.values().all(|n| *n == 2)
+        self.open == 0 && self.over == 0
     }
 }
 

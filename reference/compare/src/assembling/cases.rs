@@ -2,8 +2,7 @@
 //!
 //! The mesh and its parts are what the Rust returns; the counts are those it prints, the ranges those by which it slices its indices.
 //! The reach and the span of an escape it reports in words, with one decimal: their bits come from its own `farthest` and `diagonal`,
-//! held to those words. Closed is document 01's own, as N5 of 02 amends it. The Rust knows nothing of bins: a range and a failure have
-//! that of their row.
+//! held to those words. Closed is document 01's own. The Rust knows nothing of bins: a range and a failure have that of their row.
 
 use super::settings::setting;
 use super::slices::{Lengths, filled, lengths};

@@ -210,35 +210,11 @@ pub fn negative_zero(r: &mut Random, _: usize) -> Sheet {
     let by = [-1.0, -1.0, 0.0];
     let mut all = rows(r, &cuboid(1.0, 2.0, 1.0).moved(by), 0, 0);
     all.extend(rows(r, &cuboid(1.0, 2.0, 1.0).moved([0.0, -1.0, 0.0]), 0, 6));
-    some_negative(r, &mut all);
-    sheet(all, 0.25)
-}
-
-/// Some of the zeros of rows become -0.0.
-fn some_negative(r: &mut Random, rows: &mut [Row]) {
-    for v in rows.iter_mut().flat_map(|row| row.positions.iter_mut().chain(&mut row.normals)).flatten() {
+    for v in all.iter_mut().flat_map(|row| row.positions.iter_mut().chain(&mut row.normals)).flatten() {
         if *v == 0 && r.chance(40) {
             *v = 0x8000_0000;
         }
     }
-}
-
-pub fn zero_seam(r: &mut Random, _: usize) -> Sheet {
-    let mut all = rows(r, &cuboid(1.0, 2.0, 1.0).moved([0.0, -1.0, 0.0]), 0, 0);
-    some_negative(r, &mut all);
-    sheet(all, 0.25)
-}
-
-pub fn zero_touch(r: &mut Random, _: usize) -> Sheet {
-    let mut all = rows(r, &cuboid(1.0, 1.0, 1.0), 0, 0);
-    let mut other = rows(r, &cuboid(1.0, 1.0, 1.0).moved([-1.0, -1.0, 0.0]), 0, 6);
-    let axis = r.below(3) as usize;
-    for point in other.iter_mut().flat_map(|row| &mut row.positions) {
-        if point[axis] == 0 {
-            point[axis] = 0x8000_0000;
-        }
-    }
-    all.extend(other);
     sheet(all, 0.25)
 }
 

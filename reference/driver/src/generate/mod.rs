@@ -58,8 +58,6 @@ pub const KINDS: &[Kind] = &[
     body("huge", "coordinates whose cells clamp, up to the end of f32", bodies::huge),
     body("subnormal", "subnormal coordinates and normals", bodies::subnormal),
     body("negative-zero", "0.0 on one side of a seam and -0.0 on the other", bodies::negative_zero),
-    body("zero-seam", "a closed box that is open by bits, 0.0 and -0.0 at one corner", bodies::zero_seam),
-    body("zero-touch", "two boxes with an edge in common, closed by bits, 0.0 on the one and -0.0 on the other", bodies::zero_touch),
     body("sag", "a sag of zero, below zero, not a number, infinite, subnormal", edges::sag),
     body("body-box", "a box that is empty, of one point, not a number, infinite", bodies::body_box),
     body("same-cell", "loose points of one key with other bits", edges::same_cell),
