@@ -193,7 +193,9 @@ typedef struct CadAssembled {
     uint64_t edges;    /* edges of the mesh; its points are the same if their bits agree, and an edge with equal ends doesn't count */
     uint64_t opens;    /* those used by one triangle */
     uint64_t overs;    /* those used by more than two */
-    uint32_t closed;   /* 1 if opens and overs are both 0, so of a mesh without triangles too (indices is 0), else 0 */
+    uint32_t closed;   /* 1 if no edge is used by one triangle or by more than two where 0.0 and -0.0 are one point, so of a mesh without
+                          triangles too (indices is 0), else 0. The three counts above tell the two zeros apart: so closed may be 1 beside
+                          opens above 0, or 0 beside opens 0 and overs 0. */
 } CadAssembled;
 
 /* The answer of a call that measures one patch. */

@@ -30,6 +30,7 @@ function whole(names, k, n) {
 
 # Which edges keep a mesh from being closed.
 function not_closed() {
+  if (!count["open"] && !count["over"]) return "the mesh is not closed: edges fall together where 0.0 and -0.0 are one point"
   return "the mesh is not closed: of " things(count["edges"], "edge", "edges") " " things(count["open"], "has", "have") " one side and " \
     count["over"] " more than two"
 }

@@ -26,13 +26,14 @@ pub struct Assembled {
     pub parts: u32,
     pub ranges: u32,
     pub failures: u32,
-    /// Edges of the mesh, whose points are the same if their bits agree.
+    /// Edges of the mesh, whose points are the same if their bits agree: 0.0 and −0.0 are two.
     pub edges: u64,
     /// Edges used by one triangle.
     pub opens: u64,
     /// Edges used by more than two.
     pub overs: u64,
-    /// Whether no edge is open and none is over. It is true of a mesh without triangles too, as of a body whose rows all failed: ask
-    /// `indices` whether there is anything that is closed.
+    /// Whether no edge is open and none is over where 0.0 and −0.0 are one point: so it may be true beside `opens` above 0, or false where
+    /// `opens` and `overs` are 0. It is true of a mesh without triangles too, as of a body whose rows all failed: ask `indices` whether there
+    /// is anything that is closed.
     pub closed: bool,
 }

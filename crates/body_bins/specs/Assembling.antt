@@ -19,7 +19,7 @@ use Rattle.mesh_verdicts.specs.Failures.{failureOf}
 use Rattle.mesh_materials.specs.Materials.{materialOf, badMaterials}
 use Rattle.mesh_acceptance.specs.Acceptance.{failureWidth, Accepted, Failed, Acceptance, withPatch, acceptance, acceptedVertices, acceptedIndices, failureNumbers}
 use Rattle.mesh_layout.specs.Mesh.{partWidth, rangeWidth, Vertices, Laid, verticesOf, writtenVertices, laidFrom, materialsOf, runOf, runsOf, startOf, partOf, rangeOf, rangesFrom}
-use Rattle.mesh_counts.specs.Counts.{Counts, countsOf, closedBy}
+use Rattle.mesh_counts.specs.Counts.{Counts, countsOf, closedMesh}
 use Rattle.mesh_room.specs.Slices.{MeshSlices, meshTooShort, tooShort, meshChecks}
 use Rattle.mesh_definition.specs.Assemble.{AfterAssemble, meshOf, refuseMesh, writeMesh, clearedMesh, assembleOrRefuse, assembleOf}
 use Rattle.body_bins.specs.Covered.{covered, binBehindFace, coveredTable, coverRow, coverPatch, rows-covered, patches-covered, cleared-covered}
@@ -241,7 +241,7 @@ mesh-written v out =
       ranges = sym (length-map taken coverAccepted) i;
       failures = sym (length-map (v .failed) coverFailed) i;
       counts = countsOf bits (vertices i .positions) (runs i);
-      closed = closedBy (countsOf bits (vertices i .positions) (runs i));
+      closed = closedMesh (vertices i .positions) (runs i);
       slices = record {
         vertices = writtenVertices (vertices i) (out .vertices);
         indices = written (runs i) (out .indices);

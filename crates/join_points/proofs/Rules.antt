@@ -1,5 +1,6 @@
 -- Laws of the joining rules. Assumes nothing.
 use mathlib.Core.Path.{_≡_, refl, sym, ap, subst, _∙_}
+use mathlib.Core.Bool.{true, false}
 use mathlib.Core.List.{List, [], _∷_, _++_, map}
 use Prim.Native.Nat.{ℕ, zero, suc, _+_, _*_, _<_, _≤_}
 use native.Mathlib.Omega.{arith}
@@ -7,13 +8,14 @@ use native.Mathlib.Nat.{not-suc-le-zero, le-of-suc-le-suc}
 use lib.ListN.{length, getD, take, drop, set, length-map}
 use lib.Seq.{take-at, drop-at, drop-drop, length-take-le}
 use lib.Ieee.{Float}
+use Rattle.point_rules.specs.Rule as Naming
 use Rattle.point_rules.specs.Rule.{names, VertexInside}
 use Rattle.point_rules.specs.Names.{names-length, names-below}
-use Rattle.point_rules.specs.Points.{key, bits}
-use Rattle.point_rules.specs.Bits.{digest}
+use Rattle.point_rules.specs.Points.{key, bits, zeros}
+use Rattle.point_rules.specs.Bits.{bitsBy, digest}
 use Rattle.join_table.specs.declared.Source.{Source}
 use Rattle.join_points.specs.declared.vertices.Rule.{Rule}
-use Rattle.join_points.specs.declared.vertices.Rule.the-variants.{Key, Bits}
+use Rattle.join_points.specs.declared.vertices.Rule.the-variants.{Key, Bits, Zeros}
 use Rattle.join_definition.specs.Join.{joined, firstIndex, Joined, JoinRoom}
 use Rattle.join_table.specs.Naming.{namesOf}
 use Rattle.join_points.specs.Rules.{ruleOf, wordsOf, sourceOf, Fit, JoinedPoints}
@@ -41,6 +43,11 @@ pub record Lawful (rule : Rule) (ps : List Float) (n : ℕ) : Type 0 where
   pub source : namesOf (sourceOf rule) ps (wordsOf rule ps) ≡ names (ruleOf rule) ps
   pub named : Named (names (ruleOf rule) ps) (wordsOf rule ps) n
 
+-- digests go by the names
+digests-named : (rule : Naming.Rule) (ps : List Float) (n : ℕ) → length (names rule ps) ≡ n → Named (names rule ps) (map digest (names rule ps)) n
+digests-named rule ps n l =
+    record { long = l; agree = λ j k lj lk q. map-at digest (names rule ps) j (omega arith) ∙ ap digest q ∙ sym (map-at digest (names rule ps) k (omega arith)) }
+
 -- each rule owes it and keeps it
 pub lawful : (rule : Rule) (ps : List Float) (n : ℕ) → length ps ≡ 3 * n → Lawful rule ps n
 unfolding ruleOf wordsOf sourceOf namesOf
@@ -48,15 +55,10 @@ lawful Key ps n e =
     record { count = names-length key ps n e; source = refl; named = record { long = names-length key ps n e; agree = λ j k _ _ q. q } }
 lawful Bits ps n e =
     let l : length (names bits ps) ≡ n = names-length bits ps n e in
-    record {
-      count = length-map (names bits ps) digest ∙ l;
-      source = refl;
-      named =
-          record {
-            long = l;
-            agree = λ j k lj lk q. map-at digest (names bits ps) j (omega arith) ∙ ap digest q ∙ sym (map-at digest (names bits ps) k (omega arith));
-          };
-    }
+    record { count = length-map (names bits ps) digest ∙ l; source = refl; named = digests-named bits ps n l }
+lawful Zeros ps n e =
+    let l : length (names zeros ps) ≡ n = names-length zeros ps n e in
+    record { count = length-map (names zeros ps) digest ∙ l; source = refl; named = digests-named zeros ps n l }
 
 -- ---- `source_of` and `word_at`, by the cases of the rule
 pub source-is : {rule case : Rule} → rule ≡ case → sourceOf case ≡ sourceOf rule
@@ -68,10 +70,15 @@ module _ (rule : Rule) (ps : List Float) (i : ℕ) {r : ℕ} where
   unfolding wordsOf
   key-word q e = e ∙ ap (λ (t : Rule). getD (wordsOf t ps) i 0) (sym q)
 
-  -- the word by bits
-  pub bits-word : rule ≡ Bits → VertexInside i ps → r ≡ digest (getD (names bits ps) i 0) → r ≡ getD (wordsOf rule ps) i 0
-  unfolding wordsOf
+  -- the word by bits, the zeros apart
+  pub bits-word : rule ≡ Bits → VertexInside i ps → r ≡ digest (getD (names (bitsBy false) ps) i 0) → r ≡ getD (wordsOf rule ps) i 0
+  unfolding wordsOf bitsBy
   bits-word q w e = e ∙ sym (map-at digest (names bits ps) i (names-below bits ps i (w .low))) ∙ ap (λ (t : Rule). getD (wordsOf t ps) i 0) (sym q)
+
+  -- and as one
+  pub zeros-word : rule ≡ Zeros → VertexInside i ps → r ≡ digest (getD (names (bitsBy true) ps) i 0) → r ≡ getD (wordsOf rule ps) i 0
+  unfolding wordsOf bitsBy
+  zeros-word q w e = e ∙ sym (map-at digest (names zeros ps) i (names-below zeros ps i (w .low))) ∙ ap (λ (t : Rule). getD (wordsOf t ps) i 0) (sym q)
 
 -- ---- `write_words`
 pub fit-within : {ps : List Float} {n i : ℕ} {v : List ℕ} → Fit n ps v → i < n → VertexInside i ps

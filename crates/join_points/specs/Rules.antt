@@ -6,28 +6,31 @@ use lib.ListN.{length, getD, take, drop}
 use lib.Ieee.{Float}
 use Rattle.point_rules.specs.Rule as Naming
 use Rattle.point_rules.specs.Rule.{names}
-use Rattle.point_rules.specs.Points.{key, bits}
+use Rattle.point_rules.specs.Points.{key, bits, zeros}
 use Rattle.point_rules.specs.Bits.{digest}
 use Rattle.join_table.specs.declared.Source.{Source}
 use Rattle.join_table.specs.declared.Source.the-variants as source
 use Rattle.join_points.specs.declared.vertices.Rule.{Rule}
-use Rattle.join_points.specs.declared.vertices.Rule.the-variants.{Key, Bits}
+use Rattle.join_points.specs.declared.vertices.Rule.the-variants.{Key, Bits, Zeros}
 use Rattle.join_definition.specs.Join.{joined, firstIndex}
 
 -- the rule of each case
 unfoldable pub ruleOf : Rule → Naming.Rule
 ruleOf Key = key
 ruleOf Bits = bits
+ruleOf Zeros = zeros
 
 -- the words of the vertices: keys are words themselves, bits have digests
 unfoldable pub wordsOf : Rule → List Float → List ℕ
 wordsOf Key ps = names key ps
 wordsOf Bits ps = map digest (names bits ps)
+wordsOf Zeros ps = map digest (names zeros ps)
 
 -- where the names are once the words are written
 unfoldable pub sourceOf : Rule → Source
 sourceOf Key = source.Words
 sourceOf Bits = source.Bits
+sourceOf Zeros = source.Zeros
 
 -- what `join_points` requires: n vertices, and room for their table
 pub record Fit (n : ℕ) (ps : List Float) (W : List ℕ) : Type 0 where

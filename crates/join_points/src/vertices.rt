@@ -15,6 +15,8 @@ pub enum Rule {
     Key,
     // Their bits are equal.
     Bits,
+    // Their bits are equal, -0.0 having those of 0.0 on each axis.
+    Zeros,
 }
 
 // Where the names by a rule are once the words are written.
@@ -24,6 +26,7 @@ fn source_of(rule: Rule) -> Source
     match rule {
         Rule::Key => Source::Words,
         Rule::Bits => Source::Bits,
+        Rule::Zeros => Source::Zeros,
     }
 }
 
@@ -34,7 +37,8 @@ fn word_at(rule: Rule, positions: &[f32], i: usize) -> u64
 {
     match rule {
         Rule::Key => key_at(positions, i),
-        Rule::Bits => digest_at(positions, i),
+        Rule::Bits => digest_at(positions, i, false),
+        Rule::Zeros => digest_at(positions, i, true),
     }
 }
 

@@ -14,12 +14,12 @@ use lib.Ieee.{Float}
 use borrow.Author.Tests.{eq-eqb, ne-eqb}
 use mir.Syntax.{w64}
 use mir.Val.{Fits}
-use Rattle.point_rules.specs.Points.{bits}
+use Rattle.point_rules.specs.Bits.{bitsBy}
 use Rattle.point_rules.specs.Rule.{names, Both}
 use Rattle.point_rules.specs.Names.{names-within}
 use Rattle.point_rules.specs.Halves.{halves-below}
 use Rattle.join_table.specs.declared.Source.{Source}
-use Rattle.join_table.specs.declared.Source.the-variants.{Words, Bits}
+use Rattle.join_table.specs.declared.Source.the-variants.{Words, Bits, Zeros}
 use Rattle.join_table.specs.Naming.{namesOf}
 use Rattle.join_table.specs.Table.{bucketOf, Sized, Bucket, Compared}
 
@@ -57,14 +57,31 @@ module _ (W : List ℕ) (n k i : ℕ) where
         (sym (eq-eqb _ _ (getD-take n W k 0 (c .low) ∙ e ∙ sym (getD-take n W i 0 (c .low₂)))))
 
     -- the vertices are among the positions
-    pub bits-both : {j l : ℕ} → s ≡ Bits → j < n → l < n → Both j l ps
-    unfolding namesOf
-    bits-both {j} {l} q lj ll =
-        let e : length (names bits ps) ≡ n = subst (λ (t : Source). length (namesOf t ps (take n W)) ≡ n) q (c .named .long) in
-        record { low = names-within bits ps j (omega arith); low₂ = names-within bits ps l (omega arith) }
+    both : (joined : Bool) {j l : ℕ} → namesOf s ps (take n W) ≡ names (bitsBy joined) ps → j < n → l < n → Both j l ps
+    both joined {j} {l} q lj ll =
+        let e : length (names (bitsBy joined) ps) ≡ n = ap length (sym q) ∙ c .named .long in
+        record { low = names-within (bitsBy joined) ps j (omega arith); low₂ = names-within (bitsBy joined) ps l (omega arith) }
 
-    -- bits that are the names
-    pub bits-decide : {r : Bool} → s ≡ Bits → r ≡ eqb (getD (names bits ps) k 0) (getD (names bits ps) i 0)
+    -- by bits, the zeros apart
+    bits-names : s ≡ Bits → namesOf s ps (take n W) ≡ names (bitsBy false) ps
+    unfolding namesOf bitsBy
+    bits-names q = ap (λ (t : Source). namesOf t ps (take n W)) q
+
+    pub bits-both : {j l : ℕ} → s ≡ Bits → j < n → l < n → Both j l ps
+    bits-both q = both false (bits-names q)
+
+    pub bits-decide : {r : Bool} → s ≡ Bits → r ≡ eqb (getD (names (bitsBy false) ps) k 0) (getD (names (bitsBy false) ps) i 0)
         → r ≡ eqb (getD (namesOf s ps (take n W)) k 0) (getD (namesOf s ps (take n W)) i 0)
-    unfolding namesOf
-    bits-decide {r} q e = subst (λ (t : Source). r ≡ eqb (getD (namesOf t ps (take n W)) k 0) (getD (namesOf t ps (take n W)) i 0)) (sym q) e
+    bits-decide q e = e ∙ ap (λ (ns : List ℕ). eqb (getD ns k 0) (getD ns i 0)) (sym (bits-names q))
+
+    -- with the zeros as one
+    zeros-names : s ≡ Zeros → namesOf s ps (take n W) ≡ names (bitsBy true) ps
+    unfolding namesOf bitsBy
+    zeros-names q = ap (λ (t : Source). namesOf t ps (take n W)) q
+
+    pub zeros-both : {j l : ℕ} → s ≡ Zeros → j < n → l < n → Both j l ps
+    zeros-both q = both true (zeros-names q)
+
+    pub zeros-decide : {r : Bool} → s ≡ Zeros → r ≡ eqb (getD (names (bitsBy true) ps) k 0) (getD (names (bitsBy true) ps) i 0)
+        → r ≡ eqb (getD (namesOf s ps (take n W)) k 0) (getD (namesOf s ps (take n W)) i 0)
+    zeros-decide q e = e ∙ ap (λ (ns : List ℕ). eqb (getD ns k 0) (getD ns i 0)) (sym (zeros-names q))

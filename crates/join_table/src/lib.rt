@@ -27,6 +27,8 @@ pub enum Source {
     Words,
     // The bits of the vertices are the names, and the words their digests.
     Bits,
+    // So are the bits with -0.0 as 0.0 on each axis.
+    Zeros,
 }
 
 // The chain of the items with digest d: all 64 bits decide the high 32 of a product, and those which of the n chains.
@@ -50,7 +52,8 @@ fn same_name(source: Source, positions: &[f32], w: &[u64], n: usize, k: usize, i
     }
     match source {
         Source::Words => true,
-        Source::Bits => same_bits(positions, k, i),
+        Source::Bits => same_bits(positions, k, i, false),
+        Source::Zeros => same_bits(positions, k, i, true),
     }
 }
 

@@ -40,7 +40,7 @@ use Rattle.mesh_layout.specs.Mesh.{Laid, verticesOf, writtenVertices, laidFrom,
 use Rattle.mesh_layout.specs.JudgedRows.{judgedIn, numbersBy}
 use Rattle.mesh_layout.specs.LaidLaws.{laid-by, positions-by, normals-by}
 use Rattle.mesh_layout.specs.Parts.{laidIn}
-use Rattle.mesh_counts.specs.Counts.{countsOf, closedBy}
+use Rattle.mesh_counts.specs.Counts.{countsOf, closedMesh}
 use Rattle.mesh_definition.specs.declared.MeshCounts.{MeshCounts}
 use Rattle.mesh_definition.specs.declared.Assembled.the-variants.{Done, Refused}
 use Rattle.mesh_room.specs.Slices.{MeshSlices, meshTooShort, meshChecks}
@@ -225,16 +225,13 @@ module _ {table : List ℕ} {ps ns : List Float} {is W : List ℕ} {m : ℕ} (g 
               → BodyAssembled table ps ns is box materials default P P' N N' I I' parts parts' ranges ranges' failures failures' W X (Done r)
           unfolding writeMesh meshOf verticesOf writtenVertices
           body-done {X} {P'} {N'} {I'} {parts'} {ranges'} {failures'} {r} h w =
-              let counts : countsOf bits (numbersBy (judgedIn table E 0) ps) (runsOf (laidIn table E 0 is))
-              ≡ countsOf bits (flatMap (λ a. a .patch .positions) (v .accepted)) (runsOf (laidFrom 0 (v .accepted))) =
-              λ j. countsOf bits (positions-are j) (runsOf (laid-are j)) in
-              let ce = w .counts-are ∙ counts in
+              let ce = w .counts-are ∙ (λ j. countsOf bits (positions-are j) (runsOf (laid-are j))) in
               let ev = w .vertices-count ∙ vertices-are in
               let ei = w .indices-count ∙ indices-are in
               let ep = w .parts-count ∙ ap (λ (ls : List Laid). length (materialsOf ls)) laid-are in
               let er = w .ranges-count ∙ sym (accepted-count (decisionsIn table E 0) (rowsOf table) ps ns is) ∙ ap length accepted-are in
               let ef = w .failures-count ∙ ap length failed-are in
-              let ek = w .closed-is ∙ ap closedBy counts in
+              let ek = w .closed-is ∙ (λ j. closedMesh (positions-are j) (runsOf (laid-are j))) in
               let eP = w .positions-are ∙ ap (λ (xs : List Float). written xs P) positions-are in
               let eN = w .normals-are ∙ ap (λ (xs : List Float). written xs N) normals-are in
               let eI = w .indices-are ∙ ap (λ (ls : List Laid). written (runsOf ls) I) laid-are in

@@ -7,6 +7,7 @@ use lib.Dec.{ltb, eqb}
 use lib.Ieee.{Float}
 use Rattle.lists.specs.Lists.{countIf}
 use Rattle.point_rules.specs.Rule.{Rule, names}
+use Rattle.point_rules.specs.Points.{zeros}
 use Rattle.join_definition.specs.Join.{joined}
 use Rattle.body_rows.specs.Body.{trianglesOf}
 use Rattle.edge_uses.specs.Edges.{triangleUses, usesOf, firstUses}
@@ -28,6 +29,10 @@ countsOf rule ps is =
       overs = countIf (λ u. ltb 2 (usesOf uses u)) firsts;
     }
 
--- Closed, if open and over are both 0.
+-- whether open and over are both 0
 unfoldable pub closedBy : Counts → Bool
 closedBy c = eqb (c .opens) 0 && eqb (c .overs) 0
+
+-- Closed, if open and over are both 0 where the two zeros are one point; the counts themselves keep the source's rule.
+unfoldable pub closedMesh : List Float → List ℕ → Bool
+closedMesh ps is = closedBy (countsOf zeros ps is)

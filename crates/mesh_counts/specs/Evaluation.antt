@@ -2,9 +2,9 @@
 use Prim.Native.Nat.{ℕ}
 use Rattle.point_rules.specs.Evaluation as Points
 use Rattle.edge_uses.specs.Evaluation as Edges
-use Rattle.mesh_counts.specs.Counts.{countsOf, closedBy}
+use Rattle.mesh_counts.specs.Counts.{countsOf, closedBy, closedMesh}
 
 -- every definition that computes
 unfoldable pub evaluation : ℕ
-unfolding Points.evaluation Edges.evaluation countsOf closedBy
+unfolding Points.evaluation Edges.evaluation countsOf closedBy closedMesh
 evaluation = 0

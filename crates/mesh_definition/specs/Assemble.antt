@@ -10,7 +10,7 @@ use Rattle.point_rules.specs.Points.{bits}
 use Rattle.body_rows.specs.Body.{Row, rowsOf, patchesOf, firstFailing, cleared}
 use Rattle.body_refusals.specs.BodyChecks.{bodyChecks}
 use Rattle.patch_geometry.specs.declared.Aabb.{Aabb}
-use Rattle.mesh_counts.specs.Counts.{Counts, countsOf, closedBy}
+use Rattle.mesh_counts.specs.Counts.{Counts, countsOf, closedMesh}
 use Rattle.mesh_acceptance.specs.Acceptance.{Acceptance, acceptance, acceptedVertices, acceptedIndices, failureNumbers}
 use Rattle.mesh_layout.specs.Mesh.{Vertices, verticesOf, writtenVertices, laidFrom, materialsOf, runsOf, partOf, rangesFrom}
 use Rattle.mesh_room.specs.Slices.{MeshSlices, meshChecks}
@@ -25,20 +25,19 @@ pub record Mesh : Type 0 where
   pub counts : Counts
   pub closed : Bool
 
--- the mesh of the accepted patches; over it, points are the same exactly if their bits agree
+-- the mesh of the accepted patches; over it, points are the same exactly if their bits agree, and for closed the two zeros are one
 unfoldable pub meshOf : Acceptance → Mesh
 meshOf v =
     let ls = laidFrom 0 (v .accepted) in
     let vertices = verticesOf (v .accepted) in
-    let counts = countsOf bits (vertices .positions) (runsOf ls) in
     record {
       vertices = vertices;
       indices = runsOf ls;
       parts = flatMap (partOf ls) (materialsOf ls);
       ranges = rangesFrom ls [] ls;
       failures = flatMap failureNumbers (v .failed);
-      counts = counts;
-      closed = closedBy counts;
+      counts = countsOf bits (vertices .positions) (runsOf ls);
+      closed = closedMesh (vertices .positions) (runsOf ls);
     }
 
 -- what assemble answers (the refusal's number or 0; how many vertices, indices, parts, ranges and failures were written; the counts and closed)

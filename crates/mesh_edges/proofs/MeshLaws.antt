@@ -14,7 +14,7 @@ use Rattle.point_rules.specs.Rule.{names}
 use Rattle.point_rules.specs.Points.{bits}
 use Rattle.point_rules.specs.Names.{names-length}
 use Rattle.body_rows.specs.Body.{trianglesOf}
-use Rattle.join_points.specs.declared.vertices.Rule.the-variants.{Bits}
+use Rattle.join_points.specs.declared.vertices.Rule.{Rule}
 use Rattle.join_definition.specs.Join.{joined, RoomAt, JoinedAt}
 use Rattle.join_definition.specs.Representatives.{joined-at, joined-low}
 use Rattle.join_points.specs.Rules.{ruleOf, JoinedPoints}
@@ -56,17 +56,17 @@ module _ {at n : ℕ} {W : List ℕ} (g : RoomAt at n W) where
 
 -- ---- a mesh
 
-module _ {ps : List Float} {is : List ℕ} {v : ℕ} {W : List ℕ} (g : MeshReady ps is v W) where
+module _ (rule : Rule) {ps : List Float} {is : List ℕ} {v : ℕ} {W : List ℕ} (g : MeshReady ps is v W) where
   -- the first vertex of each point
   abbrev points : List ℕ
-  points = joined (names bits ps)
+  points = joined (names (ruleOf rule) ps)
 
   points-low : (x : ℕ) → getD points x 0 < 262144
-  points-low = joined-low (names bits ps) 262144 (omega arith) (omega (arith, names-length bits ps v (g .all), g .few-vertices))
+  points-low = joined-low (names (ruleOf rule) ps) 262144 (omega arith) (omega (arith, names-length (ruleOf rule) ps v (g .all), g .few-vertices))
 
   -- the uses of the mesh
   abbrev uses : List Use
-  uses = meshUses ps is
+  uses = meshUses rule ps is
 
   uses-many : length uses ≡ length is
   uses-many = uses-count 0 0 points is (g .whole)
@@ -104,9 +104,8 @@ module _ {ps : List Float} {is : List ℕ} {v : ℕ} {W : List ℕ} (g : MeshRea
 
   -- ---- the uses named
 
-  module _ {X : List ℕ} (p : JoinedPoints Bits ps v W X) (long : length X ≡ length W) where
+  module _ {X : List ℕ} (p : JoinedPoints rule ps v W X) (long : length X ≡ length W) where
     joined-there : take v (drop v X) ≡ points
-    unfolding ruleOf
     joined-there = p .reps
 
     pub name-ready : NameReady is X v v 0 (length is) (4 * v) 0
@@ -119,7 +118,7 @@ module _ {ps : List Float} {is : List ℕ} {v : ℕ} {W : List ℕ} (g : MeshRea
     ns-many : length ns ≡ length is
     ns-many = length-named useName uses ∙ uses-many
 
-    pub edges-named : {E : List ℕ} → E ≡ sets X (4 * v + 0) (map useName (triangleUses 0 0 (drop v X) (trianglesOf (take (length is - 0) (drop 0 is))))) → EdgesNamed ps is v W E
+    pub edges-named : {E : List ℕ} → E ≡ sets X (4 * v + 0) (map useName (triangleUses 0 0 (drop v X) (trianglesOf (take (length is - 0) (drop 0 is))))) → EdgesNamed rule ps is v W E
     edges-named {E} e =
         record {
           points = stretch-kept v v (4 * v) X E (ap (take (4 * v)) stored ∙ take-sets X (4 * v) ns) (omega arith) ∙ joined-there;
@@ -136,7 +135,7 @@ module _ {ps : List Float} {is : List ℕ} {v : ℕ} {W : List ℕ} (g : MeshRea
 
   -- ---- the uses counted
 
-  module _ {X : List ℕ} (m : EdgesNamed ps is v W X) (x-long : length X ≡ length W) where
+  module _ {X : List ℕ} (m : EdgesNamed rule ps is v W X) (x-long : length X ≡ length W) where
     module _ {Y : List ℕ} (f : FirstsCounted (4 * v) (length is) X Y) (y-long : length Y ≡ length X) where
       points-kept : take v (drop v Y) ≡ points
       points-kept = stretch-kept v v (4 * v) X Y (f .front) (omega arith) ∙ m .points
@@ -197,9 +196,9 @@ module _ {ps : List Float} {is : List ℕ} {v : ℕ} {W : List ℕ} (g : MeshRea
             ∙ f .rest
             ∙ rest-less (4 * v + length is) (4 * v + 4 * length is) W X (m .rest) (omega arith)
 
-        counts-are : {r : EdgeCounts} → CountsOver uses r → countsIn r ≡ countsOf bits ps is
+        counts-are : {r : EdgeCounts} → CountsOver uses r → countsIn r ≡ countsOf (ruleOf rule) ps is
         unfolding countsOf
         counts-are {r} c = rw (c .edges, c .opens, c .overs)
 
-        pub mesh-counted : {r : EdgeCounts} → Tallied Z (4 * v + length is) (length is) r → MeshCounted ps is v W r Z
+        pub mesh-counted : {r : EdgeCounts} → Tallied Z (4 * v + length is) (length is) r → MeshCounted rule ps is v W r Z
         mesh-counted t = record { counts = counts-are (t .counts uses words); rest = counted-rest }

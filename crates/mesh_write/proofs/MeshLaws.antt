@@ -1,12 +1,10 @@
 -- Laws of writing the mesh and counting its edges. Assumes nothing.
 use mathlib.Core.Path.{_≡_, refl, sym, ap, _∙_, subst}
-use mathlib.Core.Bool.{Bool, _&&_}
 use mathlib.Core.List.{List, []}
 use Prim.Native.Nat.{ℕ, _+_, _*_, _%_, _≤_}
 use native.Mathlib.Omega.{arith}
 use lib.ListN.{length, take, drop}
 use lib.Seq.{take-at}
-use lib.Dec.{eqb}
 use lib.Ieee.{Float}
 use Rattle.lists.specs.Lists.{sumOf, written}
 use Rattle.lists.specs.Stretches.{rest-less}
@@ -27,10 +25,9 @@ use Rattle.mesh_layout.specs.MaterialLaws.{materials-few}
 use Rattle.mesh_layout.specs.RunsLong.{runs-long}
 use Rattle.mesh_layout.specs.Written.{VerticesWritable, VerticesWritten}
 use Rattle.mesh_layout.specs.Parts.{laidIn}
-use Rattle.mesh_tally.specs.declared.EdgeCounts.{EdgeCounts}
-use Rattle.mesh_counts.specs.Counts.{countsOf, closedBy}
-use Rattle.mesh_tally.specs.Tally.{countsIn}
-use Rattle.mesh_edges.specs.Mesh.{MeshReady, MeshCounted}
+use Rattle.mesh_counts.specs.Counts.{countsOf, closedMesh}
+use Rattle.mesh_edges.specs.declared.mesh.MeshEdges.{MeshEdges}
+use Rattle.mesh_edges.specs.Mesh.{MeshReady, EdgesCounted}
 use Rattle.mesh_tables.specs.declared.Tables.{Tables}
 use Rattle.mesh_tables.specs.Tables.{TablesReady, TablesWritten}
 use Rattle.mesh_write.specs.Written.{CountReady, Counted, WriteReady, MeshWritten}
@@ -40,8 +37,8 @@ use Rattle.mesh_write.proofs.BelowLaws.{runs-below, laid-below}
 -- ---- counting
 
 -- the mesh's counts
-pub mesh-counted : {P : List Float} {I W E : List ℕ} {v n : ℕ} {r : EdgeCounts} → CountReady P I W v n → MeshCounted (take (3 * v) P) (take n I) v W r E → length (take n I) ≡ n → Counted P I W E v n r
-mesh-counted {P} {I} {W} {E} {v} {n} g c l = record { counts = c .counts; rest = subst (λ (k : ℕ). drop (4 * v + 4 * k) E ≡ drop (4 * v + 4 * k) W) l (c .rest) }
+pub mesh-counted : {P : List Float} {I W E : List ℕ} {v n : ℕ} {r : MeshEdges} → CountReady P I W v n → EdgesCounted (take (3 * v) P) (take n I) v W r E → length (take n I) ≡ n → Counted P I W E v n r
+mesh-counted {P} {I} {W} {E} {v} {n} g c l = record { counts = c .counts; closed = c .closed; rest = subst (λ (k : ℕ). drop (4 * v + 4 * k) E ≡ drop (4 * v + 4 * k) W) l (c .rest) }
 
 -- a front that was written
 front-written : {A : Type 0} (xs old : List A) (n : ℕ) → length xs ≡ n → take n (written xs old) ≡ xs
@@ -156,12 +153,20 @@ module _ {table : List ℕ} {ps ns : List Float} {is : List ℕ} {box : Aabb} {W
     failures-low = omega (arith, w .failures-count, failed-most box (rowsOf table) ps [] is, q .rows)
 
     -- the mesh is written
-    pub mesh-written : {X : List ℕ} {c : EdgeCounts} {closed : Bool} → Counted P' I' E X (t .vertices) (t .indices) c → closed ≡ (eqb (c .opens) 0 && eqb (c .overs) 0)
+    pub mesh-written : {X : List ℕ} {c : MeshEdges} → Counted P' I' E X (t .vertices) (t .indices) c
         → MeshWritten table ps ns is box W X m t P P' N N' I I' parts parts' ranges ranges' failures failures'
-        (record { vertices = t .vertices; indices = t .indices; parts = b .parts; ranges = b .ranges; failures = b .failures; edges = c .edges; opens = c .opens; overs = c .overs; closed = closed })
-    unfolding closedBy
-    mesh-written {X} {c} {closed} k e =
-        let same : countsIn c ≡ countsOf bits (numbersBy js ps) (runsOf ls) = k .counts ∙ (λ j. countsOf bits (positions-front j) (indices-front j)) in
+        (record {
+          vertices = t .vertices;
+          indices = t .indices;
+          parts = b .parts;
+          ranges = b .ranges;
+          failures = b .failures;
+          edges = c .edges;
+          opens = c .opens;
+          overs = c .overs;
+          closed = c .closed;
+        })
+    mesh-written {X} k =
         record {
           positions-are = vp .numbers;
           normals-are = vn .numbers;
@@ -174,8 +179,8 @@ module _ {table : List ℕ} {ps ns : List Float} {is : List ℕ} {box : Aabb} {W
           parts-count = w .parts-count;
           ranges-count = w .ranges-count;
           failures-count = w .failures-count;
-          counts-are = same;
-          closed-is = e ∙ ap closedBy same;
+          counts-are = k .counts ∙ (λ j. countsOf bits (positions-front j) (indices-front j));
+          closed-is = k .closed ∙ (λ j. closedMesh (positions-front j) (indices-front j));
           rest =
               rest-less (4 * t .vertices + 4 * t .indices) (16 * length is + 16 * m + 4 * t .vertices) E X (k .rest) (omega (arith, indices-few))
               ∙ rest-less (4 * m) (16 * length is + 16 * m + 4 * t .vertices) W E (w .rest) (omega arith);

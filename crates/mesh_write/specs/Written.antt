@@ -16,9 +16,8 @@ use Rattle.mesh_judge.specs.Totals.{Totalled}
 use Rattle.mesh_layout.specs.Mesh.{partWidth, rangeWidth, materialsOf, runsOf, partOf, rangesFrom}
 use Rattle.mesh_layout.specs.JudgedRows.{judgedIn, numbersBy}
 use Rattle.mesh_layout.specs.Parts.{laidIn}
-use Rattle.mesh_tally.specs.declared.EdgeCounts.{EdgeCounts}
-use Rattle.mesh_counts.specs.Counts.{Counts, countsOf, closedBy}
-use Rattle.mesh_tally.specs.Tally.{countsIn}
+use Rattle.mesh_counts.specs.Counts.{Counts, countsOf, closedMesh}
+use Rattle.mesh_edges.specs.declared.mesh.MeshEdges.{MeshEdges}
 use Rattle.mesh_edges.specs.Mesh.{MeshReady}
 use Rattle.mesh_tables.specs.Tables.{Decided}
 use Rattle.mesh_definition.specs.declared.MeshCounts.{MeshCounts}
@@ -30,8 +29,9 @@ pub record CountReady (P : List Float) (I W : List ℕ) (vertices indices : ℕ)
   pub mesh : MeshReady (take (3 * vertices) P) (take indices I) vertices W
 
 -- what it leaves
-pub record Counted (P : List Float) (I W E : List ℕ) (vertices indices : ℕ) (r : EdgeCounts) : Type 0 where
-  pub counts : countsIn r ≡ countsOf bits (take (3 * vertices) P) (take indices I)
+pub record Counted (P : List Float) (I W E : List ℕ) (vertices indices : ℕ) (r : MeshEdges) : Type 0 where
+  pub counts : record { edges = r .edges; opens = r .opens; overs = r .overs } ≡ countsOf bits (take (3 * vertices) P) (take indices I)
+  pub closed : r .closed ≡ closedMesh (take (3 * vertices) P) (take indices I)
   pub rest : drop (4 * vertices + 4 * indices) E ≡ drop (4 * vertices + 4 * indices) W
 
 -- what writing the mesh asks: decisions, the totals of the accepted rows, and room
@@ -64,5 +64,5 @@ pub record MeshWritten (table : List ℕ) (ps ns : List Float) (is : List ℕ) (
   pub ranges-count : r .ranges ≡ length (acceptedRows (decisionsIn table W 0) (rowsOf table))
   pub failures-count : r .failures ≡ length (flatMap (failedOf box) (shapes table ps is))
   pub counts-are : countsOfMesh r ≡ countsOf bits (numbersBy (judgedIn table W 0) ps) (runsOf (laidIn table W 0 is))
-  pub closed-is : r .closed ≡ closedBy (countsOf bits (numbersBy (judgedIn table W 0) ps) (runsOf (laidIn table W 0 is)))
+  pub closed-is : r .closed ≡ closedMesh (numbersBy (judgedIn table W 0) ps) (runsOf (laidIn table W 0 is))
   pub rest : drop (16 * length is + 16 * m + 4 * t .vertices) E ≡ drop (16 * length is + 16 * m + 4 * t .vertices) W

@@ -5,19 +5,19 @@ use mesh_judge::Totals;
 use patch_geometry::Aabb;
 ghost use Rattle.mesh_write.specs.Written.{CountReady, Counted, WriteReady, MeshWritten};
 
-// The edges of the mesh that stands at the front of the slices are counted.
+// The edges of the mesh that stands at the front of the slices are counted, and whether it is closed is told.
 fn count_mesh(
     mesh_positions: &[f32],
     mesh_indices: &[u32],
     w: &mut [u64],
     vertices: usize,
     indices: usize,
-) -> mesh_tally::EdgeCounts
+) -> mesh_edges::MeshEdges
     requires { ⌜ CountReady (now «mesh_positions») (now «mesh_indices») (now w) vertices indices ⌝ }
     ensures { λ r. ⌜ Counted (now («mesh_positions» .entry)) (now («mesh_indices» .entry)) (now (w .entry)) (now (w .exit)) vertices indices r ⌝ }
 {
     let end = 3 * vertices;
-    mesh_edges::count_edges(
+    mesh_edges::count_mesh(
         &mesh_positions[..end],
         &mesh_indices[..indices],
         w,
@@ -74,6 +74,6 @@ pub fn write_mesh(
         edges: c.edges,
         opens: c.opens,
         overs: c.overs,
-        closed: (c.opens == 0) & (c.overs == 0),
+        closed: c.closed,
     }
 }

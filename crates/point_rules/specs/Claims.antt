@@ -5,14 +5,14 @@ use lib.Dec.{T}
 use Rattle.lists.specs.Lists.{all}
 use Rattle.lists.specs.Table.{Case, case, agrees}
 use Rattle.float_steps.specs.Floats.{f32}
-use Rattle.point_rules.specs.Points.{cell, pattern, key, bits}
+use Rattle.point_rules.specs.Points.{cell, pattern, key, bits, zeros}
 use Rattle.point_rules.specs.Evaluation.{evaluation}
 
 -- the cells of some f32 bits, as 64-bit patterns
 cells : List ℕ → List ℕ
 cells bs = map (λ b. pattern (cell (f32 b))) bs
 
--- cells of 2^-7, −2^-7, −0.0, 2^43, 2^44, −2^44; keys of (0,0,0), (1,2,3), (−1, 0.5, 0); the names by bits of the two zeros
+-- cells of 2^-7, −2^-7, −0.0, 2^43, 2^44, −2^44; keys of (0,0,0), (1,2,3), (−1, 0.5, 0); the names by bits of the two zeros, and with −0.0 as 0.0 on each axis
 pub claims : List Case
 claims =
     case 1 (cells (0x3C000000 ∷ 0xBC000000 ∷ 0x80000000 ∷ [])) (7813 ∷ (2 ^ 64 - 7813) ∷ 0 ∷ [])
@@ -21,6 +21,9 @@ claims =
     ∷ case 4 (key (f32 0x3F800000) (f32 0x40000000) (f32 0x40400000) ∷ []) (0xEB8010E0CC71C37B ∷ [])
     ∷ case 5 (key (f32 0xBF800000) (f32 0x3F000000) (f32 0) ∷ []) (0x97995B1F3B186F8D ∷ [])
     ∷ case 6 (bits (f32 0) (f32 0) (f32 0) ∷ bits (f32 0x80000000) (f32 0) (f32 0) ∷ []) (0 ∷ 0x800000000000000000000000 ∷ [])
+    ∷ case 7
+    (zeros (f32 0x80000000) (f32 0) (f32 0) ∷ zeros (f32 0) (f32 0x80000000) (f32 0) ∷ zeros (f32 0) (f32 0) (f32 0x80000000) ∷ zeros (f32 0x80000001) (f32 0) (f32 0) ∷ [])
+    (0 ∷ 0 ∷ 0 ∷ 0x800000010000000000000000 ∷ [])
     ∷ []
 
 -- The definitions yield each.

@@ -4,5 +4,6 @@ pub mod Rule
 pub mod Names
 pub mod Points
 pub mod Bits
+pub mod Zeros
 pub mod Evaluation
 pub mod Claims

@@ -1,5 +1,5 @@
--- Cell and key of a point, and the two joining rules: `key` for turning and stitching, `bits` for the counts over the mesh. Assumes nothing.
-use mathlib.Core.Bool.{Bool, true, false}
+-- Cell and key of a point, and the joining rules: `key` for turning and stitching, `bits` for the counts over the mesh, `zeros` for closed. Assumes nothing.
+use mathlib.Core.Bool.{Bool, true, false, cond}
 use mathlib.Core.List.{List, [], _∷_, _++_}
 use Prim.Native.Nat.{ℕ, zero, suc, _+_, _-_, _*_, _/_, _%_, _^_, min}
 use lib.IntN.{ℤ, pos, negsuc, negℤ}
@@ -76,3 +76,11 @@ key x y z =
 -- Points are the same exactly if their bits agree: the three f32 bit patterns as one number.
 unfoldable pub bits : Rule
 bits x y z = (bits32 x * 2 ^ 32 + bits32 y) * 2 ^ 32 + bits32 z
+
+-- the bits of a coordinate, −0.0 having those of 0.0
+abbrev pub zeroJoined : ℕ → ℕ
+zeroJoined b = cond (eqb b (2 ^ 31)) 0 b
+
+-- For closed, the two zeros are one point: the rule by bits, with −0.0 as 0.0 on each axis.
+unfoldable pub zeros : Rule
+zeros x y z = (zeroJoined (bits32 x) * 2 ^ 32 + zeroJoined (bits32 y)) * 2 ^ 32 + zeroJoined (bits32 z)

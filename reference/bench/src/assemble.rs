@@ -7,7 +7,7 @@ use compare::library::{self, Assembled, FAILURE, Mesh, PART, RANGE, Setting};
 use driver::finish::{box_of, face_materials, faces_of};
 use driver::flat::{Flat, ROW};
 use driver::sheet::Sheet;
-use driver::tail::{Tail, tail};
+use driver::tail::{self, Tail, tail};
 use std::time::Duration;
 
 /// Output slices with room for a body whose rows are all accepted.
@@ -23,8 +23,8 @@ pub fn mesh_room(body: &Flat) -> Mesh {
     }
 }
 
-/// The library's answer, as the Rust's results say it should be.
-pub fn answer_of(done: &Tail) -> Assembled {
+/// The library's answer, as the Rust's results and whether the body is closed say it should be.
+pub fn answer_of(done: &Tail, closed: bool) -> Assembled {
     Assembled {
         refusal: 0,
         vertices: done.mesh.positions.len() as u32,
@@ -35,7 +35,7 @@ pub fn answer_of(done: &Tail) -> Assembled {
         edges: done.edges as u64,
         opens: done.open as u64,
         overs: done.over as u64,
-        closed: (done.open == 0 && done.over == 0) as u32,
+        closed: closed as u32,
     }
 }
 
@@ -53,11 +53,12 @@ fn both(sheet: &Sheet, rounds: usize, kept: bool) -> Times {
     let entries = materials.iter().map(|m| m.map_or(0, |m| m.0 as u64 + 1)).collect();
     let setting = Setting { reference, materials: entries, default: 0 };
     let (mut mesh, mut work) = (mesh_room(&body), vec![0; body.words()]);
+    let closed = tail::assemble(faces.clone(), sheet).closed();
     let (mut wanted, mut answer) = (None, None);
     let rust = || -> Duration {
         let copy = faces.clone();
         let (time, done) = timed(|| tail("body", &solid, copy, None, &materials));
-        wanted = Some(answer_of(&done));
+        wanted = Some(answer_of(&done, closed));
         time
     };
     let ours = || -> Duration {

@@ -1,5 +1,6 @@
 //! The bodies that stages are timed on.
 
+use driver::closed::NEGATIVE_ZERO;
 use driver::generate::large::{torus, torus_with_holes};
 use driver::random::Random;
 use driver::sheet::Sheet;
@@ -29,6 +30,23 @@ fn torus_body(name: &'static str, triangles: usize, rounds: usize, open: bool, f
 pub fn closed_and_open() -> Vec<Body> {
     let kinds = |(triangles, rounds)| KINDS.iter().map(move |(name, open, far)| torus_body(name, triangles, rounds, *open, *far));
     SIZES.into_iter().flat_map(kinds).collect()
+}
+
+/// A closed body of 100,000 triangles that has −0.0 for 0.0 in the second half of its rows, so many times at most.
+fn zeros_body(name: &'static str, count: usize) -> Body {
+    let make = move || {
+        let mut sheet = torus(&mut Random::new(1), 100_000, EVERY, false, false);
+        let half = sheet.rows.len() / 2;
+        let zeros = sheet.rows[half..].iter_mut().flat_map(|row| &mut row.positions).flatten().filter(|bits| **bits == 0);
+        zeros.take(count).for_each(|bits| *bits = NEGATIVE_ZERO);
+        sheet
+    };
+    Body { name, make: Box::new(make), rounds: 21 }
+}
+
+/// One body without a −0.0, with one, and with −0.0 for every 0.0 in half its rows.
+pub fn with_zeros() -> Vec<Body> {
+    [("no −0.0", 0), ("one −0.0", 1), ("−0.0 for 0.0 in half the rows", usize::MAX)].map(|(name, count)| zeros_body(name, count)).into()
 }
 
 fn holes(name: &'static str, triangles: usize, rounds: usize, holes: usize, patched: bool) -> Body {

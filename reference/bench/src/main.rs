@@ -9,15 +9,15 @@ mod stitch;
 mod turn;
 mod whole;
 
-use bench::bodies::{Body, closed_and_open, with_open_edges, yard};
+use bench::bodies::{Body, closed_and_open, with_open_edges, with_zeros, yard};
 use bench::race::Times;
 use bench::shown::{grouped, time};
 use driver::command::fail;
 use driver::sheet::Sheet;
 
 const USAGE: &str = "usage: bench [STAGE]   a table of each stage, or of one: turn, turn-new-work, stitch, stitch-new-slices,
-       assemble, assemble-new-slices, assemble-materials, assemble-materials-new-slices, whole, whole-new-slices, yard, growth, growth-open, plan,
-       peg";
+       assemble, assemble-new-slices, assemble-zeros, assemble-materials, assemble-materials-new-slices, whole, whole-new-slices, yard,
+       growth, growth-open, plan, peg";
 
 /// A stage's name, the bodies it is timed on, and how both sides are timed on a body, so many rounds.
 type Stage = (&'static str, fn() -> Vec<Body>, fn(&Sheet, usize) -> Times);
@@ -29,6 +29,7 @@ const STAGES: &[Stage] = &[
     ("stitch-new-slices", with_open_edges, stitch::times_with_new_slices),
     ("assemble", closed_and_open, assemble::times),
     ("assemble-new-slices", closed_and_open, assemble::times_with_new_slices),
+    ("assemble-zeros", with_zeros, assemble::times),
     ("assemble-materials", closed_and_open, assemble::times_with_materials),
     ("assemble-materials-new-slices", closed_and_open, assemble::times_with_materials_and_new_slices),
     ("whole", with_open_edges, whole::times),

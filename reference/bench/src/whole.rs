@@ -10,7 +10,7 @@ use compare::library::{self, Assembled, Mesh, Setting};
 use driver::finish::{box_of, face_materials, faces_of};
 use driver::flat::Flat;
 use driver::sheet::Sheet;
-use driver::tail::{Faces, tail};
+use driver::tail::{self, Faces, tail};
 use std::time::Duration;
 
 /// What both sides must agree on: rows turned, contradictions, splits, and what assembling answers.
@@ -22,19 +22,25 @@ struct Theirs {
     sag: f64,
     solid: Solid,
     materials: Vec<Option<MaterialId>>,
+    closed: bool,
 }
 
 impl Theirs {
     fn of(sheet: &Sheet) -> Theirs {
         let solid = Solid::new(Vec::new(), box_of(sheet));
-        Theirs { faces: faces_of(sheet), sag: f64::from_bits(sheet.sag), solid, materials: face_materials(sheet) }
+        let (faces, sag) = (faces_of(sheet), f64::from_bits(sheet.sag));
+        let mut stitched = faces.clone();
+        probe::orient_shell(&mut stitched);
+        probe::stitch_t_junctions(&mut stitched, sag);
+        let closed = tail::assemble(stitched, sheet).closed();
+        Theirs { faces, sag, solid, materials: face_materials(sheet), closed }
     }
 
     fn finished(&self, mut faces: Faces) -> Counts {
         let (turned, against) = probe::orient_shell(&mut faces);
         let splits = probe::stitch_t_junctions(&mut faces, self.sag);
         let done = tail("body", &self.solid, faces, None, &self.materials);
-        (turned as u32, against as u64, splits as u64, answer_of(&done))
+        (turned as u32, against as u64, splits as u64, answer_of(&done, self.closed))
     }
 }
 

@@ -73,10 +73,22 @@ pub fn compared(sheet: &Sheet, seed: u64) -> Result<Tally, String> {
     for case in cases.into_iter().flatten() {
         let named = |what| format!("{}: {what}", case.name);
         differs(&case, r).map_or(Ok(()), Err).map_err(named)?;
-        tally.count(&case.answer);
+        tally.count(&case.answer, &case.mesh);
         if is_small(&case.body) || tally.refusals == 0 {
             tally.refusals += refusals(&case, r).map_err(named)?;
         }
     }
+    Ok(tally)
+}
+
+/// A body assembled as it is given, whose edges, open and over and whether it is closed are known; or what differs.
+pub fn by_hand(sheet: &Sheet, counts: [u64; 3], closed: bool, seed: u64) -> Result<Tally, String> {
+    let r = &mut Random::new(seed);
+    let case = as_given("as given", sheet, r);
+    let Assembled { edges, opens, overs, closed: is_closed, .. } = case.answer;
+    assert_eq!(([edges, opens, overs], is_closed), (counts, closed as u32), "the Rust's counts and the model's closed of {sheet:?}");
+    differs(&case, r).map_or(Ok(()), Err)?;
+    let mut tally = Tally::default();
+    tally.count(&case.answer, &case.mesh);
     Ok(tally)
 }

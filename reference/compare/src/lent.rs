@@ -5,6 +5,7 @@ use crate::pegs;
 use crate::plans::wrong;
 use crate::planted;
 use crate::work::Work;
+use crate::zeros;
 use cad_ir::math::Aabb;
 use compare::library::{
     Assembled, Judged, Lone, Lookup, Measured, Mesh, NearestBins, PlanRead, PlanWritten, Setting, Stitched, Turned, raw,
@@ -67,6 +68,12 @@ pub fn assemble(body: &Flat, setting: &Setting, mesh: &mut Mesh, work: &mut Work
             m.start(), m.len(), setting.default, mp.start(), mp.len(), mn.start(), mn.len(), mi.start(), mi.len(),
             parts.start(), parts.len(), ranges.start(), ranges.len(), failures.start(), failures.len(), w, w_len)
     };
+    if let Some(wrong) = zeros::wrong::planted().filter(|_| answer.refusal == 0) {
+        let (vertices, indices) = (3 * answer.vertices as usize, answer.indices as usize);
+        let (positions, normals) = (&mp.lent()[..vertices], &mn.lent()[..vertices]);
+        let made = zeros::wrong::Triangles { positions, normals, indices: mi.lent()[..indices].to_vec() };
+        zeros::wrong::change(&mut answer, body, &made, wrong);
+    }
     let slices: &mut [&mut dyn Spoil] =
         &mut [&mut rows, &mut p, &mut n, &mut i, &mut m, &mut mp, &mut mn, &mut mi, &mut parts, &mut ranges, &mut failures];
     planted::spoil("assemble", &mut answer, slices, Some(work));

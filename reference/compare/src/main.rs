@@ -1,6 +1,6 @@
 //! Holds the proved library against the unchanged Rust on generated bodies: turning, stitching and assembling with their refusals,
-//! each patch alone, keys and cells of points, and the float steps against the processor's own. Plans and the lookup of a peg's bins,
-//! which the Rust has not, are held to plain models.
+//! each patch alone, keys and cells of points, and the float steps against the processor's own. Plans, the lookup of a peg's bins and
+//! whether a mesh is closed, which the Rust has not, are held to plain models.
 
 mod assembling;
 mod faces;
@@ -22,10 +22,11 @@ mod turning;
 mod whole;
 mod work;
 mod worst;
+mod zeros;
 
 use driver::check::{MOST_INDICES, MOST_ROWS, check};
 use driver::command::fail;
-use driver::generate::{KINDS, Kind, LARGE, SEAMS, body_of, kind};
+use driver::generate::{KINDS, Kind, LARGE, SEAMS, ZEROS, body_of, kind};
 use driver::print;
 use driver::random::Random;
 use driver::sheet::{BENCH, Sheet, parse};
@@ -42,6 +43,7 @@ const USAGE: &str = "usage: compare FIRST LAST [SIZE]
        compare --sheets SHEET...
        compare --plans FIRST LAST
        compare --pegs FIRST LAST
+       compare --zeros FIRST LAST
        compare --plan-program PROGRAM FIRST LAST
        compare --planted FIRST LAST
        compare --keys
@@ -56,6 +58,7 @@ With --plans only plans, which every run has besides: 250 of each seed and a lar
 that is one byte away from a small plan.
 With --pegs only lookups of a peg's bins, which every run has besides: about a thousand placed bodies of each seed and their damaged copies, and without
 --small those at the limits.
+With --zeros only bodies with 0.0 and -0.0 side by side, which every run has besides, and without --small those with answers by hand.
 With --plan-program a program reads the plans at the limits and some of each seed, and must print each one's listing or refusal.
 With --planted faults are planted behind the library's calls, and the seeds FIRST to LAST must find each of them.
 With --keys the keys and cells of 2^32 points in which each coordinate is every f32 once, in some minutes.
@@ -187,6 +190,22 @@ fn compare_pegs_alone((first, last, _): (u64, u64, Option<usize>), tally: &mut T
     println!("compare: {}: no difference", tally.pegs.said());
 }
 
+/// The bodies with both zeros that have answers by hand.
+fn compare_zeros_by_hand(tally: &mut Tally) {
+    match zeros::by_hand(&mut tally.assembled) {
+        Ok(bodies) => tally.worst += bodies,
+        Err(what) => fail(&format!("compare: zeros: {what}")),
+    }
+}
+
+/// Bodies with both zeros and nothing else: small ones, and one of a size that goes with the seed for each kind.
+fn compare_zeros_alone((first, last, _): (u64, u64, Option<usize>), tally: &mut Tally) {
+    compare_zeros_by_hand(tally);
+    for seed in first..=last {
+        [0, size_of(seed)].iter().for_each(|size| compare_kinds(ZEROS, seed, *size, tally));
+    }
+}
+
 /// What a program prints of plans.
 fn compare_plan_program(program: &str, (first, last, _): (u64, u64, Option<usize>)) {
     match plans::program::compared(program, first, last) {
@@ -209,13 +228,19 @@ fn compare_and_time_worst(points: usize, tally: &mut Tally) {
     println!("compare: {bodies} bodies made by hand: no difference; {points} loose points on one edge: {seconds:.2} s");
 }
 
+/// The size of a seed's larger bodies.
+fn size_of(seed: u64) -> usize {
+    SIZES[(seed % SIZES.len() as u64) as usize]
+}
+
 /// The bodies of every kind that go with seeds.
 fn compare_seeds(first: u64, last: u64, size: Option<usize>, tally: &mut Tally) {
     for seed in first..=last {
-        let sizes = size.map_or(vec![0, SIZES[(seed % SIZES.len() as u64) as usize]], |s| vec![s]);
+        let sizes = size.map_or(vec![0, size_of(seed)], |s| vec![s]);
         for size in sizes {
             compare_kinds(KINDS, seed, size, tally);
             compare_kinds(SEAMS, seed, size, tally);
+            compare_kinds(ZEROS, seed, size, tally);
         }
         for size in NOTHING {
             compare_body(&Made { kind: named("large-nothing"), seed, size }, tally);
@@ -240,6 +265,7 @@ fn compare_sheet(name: &str, tally: &mut Tally) {
 fn compare_all(first: u64, last: u64, size: Option<usize>, tally: &mut Tally) {
     compare_plans_by_hand(tally);
     compare_pegs_by_hand(tally);
+    compare_zeros_by_hand(tally);
     compare_worst(WORST_POINTS, tally);
     compare_seeds(first, last, size, tally);
     compare_kinds(LARGE, first, MANY_TRIANGLES, tally);
@@ -288,6 +314,10 @@ fn find_wrong_lookups(first: u64, last: u64) -> usize {
     find_wrong("lookups", pegs::wrong::ALL, pegs::wrong::Wrong::Nothing, pegs::wrong::plant, || pegs::shows(first, last))
 }
 
+fn find_wrong_closed(first: u64, last: u64) -> usize {
+    find_wrong("answers of closed", zeros::wrong::ALL, zeros::wrong::Wrong::Nothing, zeros::wrong::plant, || zeros::shows(first, last))
+}
+
 /// Plant each fault, and say how many the comparison finds, and the three calls in a row alone of those where a body is finished.
 fn find_planted(first: u64, last: u64) {
     let all = planted::all();
@@ -299,10 +329,10 @@ fn find_planted(first: u64, last: u64) {
     if !missed.is_empty() {
         fail(&format!("compare: planted and not found: {missed:?}"));
     }
-    let (plans, lookups) = (find_wrong_plans(first, last), find_wrong_lookups(first, last));
+    let (plans, lookups, closed) = (find_wrong_plans(first, last), find_wrong_lookups(first, last), find_wrong_closed(first, last));
     println!(
         "compare: {} planted faults, all found; {in_a_row} of the {} behind a finished call also by the three calls in a row alone; \
-         {plans} wrong readers and writers of plans and {lookups} wrong lookups of a peg's bins, all found",
+         {plans} wrong readers and writers of plans, {lookups} wrong lookups of a peg's bins and {closed} wrong answers of closed, all found",
         all.len(),
         chained.len()
     );
@@ -350,6 +380,7 @@ fn main() {
         Some((word, names)) if word == "--sheets" && !names.is_empty() => names.iter().for_each(|name| compare_sheet(name, tally)),
         Some((word, rest)) if word == "--plans" => return compare_plans_alone(numbers(rest, MOST_ROWS), tally),
         Some((word, rest)) if word == "--pegs" => return compare_pegs_alone(numbers(rest, MOST_ROWS), tally),
+        Some((word, rest)) if word == "--zeros" => compare_zeros_alone(numbers(rest, MOST_ROWS), tally),
         Some((word, [program, rest @ ..])) if word == "--plan-program" => return compare_plan_program(program, numbers(rest, MOST_ROWS)),
         Some((word, rest)) if word == "--planted" => {
             let (first, last, _) = numbers(rest, MOST_ROWS);

@@ -31,7 +31,7 @@ pub struct Tally {
     /// Bodies with a sag that were only copied: too open, and outside document 01's condition.
     open: u64,
     outside: u64,
-    assembled: assembling::Tally,
+    pub assembled: assembling::Tally,
     /// Bodies made by hand.
     pub worst: u64,
     pub plans: plans::Tally,

@@ -1,6 +1,7 @@
 //! A body finished by the unchanged Rust, with everything that it returns or prints.
 
 use crate::check::{MOST_INDICES, MOST_VERTICES};
+use crate::closed::is_closed;
 use crate::sheet::{Refusal, Row, Sheet};
 use cad_ir::brep::{FaceId, Outcome, Solid};
 use cad_ir::math::{Aabb, Vec3};
@@ -47,9 +48,9 @@ pub struct Finished {
 }
 
 impl Finished {
-    /// Added by document 01: no edge is open and none is over.
+    /// Added by document 01 and amended by 02: the two zeros being one point, no edge is open and none is over.
     pub fn closed(&self) -> bool {
-        self.open == 0 && self.over == 0
+        is_closed(&self.positions, &self.indices)
     }
 }
 

@@ -1,6 +1,7 @@
 //! The bench sheet (document 01) read, checked, finished by the unchanged Rust, and printed; and sheets made up at random.
 
 pub mod check;
+pub mod closed;
 pub mod command;
 pub mod condition;
 pub mod finish;

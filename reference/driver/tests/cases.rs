@@ -1,14 +1,16 @@
-//! The bench cases of document 01 that a sheet can show, its worked example, and the tools' own rules.
+//! The bench cases of document 01 that a sheet can show, its worked example, those of 02's two zeros, and the tools' own rules.
 
 use cad_tess::face::{patch_of, probe};
 use driver::check::{check, refusal};
+use driver::closed::{NEGATIVE_ZERO, uses};
 use driver::command::answer;
-use driver::finish::{finish, outcome_of};
+use driver::finish::{faces_of, finish, outcome_of};
 use driver::flat::{Flat, ROW};
-use driver::generate::{KINDS, LARGE, SEAMS, body_of, generate, kind};
+use driver::generate::{KINDS, LARGE, SEAMS, ZEROS, body_of, generate, kind};
 use driver::print;
 use driver::sheet::{BENCH, parse};
 use driver::source::{cell, key};
+use driver::tail::assemble;
 use std::fs;
 use std::path::PathBuf;
 
@@ -36,7 +38,7 @@ fn every_stored_case_has_its_stored_answer() {
             count += 1;
         }
     }
-    assert_eq!(count, 9);
+    assert_eq!(count, 12);
 }
 
 #[test]
@@ -55,6 +57,9 @@ fn stored_answers_say_what_the_paper_says() {
     says("K9-stays", &["(ok 1)"]);
     says("K9-escapes", &["(ok 0)", "(failed 0 0 (escape 4024000020000000 4024000000000000))"]);
     says("K10", &["(ok 1)"]);
+    says("N5-seam", &["(edges 12)", "(open 6)", "(over 0)", "(closed 1)"]);
+    says("N5-touch", &["(edges 12)", "(open 0)", "(over 0)", "(closed 0)"]);
+    says("N5-sliver", &["(edges 3)", "(open 3)", "(over 0)", "(closed 1)"]);
 }
 
 /// The bins of a body's rows stand in its ranges and failures, and cover nothing else.
@@ -81,6 +86,26 @@ fn bins_stand_beside_what_the_rust_says() {
     assert!(failed > 0);
 }
 
+/// Counted by bits as the model counts, edges, open and over are the Rust's, and with −0.0 made 0.0 they say whether a mesh is closed.
+#[test]
+fn the_model_of_closed_counts_as_the_rust_does() {
+    let (mut joined, mut touching) = (0, 0);
+    for (k, seed) in KINDS.iter().chain(ZEROS).flat_map(|k| (0..60).map(move |seed| (k, seed))) {
+        let Some(sheet) = body_of(k, seed, 0).filter(|sheet| check(sheet).is_ok()) else { continue };
+        let done = assemble(faces_of(&sheet), &sheet);
+        let uses = uses(&done.positions, &done.indices, |p| p.map(f32::to_bits));
+        let count = |holds: fn(&usize) -> bool| uses.values().filter(|n| holds(n)).count();
+        assert_eq!((uses.len(), count(|n| *n == 1), count(|n| *n > 2)), (done.edges, done.open, done.over), "{} {seed}", k.name);
+        let mut plain = sheet.clone();
+        plain.rows.iter_mut().flat_map(|row| &mut row.positions).flatten().filter(|b| **b == NEGATIVE_ZERO).for_each(|b| *b = 0);
+        let same = assemble(faces_of(&plain), &plain);
+        assert_eq!(done.closed(), same.open == 0 && same.over == 0, "{} {seed}", k.name);
+        joined += (done.closed() && done.open > 0) as usize;
+        touching += (!done.closed() && done.open == 0 && done.over == 0) as usize;
+    }
+    assert!(joined > 0 && touching > 0);
+}
+
 #[test]
 fn the_volume_of_k6() {
     let sheet = parse(&sheet_text("K6"), None).expect("a sheet");
@@ -97,7 +122,7 @@ fn cells_of_k1_and_k2() {
 
 #[test]
 fn what_is_generated_reads_back_and_is_the_same_every_time() {
-    for k in KINDS.iter().chain(SEAMS) {
+    for k in KINDS.iter().chain(SEAMS).chain(ZEROS) {
         for seed in 0..20 {
             let text = generate(k, seed, 0);
             assert_eq!(text, generate(k, seed, 0), "{} {seed}", k.name);

@@ -2,18 +2,23 @@
 //!
 //! The mesh and its parts are what the Rust returns; the counts are those it prints, the ranges those by which it slices its indices.
 //! The reach and the span of an escape it reports in words, with one decimal: their bits come from its own `farthest` and `diagonal`,
-//! held to those words. Closed is document 01's own. The Rust knows nothing of bins: a range and a failure have that of their row.
+//! held to those words. Closed is that of the model in `driver::closed`, which where no −0.0 is has to be what the counts say.
+//! The Rust knows nothing of bins: a range and a failure have that of their row.
 
 use super::settings::setting;
 use super::slices::{Lengths, filled, lengths};
 use crate::source_bodies::flat_of;
 use cad_tess::face::probe;
 use compare::library::{Assembled, FAILURE, Mesh, PART, RANGE, Setting};
+use driver::closed::has_negative_zero;
 use driver::finish::{Failure, Finished, faces_of, finish};
 use driver::flat::{Flat, ROW};
 use driver::random::Random;
 use driver::sheet::Sheet;
 use driver::tail;
+
+/// Indices of a mesh without a −0.0, in which no two points of other bits are one, that is held to the model as well, at most.
+const MOST_MODELLED: usize = 60_000;
 
 /// A body, how it came to be, what it is assembled with, and what the Rust makes of it.
 pub struct Case {
@@ -48,6 +53,17 @@ pub fn mesh_of(done: &Finished) -> Mesh {
     }
 }
 
+/// The model's closed, held to the Rust's counts of a mesh without a −0.0; those of a large one stand for it.
+fn closed(done: &Finished) -> bool {
+    let (counted, zeros) = (done.open == 0 && done.over == 0, has_negative_zero(&done.positions));
+    if !zeros && done.indices.len() > MOST_MODELLED {
+        return counted;
+    }
+    let closed = done.closed();
+    assert!(zeros || closed == counted, "without a −0.0 the model's closed is what the Rust's counts say");
+    closed
+}
+
 pub fn answer_of(done: &Finished) -> Assembled {
     assert_eq!(done.ok, done.ranges.len(), "a range for each accepted row");
     Assembled {
@@ -60,7 +76,7 @@ pub fn answer_of(done: &Finished) -> Assembled {
         edges: done.edges as u64,
         opens: done.open as u64,
         overs: done.over as u64,
-        closed: done.closed() as u32,
+        closed: closed(done) as u32,
     }
 }
 

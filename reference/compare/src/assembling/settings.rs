@@ -2,6 +2,7 @@
 
 use compare::library::Setting;
 use driver::check::{MOST_BIN, MOST_ROWS, MOST_VERTICES};
+use driver::closed::NEGATIVE_ZERO;
 use driver::finish::{box_of, face_materials};
 use driver::random::Random;
 use driver::sheet::{Row, Sheet};
@@ -166,6 +167,16 @@ fn add_unused_vertex(sheet: &mut Sheet, r: &mut Random) {
     }
 }
 
+/// Some of the zeros get the other sign, or all.
+fn change_zeros(sheet: &mut Sheet, r: &mut Random) {
+    let percent = *r.pick(&[5, 50, 100]);
+    for bits in sheet.rows.iter_mut().flat_map(|row| &mut row.positions).flatten() {
+        if *bits | NEGATIVE_ZERO == NEGATIVE_ZERO && r.chance(percent) {
+            *bits ^= NEGATIVE_ZERO;
+        }
+    }
+}
+
 /// A sheet with another box, other materials and another default, and some of its rows changed.
 pub fn varied(sheet: &Sheet, r: &mut Random) -> Sheet {
     let mut other = sheet.clone();
@@ -180,6 +191,9 @@ pub fn varied(sheet: &Sheet, r: &mut Random) -> Sheet {
     }
     if r.chance(20) {
         add_unused_vertex(&mut other, r);
+    }
+    if r.chance(30) {
+        change_zeros(&mut other, r);
     }
     let make = *r.pick(BOXES);
     if let Some(corners) = make(&other, r) {

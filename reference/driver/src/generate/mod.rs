@@ -7,6 +7,7 @@ pub mod large;
 mod seams;
 mod shapes;
 mod texts;
+mod zeros;
 
 use crate::print;
 use crate::random::Random;
@@ -80,6 +81,14 @@ pub const SEAMS: &[Kind] = &[
     body("seam-cells", "points around a cell apart, subnormal coordinates among them", seams::cells),
 ];
 
+/// Kinds with both zeros, for what a mesh is closed by.
+pub const ZEROS: &[Kind] = &[
+    body("zero-seam", "a closed shape across its own axes, 0.0 on one side and -0.0 on the other, or of any sign", zeros::seam),
+    body("zero-touch", "solids that touch along an edge, a face or at a corner, each with zeros of its own sign", zeros::touch),
+    body("zero-sliver", "triangles of which two corners or three differ by signs of zeros alone", zeros::sliver),
+    body("zero-lattice", "triangles on a small lattice, each laid some times with zeros of any sign", zeros::lattice),
+];
+
 /// Kinds whose size is a number of triangles, for bodies up to the limits of document 01.
 pub const LARGE: &[Kind] = &[
     body("large-torus", "a closed torus in up to 4,096 rows, wound at random", large::closed),
@@ -113,7 +122,7 @@ pub fn body_of(kind: &Kind, seed: u64, size: usize) -> Option<Sheet> {
 }
 
 pub fn kind(name: &str) -> Option<&'static Kind> {
-    KINDS.iter().chain(SEAMS).chain(LARGE).find(|k| k.name == name)
+    KINDS.iter().chain(SEAMS).chain(ZEROS).chain(LARGE).find(|k| k.name == name)
 }
 
 /// Each kind has random numbers of its own.

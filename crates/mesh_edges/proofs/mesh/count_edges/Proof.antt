@@ -27,7 +27,7 @@ run-row-requires : tie.Need-run-row-requires
 run-row-requires c κs =
     let f = c .before .before .before in
     let m = f .before .before .before .before in
-    runs-ready (m .before .before .before .before .before .pre) (m .name-edges .ensures) (omega arith) (f .count-firsts .ensures) (omega arith)
+    runs-ready _ (m .before .before .before .before .before .pre) (m .name-edges .ensures) (omega arith) (f .count-firsts .ensures) (omega arith)
 
 mul-tally : tie.Need-mul-tally
 mul-tally c = search needs
@@ -46,7 +46,7 @@ returns c =
     let u = c .before .before .before .before in
     let f = u .before .before .before .before in
     let m = f .before .before .before .before in
-    mesh-counted (m .before .before .before .before .before .pre) (m .name-edges .ensures) (omega arith) (f .count-firsts .ensures) (omega arith) (u .run-row .ensures) (omega arith) (c .tally .ensures)
+    mesh-counted _ (m .before .before .before .before .before .pre) (m .name-edges .ensures) (omega arith) (f .count-firsts .ensures) (omega arith) (u .run-row .ensures) (omega arith) (c .tally .ensures)
 
 pub count-edges-spec : {M : Type 1} → statement M
 count-edges-spec =
