@@ -11,6 +11,7 @@ mod lent;
 mod patches;
 mod pegs;
 mod plans;
+mod plantable;
 mod planted;
 mod refusals;
 mod smallest;

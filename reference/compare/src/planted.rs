@@ -2,10 +2,10 @@
 //! in a slice's first or last element, before it or behind it, or a bin in a table that a call writes.
 
 use crate::fences::{Place, Spoil};
+use crate::plantable::plantable;
 use crate::work::Work;
 use compare::library::{Assembled, FAILURE, Judged, Measured, NearestBins, PlanRead, PlanWritten, RANGE, Stitched, Turned};
 use driver::flat::ROW;
-use std::cell::Cell;
 
 /// What is changed: field k of the answer, slice k, or the work area.
 #[derive(Debug, Clone, Copy, PartialEq)]
@@ -73,14 +73,7 @@ const CALLS: [(&str, usize, usize, bool); 9] = [
     ("nearest_bins", 2, 6, false),
 ];
 
-thread_local! {
-    static PLANTED: Cell<Option<Plant>> = const { Cell::new(None) };
-}
-
-/// Plant a fault from now on, or none.
-pub fn plant(fault: Option<Plant>) {
-    PLANTED.set(fault);
-}
+plantable!(Plant);
 
 /// Every fault there is.
 pub fn all() -> Vec<Plant> {
@@ -138,7 +131,7 @@ raised!(NearestBins, |_, _, _| 0; refusal + 1, bins + 1);
 
 /// Change what the planted fault changes, if it is one of this call.
 pub fn spoil(call: &str, answer: &mut dyn Answer, slices: &mut [&mut dyn Spoil], work: Option<&mut Work>) {
-    let Some(fault) = PLANTED.get() else { return };
+    let Some(fault) = planted() else { return };
     if fault.call != call || fault.refused != (answer.refusal() != 0) {
         return;
     }

@@ -4,7 +4,7 @@ pub mod checks;
 pub mod lookup;
 mod rounding;
 
-use std::cell::Cell;
+use crate::plantable::plantable;
 
 /// What is wrong with a lookup.
 #[derive(Debug, Clone, Copy, PartialEq)]
@@ -122,16 +122,4 @@ pub const ALL: &[Wrong] = &[
     Wrong::TailCleared, Wrong::EndMarked,
 ];
 
-thread_local! {
-    static PLANTED: Cell<Option<Wrong>> = const { Cell::new(None) };
-}
-
-/// Let this lookup stand in the call's place from now on, or the call itself.
-pub fn plant(wrong: Option<Wrong>) {
-    PLANTED.set(wrong);
-}
-
-/// What stands in the call's place.
-pub fn planted() -> Option<Wrong> {
-    PLANTED.get()
-}
+plantable!(Wrong);

@@ -3,7 +3,7 @@
 pub mod reader;
 pub mod writer;
 
-use std::cell::Cell;
+use crate::plantable::plantable;
 
 /// What is wrong with a reader or a writer.
 #[derive(Debug, Clone, Copy, PartialEq)]
@@ -99,16 +99,4 @@ pub fn all() -> impl Iterator<Item = Fault> {
     readers.chain(WRITERS.iter().map(|wrong| Fault { writer: *wrong, ..NONE }))
 }
 
-thread_local! {
-    static PLANTED: Cell<Option<Fault>> = const { Cell::new(None) };
-}
-
-/// Let these stand in the calls' place from now on, or the calls themselves.
-pub fn plant(fault: Option<Fault>) {
-    PLANTED.set(fault);
-}
-
-/// What stands in the calls' place.
-pub fn planted() -> Option<Fault> {
-    PLANTED.get()
-}
+plantable!(Fault);

@@ -4,7 +4,7 @@ mod answers;
 
 pub use answers::{Triangles, change};
 
-use std::cell::Cell;
+use crate::plantable::plantable;
 
 /// What is wrong with an answer.
 #[derive(Debug, Clone, Copy, PartialEq)]
@@ -70,16 +70,4 @@ pub const ALL: &[Wrong] = &[
     Wrong::LastNotLookedAt, Wrong::EdgesJoined, Wrong::OpenJoined, Wrong::OverJoined, Wrong::CountsJoined,
 ];
 
-thread_local! {
-    static PLANTED: Cell<Option<Wrong>> = const { Cell::new(None) };
-}
-
-/// Let this closed stand in the call's answer from now on, or the call's own.
-pub fn plant(wrong: Option<Wrong>) {
-    PLANTED.set(wrong);
-}
-
-/// What stands in the call's answer.
-pub fn planted() -> Option<Wrong> {
-    PLANTED.get()
-}
+plantable!(Wrong);
