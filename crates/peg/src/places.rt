@@ -1,5 +1,6 @@
 // 65: the peg or a row's place is out of range, or there are fewer places than rows.
 
+use peg_distance::PLACE_WIDTH;
 use signed_numbers::in_range;
 ghost use mathlib.Core.Path.{_≡_};
 ghost use mathlib.Core.Bool.{not};
@@ -10,9 +11,6 @@ ghost use Rattle.plan_definition.specs.Places.{inRange};
 ghost use Rattle.peg_definition.specs.Peg.{badPlaces, placesOf};
 ghost use Rattle.peg_definition.specs.PlaceLaws.{placeAt};
 ghost use Rattle.peg.specs.Answer.{at};
-
-// How many numbers a place has.
-const PLACE_WIDTH: usize = 3;
 
 // Whether a place is in range on each axis.
 pub fn place_in_range(x: i64, y: i64, z: i64) -> bool

@@ -5,6 +5,7 @@ mod target;
 
 pub use distance::BEYOND;
 pub use distance::row_least;
+pub use target::PLACE_WIDTH;
 pub use target::PegWords;
 pub use target::Target;
 pub use target::peg_words;

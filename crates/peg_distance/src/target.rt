@@ -12,7 +12,7 @@ ghost use Rattle.peg_distance.specs.Words.{AxisAim, AxisRange, PegAt, Ro
 pub const MIDDLE: u64 = 0x800_0000_0000;
 
 // How many numbers a place has.
-const PLACE_WIDTH: usize = 3;
+pub const PLACE_WIDTH: usize = 3;
 
 // The words of a peg's place, each 2^40 more than its number.
 pub struct PegWords {
