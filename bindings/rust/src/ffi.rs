@@ -72,17 +72,30 @@ struct CadNearestBins {
 
 #[rustfmt::skip]
 extern "C" {
-    fn cad_turn(rows: *const u32, rows_len: usize, positions: *const f32, positions_len: usize, normals: *mut f32, normals_len: usize, indices: *mut u32, indices_len: usize, work: *mut u64, work_len: usize) -> CadTurned;
-    fn cad_stitch(rows: *const u32, rows_len: usize, positions: *const f32, positions_len: usize, normals: *const f32, normals_len: usize, indices: *const u32, indices_len: usize, sag: f64, out_rows: *mut u32, out_rows_len: usize, out_positions: *mut f32, out_positions_len: usize, out_normals: *mut f32, out_normals_len: usize, out_indices: *mut u32, out_indices_len: usize, work: *mut u64, work_len: usize) -> CadStitched;
-    fn cad_assemble(rows: *const u32, rows_len: usize, positions: *const f32, positions_len: usize, normals: *const f32, normals_len: usize, indices: *const u32, indices_len: usize, min_x: f64, min_y: f64, min_z: f64, max_x: f64, max_y: f64, max_z: f64, materials: *const u64, materials_len: usize, default_material: u64, mesh_positions: *mut f32, mesh_positions_len: usize, mesh_normals: *mut f32, mesh_normals_len: usize, mesh_indices: *mut u32, mesh_indices_len: usize, parts: *mut u32, parts_len: usize, ranges: *mut u32, ranges_len: usize, failures: *mut u64, failures_len: usize, work: *mut u64, work_len: usize) -> CadAssembled;
+    fn cad_turn(rows: *const u32, rows_len: usize, positions: *const f32, positions_len: usize, normals: *mut f32, normals_len: usize, indices: *mut u32,
+        indices_len: usize, work: *mut u64, work_len: usize) -> CadTurned;
+    fn cad_stitch(rows: *const u32, rows_len: usize, positions: *const f32, positions_len: usize, normals: *const f32, normals_len: usize,
+        indices: *const u32, indices_len: usize, sag: f64, out_rows: *mut u32, out_rows_len: usize, out_positions: *mut f32, out_positions_len: usize,
+        out_normals: *mut f32, out_normals_len: usize, out_indices: *mut u32, out_indices_len: usize, work: *mut u64, work_len: usize) -> CadStitched;
+    fn cad_assemble(rows: *const u32, rows_len: usize, positions: *const f32, positions_len: usize, normals: *const f32, normals_len: usize,
+        indices: *const u32, indices_len: usize, min_x: f64, min_y: f64, min_z: f64, max_x: f64, max_y: f64, max_z: f64, materials: *const u64,
+        materials_len: usize, default_material: u64, mesh_positions: *mut f32, mesh_positions_len: usize, mesh_normals: *mut f32, mesh_normals_len: usize,
+        mesh_indices: *mut u32, mesh_indices_len: usize, parts: *mut u32, parts_len: usize, ranges: *mut u32, ranges_len: usize, failures: *mut u64,
+        failures_len: usize, work: *mut u64, work_len: usize) -> CadAssembled;
     fn cad_read_plan(text: *const u8, text_len: usize, list: *mut i64, list_len: usize) -> CadPlanRead;
     fn cad_write_plan(list: *const i64, list_len: usize, out: *mut u8, out_len: usize) -> CadPlanWritten;
-    fn cad_nearest_bins(rows: *const u32, rows_len: usize, positions: *const f32, positions_len: usize, normals: *const f32, normals_len: usize, indices: *const u32, indices_len: usize, places: *const i64, places_len: usize, x: i64, y: i64, z: i64, bins: *mut u32, bins_len: usize) -> CadNearestBins;
+    fn cad_nearest_bins(rows: *const u32, rows_len: usize, positions: *const f32, positions_len: usize, normals: *const f32, normals_len: usize,
+        indices: *const u32, indices_len: usize, places: *const i64, places_len: usize, x: i64, y: i64, z: i64, bins: *mut u32,
+        bins_len: usize) -> CadNearestBins;
     fn cad_face_at(rows: *const Row, rows_len: usize, k: usize) -> u32;
-    fn cad_face_indices(rows: *const u32, rows_len: usize, indices: *const u32, indices_len: usize, stitched_rows: *const u32, stitched_rows_len: usize, stitched_indices: *const u32, stitched_indices_len: usize, k: usize, out: *mut u32, out_len: usize) -> u64;
-    fn cad_patch_volume(positions: *const f32, positions_len: usize, normals: *const f32, normals_len: usize, indices: *const u32, indices_len: usize, flip: bool) -> CadMeasured;
-    fn cad_farthest(positions: *const f32, positions_len: usize, normals: *const f32, normals_len: usize, indices: *const u32, indices_len: usize, min_x: f64, min_y: f64, min_z: f64, max_x: f64, max_y: f64, max_z: f64) -> CadMeasured;
-    fn cad_escapes_body(positions: *const f32, positions_len: usize, normals: *const f32, normals_len: usize, indices: *const u32, indices_len: usize, min_x: f64, min_y: f64, min_z: f64, max_x: f64, max_y: f64, max_z: f64) -> CadJudged;
+    fn cad_face_indices(rows: *const u32, rows_len: usize, indices: *const u32, indices_len: usize, stitched_rows: *const u32, stitched_rows_len: usize,
+        stitched_indices: *const u32, stitched_indices_len: usize, k: usize, out: *mut u32, out_len: usize) -> u64;
+    fn cad_patch_volume(positions: *const f32, positions_len: usize, normals: *const f32, normals_len: usize, indices: *const u32, indices_len: usize,
+        flip: bool) -> CadMeasured;
+    fn cad_farthest(positions: *const f32, positions_len: usize, normals: *const f32, normals_len: usize, indices: *const u32, indices_len: usize,
+        min_x: f64, min_y: f64, min_z: f64, max_x: f64, max_y: f64, max_z: f64) -> CadMeasured;
+    fn cad_escapes_body(positions: *const f32, positions_len: usize, normals: *const f32, normals_len: usize, indices: *const u32, indices_len: usize,
+        min_x: f64, min_y: f64, min_z: f64, max_x: f64, max_y: f64, max_z: f64) -> CadJudged;
     fn cad_widen(bits: u32) -> u64;
     fn cad_narrow(bits: u64) -> u32;
     fn cad_sqrt(bits: u64) -> u64;

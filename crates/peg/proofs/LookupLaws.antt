@@ -111,7 +111,8 @@ module _ (table : List ℕ) (ps : List Float) (list : List ℤ) (x y z : ℤ) (E
         let none : bodyHits table ps list w ≡ [] =
         hits-empty (bodyHits table ps list w) (λ s b t. hits-few (pegOf w) (patchesOf (rowsOf table) ps [] []) (placesOf list) s b t) (sym (v .least) ∙ h) in
         let is : fitting (length E) (nearestBins (placedHits table ps list x y z)) ≡ Found [] =
-        ap (λ (hs : List Hit). fitting (length E) (nearestBins hs)) (sym hits-are ∙ none) ∙ ap (λ (t : Bool). elim t [ true ↦ Refused tooManyBins | false ↦ Found [] ]) (le-ltb (length E) 0 (omega arith)) in
+        ap (λ (hs : List Hit). fitting (length E) (nearestBins hs)) (sym hits-are ∙ none)
+        ∙ ap (λ (t : Bool). elim t [ true ↦ Refused tooManyBins | false ↦ Found [] ]) (le-ltb (length E) 0 (omega arith)) in
         record { answer = ap pegAnswer (sym is); list = ap (λ (l : Lookup). binsAfter l E) (sym is) }
 
     -- one is
@@ -172,13 +173,15 @@ module _ (table : List ℕ) (ps ns : List Float) (is : List ℕ) (list : List �
         good = sym bad-is ∙ q
 
         peg-in : inRange (at x y z) ≡ true
-        peg-in = not-false (inRange (at x y z)) (or-left (not (inRange (at x y z))) (ltb (length (placesOf list)) (length (rowsOf table)) || any (λ p. not (inRange p)) (take (length (rowsOf table)) (placesOf list))) good)
+        peg-in = not-false (inRange (at x y z)) (or-left (not (inRange (at x y z)))
+            (ltb (length (placesOf list)) (length (rowsOf table)) || any (λ p. not (inRange p)) (take (length (rowsOf table)) (placesOf list))) good)
 
         rest-in : (ltb (length (placesOf list)) (length (rowsOf table)) || any (λ p. not (inRange p)) (take (length (rowsOf table)) (placesOf list))) ≡ false
         rest-in = or-right (not (inRange (at x y z))) (ltb (length (placesOf list)) (length (rowsOf table)) || any (λ p. not (inRange p)) (take (length (rowsOf table)) (placesOf list))) good
 
         enough : length (rowsOf table) ≤ length (placesOf list)
-        enough = ltb-false (length (placesOf list)) (length (rowsOf table)) (or-left (ltb (length (placesOf list)) (length (rowsOf table))) (any (λ p. not (inRange p)) (take (length (rowsOf table)) (placesOf list))) rest-in)
+        enough = ltb-false (length (placesOf list)) (length (rowsOf table)) (or-left (ltb (length (placesOf list)) (length (rowsOf table)))
+            (any (λ p. not (inRange p)) (take (length (rowsOf table)) (placesOf list))) rest-in)
 
         -- row j's place is in range
         place-in : (j : ℕ) → j < length (rowsOf table) → inRange (placeAt list j) ≡ true

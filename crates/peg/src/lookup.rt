@@ -21,7 +21,8 @@ const MISPLACED: u32 = 65;
 
 const TOO_MANY_BINS: u32 = 66;
 
-// The bins that share the smallest sum of squares, into a list that has room for them: they are counted before the first is written, so that 66 leaves the list.
+// The bins that share the smallest sum of squares, into a list that has room for them: they are counted before the first is written, so that 66 leaves
+// the list.
 fn listed(
     rows: &[u32],
     positions: &[f32],
@@ -33,7 +34,8 @@ fn listed(
     requires { ⌜ Placed (now rows) (now positions) (now places) peg ⌝ }
     requires { ⌜ BestOf (bodyHits (now rows) (now positions) (now places) peg) best ⌝ }
     requires { ⌜ best .square < beyond ⌝ }
-    ensures { λ r. ⌜ BinsListed (nearestBins (bodyHits (now (rows .entry)) (now (positions .entry)) (now (places .entry)) peg)) (now (bins .entry)) (now (bins .exit)) r ⌝ }
+    ensures { λ r. ⌜ BinsListed (nearestBins (bodyHits (now (rows .entry)) (now (positions .entry)) (now (places .entry)) peg))
+        (now (bins .entry)) (now (bins .exit)) r ⌝ }
 {
     let count = list_bins(rows, positions, places, peg, best, &mut bins[..0]);
     if bins.len() < count {

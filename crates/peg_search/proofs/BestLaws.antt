@@ -32,7 +32,8 @@ pub one-bin : (row : List Hit) (m bin : ℕ) → m ≡ leastOf row → ((s b : �
 one-bin row m bin e f = record {
   least = e;
   bins = f;
-  has = λ l. let p = least-ties row (subst (λ (n : ℕ). n < beyond) e l) in subst (λ (n : ℕ). Ties n bin row) (sym e) (subst (λ (n : ℕ). Ties (leastOf row) n row) (f (leastOf row) (p .0) (p .1)) (p .1));
+  has = λ l. let p = least-ties row (subst (λ (n : ℕ). n < beyond) e l) in subst (λ (n : ℕ). Ties n bin row) (sym e)
+      (subst (λ (n : ℕ). Ties (leastOf row) n row) (f (leastOf row) (p .0) (p .1)) (p .1));
 }
 
 -- of no rows
@@ -110,7 +111,8 @@ module _ (hits row : List Hit) (b : Best) (s bin : ℕ) (v : BestOf hits b) (r :
       whole p q = λ i. record { square = same p q i; low = b .low; high = b .high }
 
       first : (t : Bool) → ltb s (b .square) ≡ t → (u : Bool) → ltb (b .square) s ≡ u → (x : Bool) → ltb bin (b .low) ≡ x → (y : Bool) → ltb (b .high) bin ≡ y
-          → BestOf (hits ++ row) (cond t (record { square = s; low = bin; high = bin }) (cond u b (cond x (record { square = s; low = bin; high = b .high }) (cond y (record { square = s; low = b .low; high = bin }) b))))
+          → BestOf (hits ++ row) (cond t (record { square = s; low = bin; high = bin })
+          (cond u b (cond x (record { square = s; low = bin; high = b .high }) (cond y (record { square = s; low = b .low; high = bin }) b))))
       first true p u q x a y c = nearer (ltb-true s (b .square) p)
       first false p true q x a y c = farther (ltb-true (b .square) s q)
       first false p false q true a y c =

@@ -62,7 +62,8 @@ unfolding filter
 skipped a b [] l f = refl
 skipped a b (x ∷ xs) l f = go (leb a x) refl (leb b x) refl (skipped a b xs l (λ y p q h. f y p q (inr h)))
   where
-    go : (s : Bool) → leb a x ≡ s → (t : Bool) → leb b x ≡ t → filter (leb a) xs ≡ filter (leb b) xs → cond s (x ∷ filter (leb a) xs) (filter (leb a) xs) ≡ cond t (x ∷ filter (leb b) xs) (filter (leb b) xs)
+    go : (s : Bool) → leb a x ≡ s → (t : Bool) → leb b x ≡ t → filter (leb a) xs ≡ filter (leb b) xs
+        → cond s (x ∷ filter (leb a) xs) (filter (leb a) xs) ≡ cond t (x ∷ filter (leb b) xs) (filter (leb b) xs)
     go true p true q e = ap (λ (ys : List ℕ). x ∷ ys) e
     go false p false q e = e
     go true p false q e = absurd (f x (leb-true a x p) (leb-false b x q) (inl refl))

@@ -102,7 +102,8 @@ module _ (table : List ℕ) (ps : List Float) (list : List ℤ) (peg : PegWords)
         let here : Ties s wanted (rowOf table ps list peg k) =
         subst (λ (x : ℕ). Ties s x (rowOf table ps list peg k)) b (subst (λ (x : ℕ). Ties x (rowAt table k .bin) (rowOf table ps list peg k)) g (row .has (subst (λ (x : ℕ). x < beyond) (sym g) l))) in
         record {
-          has = λ z. front-ties table ps list peg s wanted (k + 1) (subst (Ties s wanted) (sym (front-more table ps list peg p k there)) (ties-right s wanted (front table ps list peg k) (rowOf table ps list peg k) here));
+          has = λ z. front-ties table ps list peg s wanted (k + 1)
+              (subst (Ties s wanted) (sym (front-more table ps list peg p k there)) (ties-right s wanted (front table ps list peg k) (rowOf table ps list peg k) here));
           none = λ z. absurd (no z);
         }
       where

@@ -64,7 +64,8 @@ module _ (list : List ℤ) (k : ℕ) (peg : PegWords) (t : Target) (e : RowAim l
   row-same bin (x ∷ []) = refl
   row-same bin (x ∷ y ∷ []) = refl
   row-same bin (x ∷ y ∷ z ∷ ps) =
-      (λ i. min (vertex-same x y z i) (row-same bin ps i)) ∙ go (near (pegOf peg) (standing (placeAt list k) x y z)) (squaresSum (pegOf peg) (standing (placeAt list k) x y z)) (rowHits (pegOf peg) bin (placeAt list k) ps)
+      (λ i. min (vertex-same x y z i) (row-same bin ps i))
+      ∙ go (near (pegOf peg) (standing (placeAt list k) x y z)) (squaresSum (pegOf peg) (standing (placeAt list k) x y z)) (rowHits (pegOf peg) bin (placeAt list k) ps)
     where
       go : (c : Bool) (s : ℕ) (hs : List Hit) → min (cond c s beyond) (leastOf hs) ≡ leastOf (cond c (record { bin = bin; square = s } ∷ hs) hs)
       go true s hs = refl
@@ -142,7 +143,8 @@ module _ (table : List ℕ) (ps : List Float) (list : List ℤ) (peg : PegWords)
         ap (λ (n : ℕ). hitsOf (pegOf peg) (take n patches) (placesOf list)) (add-one k)
         ∙ ap (λ (l : List Patch). hitsOf (pegOf peg) l (placesOf list)) (take-suc patches k noPatch k-there)
         ∙ hits-append (pegOf peg) (take k patches) (getD patches k noPatch ∷ []) (placesOf list)
-        ∙ ap (λ (l : List Place). front k ++ hitsOf (pegOf peg) (getD patches k noPatch ∷ []) l) (ap (λ (n : ℕ). drop n (placesOf list)) (length-take-le k patches (omega (arith, k-there))) ∙ places-here list k place-there)
+        ∙ ap (λ (l : List Place). front k ++ hitsOf (pegOf peg) (getD patches k noPatch ∷ []) l)
+        (ap (λ (n : ℕ). drop n (placesOf list)) (length-take-le k patches (omega (arith, k-there))) ∙ places-here list k place-there)
         ∙ ap (λ (l : List Hit). front k ++ l)
         (append-nil (rowHits (pegOf peg) (getD patches k noPatch .row .bin) (placeAt list k) (getD patches k noPatch .positions))
         ∙ ap (λ (q : Patch). rowHits (pegOf peg) (q .row .bin) (placeAt list k) (q .positions)) (patch-at (rowsOf table) ps [] [] k h))

@@ -176,7 +176,8 @@ row-few peg bin place (x ∷ y ∷ z ∷ ps) s b t = go (near peg (standing plac
     first q (inl e) r = subst (λ (n : ℕ). n < beyond) (e .0) (near-few peg (standing place x y z) q)
     first q (inr u) r = r u
 
-    go : (c : Bool) → near peg (standing place x y z) ≡ c → Ties s b (cond c (record { bin = bin; square = squaresSum peg (standing place x y z) } ∷ rowHits peg bin place ps) (rowHits peg bin place ps))
+    go : (c : Bool) → near peg (standing place x y z) ≡ c
+        → Ties s b (cond c (record { bin = bin; square = squaresSum peg (standing place x y z) } ∷ rowHits peg bin place ps) (rowHits peg bin place ps))
         → (Ties s b (rowHits peg bin place ps) → s < beyond) → s < beyond
     go true q u r = first q u r
     go false q u r = r u
@@ -205,7 +206,8 @@ hits-empty (h ∷ hs) f e =
     absurd (omega arith)
 
 -- normals and indices play no part
-pub hits-shape : (peg : Place) (rows : List Row) (ps ns ns′ : List Float) (is is′ : List ℕ) (places : List Place) → hitsOf peg (patchesOf rows ps ns is) places ≡ hitsOf peg (patchesOf rows ps ns′ is′) places
+pub hits-shape : (peg : Place) (rows : List Row) (ps ns ns′ : List Float) (is is′ : List ℕ) (places : List Place)
+    → hitsOf peg (patchesOf rows ps ns is) places ≡ hitsOf peg (patchesOf rows ps ns′ is′) places
 unfolding hitsOf patchesOf
 hits-shape peg [] ps ns ns′ is is′ places = refl
 hits-shape peg (r ∷ rows) ps ns ns′ is is′ [] = refl

@@ -170,8 +170,8 @@ fn list_bin(
     i + 1
 }
 
-// The bins that share the smallest sum of squares, ascending, into the front of a list as far as it goes; answers how many they are. One bin takes no pass more;
-// of several, each bin of a row from the lowest to the highest is looked at in turn.
+// The bins that share the smallest sum of squares, ascending, into the front of a list as far as it goes; answers how many they are. One bin takes no pass
+// more; of several, each bin of a row from the lowest to the highest is looked at in turn.
 pub fn list_bins(
     rows: &[u32],
     positions: &[f32],
@@ -183,7 +183,8 @@ pub fn list_bins(
     requires { ⌜ Placed (now rows) (now positions) (now places) peg ⌝ }
     requires { ⌜ BestOf (bodyHits (now rows) (now positions) (now places) peg) best ⌝ }
     requires { ⌜ best .square < beyond ⌝ }
-    ensures { λ r. ⌜ Listed (nearestBins (bodyHits (now (rows .entry)) (now (positions .entry)) (now (places .entry)) peg)) (now (bins .entry)) (now (bins .exit)) r ⌝ }
+    ensures { λ r. ⌜ Listed (nearestBins (bodyHits (now (rows .entry)) (now (positions .entry)) (now (places .entry)) peg))
+        (now (bins .entry)) (now (bins .exit)) r ⌝ }
 {
     let mut b = best.low;
     let mut i = 0usize;

@@ -108,7 +108,8 @@ module _ (x : Float) (b F L : ℕ) (f : fits binary32 x ≡ true) (at : b ≡ to
       go (inl z) =
           none
           ∙ ap (λ (n : ℕ). min n L)
-          (sym (fields-subnormal F (leb (2 ^ 31) b) (rest b) (g .few) (omega arith)) ∙ ap (λ (n : ℕ). nearestSize F (ofFields binary32 (leb (2 ^ 31) b) n (rest b))) (sym z) ∙ ap (nearestSize F) (is x b f at))
+          (sym (fields-subnormal F (leb (2 ^ 31) b) (rest b) (g .few) (omega arith))
+          ∙ ap (λ (n : ℕ). nearestSize F (ofFields binary32 (leb (2 ^ 31) b) n (rest b))) (sym z) ∙ ap (nearestSize F) (is x b f at))
       go (inr p) =
           none ∙ ap (λ (z : ℕ). min z L) (sym (below-half (F * (2 ^ 23 + rest b)) (expo b - 1) 149 44 digits-few (omega arith))) ∙ normal p (omega arith)
 
@@ -164,4 +165,5 @@ module _ (x : Float) (b F L : ℕ) (f : fits binary32 x ≡ true) (at : b ≡ to
 
   -- an infinity
   pub size-inf : expo b ≡ 255 → rest b ≡ 0 → L ≡ min (nearestSize F x) L
-  size-inf h z = sym (min-eq-right (le-trans (g .top) (mul-le-mul {n₁ = F} {m₁ = 2 ^ 44} (le-refl F) (pow-mono {i = 44} {j = 128} (lit≤ tt))))) ∙ ap (λ (c : Bool). min (cond c (F * 2 ^ 128) 0) L) (sym (eq-eqb (rest b) 0 z)) ∙ top h
+  size-inf h z = sym (min-eq-right (le-trans (g .top) (mul-le-mul {n₁ = F} {m₁ = 2 ^ 44} (le-refl F) (pow-mono {i = 44} {j = 128} (lit≤ tt)))))
+      ∙ ap (λ (c : Bool). min (cond c (F * 2 ^ 128) 0) L) (sym (eq-eqb (rest b) 0 z)) ∙ top h

@@ -30,8 +30,8 @@ fn half_up(q: u64) -> u64
     (q + 1) / 2
 }
 
-// How far the whole number nearest factor × v is from zero, or the most that is asked for: the 24 digits of v times the factor are below 2^44, so that one shift
-// rounds them, a half up.
+// How far the whole number nearest factor × v is from zero, or the most that is asked for: the 24 digits of v times the factor are below 2^44, so that one
+// shift rounds them, a half up.
 fn nearest_size(v: f32, factor: u64, most: u64) -> u64
     requires { ⌜ Scale factor most ⌝ }
     ensures { λ r. ⌜ r ≡ min (Points.nearestSize factor v) most ⌝ }
