@@ -128,6 +128,8 @@ fn a_body_is_looked_at_before_the_places_and_these_before_the_bin_list() {
     let mut body = yard(&[(1, &[[0.0; 3]])]);
     assert_eq!(lent::nearest_bins(body.view(), &[], [0; 3], &mut []), Err(Refusal::Peg));
     assert_eq!(lent::nearest_bins(body.view(), &[[0; 3]], [0; 3], &mut []), Err(Refusal::BinList));
+    body.positions[0][2] = f32::MIN;
+    assert_eq!(lent::nearest_bins(body.view(), &[], [0; 3], &mut []), Err(Refusal::Clamped));
     body.normals[0][1] = f32::NAN;
     assert_eq!(lent::nearest_bins(body.view(), &[], [0; 3], &mut []), Err(Refusal::NotFinite));
 }
