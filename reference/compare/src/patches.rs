@@ -1,14 +1,15 @@
-//! Each patch of a body alone: keys, cells, volume, reach and escape, and its refusals.
+//! Each patch of a body alone: keys, cells and whether they clamp, volume, reach and escape, and its refusals.
 
+use crate::faults::CLAMPED;
+use crate::keys;
 use crate::lent;
 use cad_tess::face::{Patch, patch_of, probe};
-use compare::library::{self, Lone};
-use driver::check::MOST_INDICES;
+use compare::library::Lone;
+use driver::check::{MOST_INDICES, MOST_VERTICES};
 use driver::finish::{box_of, outcome_of};
 use driver::flat::coordinates;
 use driver::random::Random;
 use driver::sheet::{Row, Sheet};
-use driver::source;
 
 fn lone(row: &Row) -> Lone {
     let (positions, normals) = (coordinates(&row.positions).collect(), coordinates(&row.normals).collect());
@@ -24,11 +25,7 @@ fn same(a: f64, b: f64) -> bool {
 fn differing(row: &Row, patch: &Patch, sheet: &Sheet) -> Result<(), String> {
     let reference = box_of(sheet);
     let own = lone(row);
-    for p in &patch.positions {
-        if library::key(*p) != source::key(p) || p.iter().any(|v| library::cell(*v) != source::cell(*v)) {
-            return Err(format!("key or cell of {p:?}"));
-        }
-    }
+    patch.positions.iter().find_map(|p| keys::differing(*p)).map_or(Ok(()), Err)?;
     for flip in [false, true] {
         let (ours, theirs) = (lent::volume(&own, flip)?, probe::patch_volume(patch, flip));
         if ours.refusal != 0 || !same(ours.value, theirs) {
@@ -44,13 +41,19 @@ fn differing(row: &Row, patch: &Patch, sheet: &Sheet) -> Result<(), String> {
     if same { Ok(()) } else { Err(format!("escape {theirs}, not {ours:?}")) }
 }
 
+/// A coordinate whose cell clamps.
+fn clamped(r: &mut Random) -> f32 {
+    f32::from_bits(*r.pick(&CLAMPED))
+}
+
 /// A patch spoiled in a way that document 01 refuses, with the number.
 fn spoiled(own: &Lone, r: &mut Random) -> Option<(Lone, u32)> {
     let mut bad = own.clone();
     if bad.positions.is_empty() || bad.indices.is_empty() {
         return None;
     }
-    let number = match r.below(6) {
+    let last = bad.positions.len() - 1;
+    let number = match r.below(9) {
         0 => {
             bad.positions.pop();
             14
@@ -71,9 +74,24 @@ fn spoiled(own: &Lone, r: &mut Random) -> Option<(Lone, u32)> {
             bad.positions[0] = f32::INFINITY;
             23
         }
-        _ => {
+        5 => {
             bad.normals[0] = f32::NAN;
             23
+        }
+        6 => {
+            (bad.positions[last], bad.normals[last]) = (clamped(r), f32::NEG_INFINITY);
+            23
+        }
+        7 if bad.positions.len() < 3 * MOST_VERTICES => {
+            // A vertex that no triangle uses.
+            bad.positions.extend([0.0, clamped(r), 0.0]);
+            bad.normals.extend([0.0; 3]);
+            24
+        }
+        _ => {
+            let place = *r.pick(&[0, last, last / 2]);
+            bad.positions[place] = clamped(r);
+            24
         }
     };
     Some((bad, number))
