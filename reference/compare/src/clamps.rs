@@ -1,13 +1,14 @@
 //! Bodies at the last coordinates whose cells don't clamp and past them, each coordinate of a body in turn.
 
 use crate::faults::CLAMPED;
-use crate::{assembling, compared, stitching, turning};
+use crate::{assembling, compared, patches, stitching, turning};
+use cad_ir::math::Aabb;
 use driver::check::{LAST_UNCLAMPED, refusal};
 use driver::flat::Flat;
 use driver::random::Random;
 use driver::sheet::{Row, Sheet, parse};
 
-/// K8 with a failed row between its two, and behind each patch a vertex that no triangle uses.
+/// K8 with a failed row between its two, behind each patch a vertex that no triangle uses, and a row of a vertex without triangles.
 fn body() -> Sheet {
     let mut sheet = parse(include_bytes!("../../cases/K8.sheet"), None).expect("a sheet");
     for row in &mut sheet.rows {
@@ -15,6 +16,7 @@ fn body() -> Sheet {
         row.normals.push([0; 3]);
     }
     sheet.rows.insert(1, Row { face: 9, outcome: 7, ..Row::default() });
+    sheet.rows.push(Row { face: 3, positions: vec![[0x3f80_0000; 3]], normals: vec![[0; 3]], ..Row::default() });
     sheet
 }
 
@@ -41,6 +43,19 @@ fn refusals(whole: &Flat, k: usize, r: &mut Random) -> Result<u64, String> {
     Ok(3 * CLAMPED.len() as u64)
 }
 
+/// Each coordinate of a row's patch alone clamps in turn; how many such patches are refused, or what is wrong with one.
+fn lone_refusals(row: &Row) -> Result<u64, String> {
+    let whole = patches::lone(row);
+    for (k, bits) in (0..whole.positions.len()).flat_map(|k| CLAMPED.map(|bits| (k, bits))) {
+        let mut bad = whole.clone();
+        bad.positions[k] = f32::from_bits(bits);
+        patches::refused(&bad, &Aabb::EMPTY, 24)?;
+        bad.normals[k] = f32::NAN;
+        patches::refused(&bad, &Aabb::EMPTY, 23)?;
+    }
+    Ok((2 * whole.positions.len() * CLAMPED.len()) as u64)
+}
+
 /// A body with one number changed, of a position or of a normal.
 fn changed(sheet: &Sheet, k: usize, bits: u32, normal: bool) -> Sheet {
     let mut other = sheet.clone();
@@ -54,7 +69,7 @@ fn changed(sheet: &Sheet, k: usize, bits: u32, normal: bool) -> Sheet {
 pub fn by_hand() -> Result<u64, String> {
     let (r, sheet) = (&mut Random::new(24), body());
     let whole = Flat::of(&sheet);
-    let mut count = 0;
+    let mut count = sheet.rows.iter().map(lone_refusals).sum::<Result<u64, String>>()?;
     for k in 0..whole.positions.len() {
         let named = |what: String| format!("coordinate {k}: {what}");
         count += refusals(&whole, k, r).map_err(named)?;
