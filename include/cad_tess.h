@@ -39,7 +39,8 @@
  *                no indices.
  *                A bin, 0 to 65,535, says whose face it is: it goes through the three calls as it is and changes nothing else, and
  *                is what cad_nearest_bins answers with.
- *     positions  3 * V floats: x, y, z of each vertex; the rows' vertices follow one another without gaps
+ *     positions  3 * V floats: x, y, z of each vertex; the rows' vertices follow one another without gaps. A coordinate reaches to
+ *                9,223,372,013,568 of either sign (bits 550637BD): beyond it cells clamp, and strangers would be one point (24)
  *     normals    3 * V floats, laid out likewise
  *     indices    I numbers, three a triangle; the rows' indices follow one another, and count from 0 within their row's vertices
  *
@@ -61,8 +62,8 @@
  *
  * REFUSALS
  *
- * Every answer begins with its refusal, 0 (CAD_DONE) for none. A refused call gives the number of the first check that fails, in the
- * order of enum CadRefusal, and all its other fields are 0.
+ * The answer of every call that may be refused begins with its refusal, 0 (CAD_DONE) for none. A refused call gives the number of the
+ * first check that fails, in the order of enum CadRefusal, and all its other fields are 0.
  *
  *     refusal            inputs and outputs    work area
  *     11 to 31           unchanged             unchanged
@@ -130,7 +131,7 @@ extern "C" {
 
 /*
  * Why a call is refused, in the order in which the checks go; each looks at the whole body before the next, but 61 to 64 at one line
- * of a plan, or one entry of a list, before the next line or entry. 65 and 66 come straight after 23: their call needs no work area.
+ * of a plan, or one entry of a list, before the next line or entry. 65 and 66 come straight after 24: their call needs no work area.
  * Numbers 51 and 52 are the bench program's, for its text.
  */
 enum CadRefusal {
@@ -143,6 +144,7 @@ enum CadRefusal {
     CAD_REFUSED_TRIANGLES = 21,      /* a row's index count is no multiple of 3 */
     CAD_REFUSED_INDEX = 22,          /* an index isn't below its row's vertex count */
     CAD_REFUSED_NOT_FINITE = 23,     /* a position or normal is infinite or a NaN */
+    CAD_REFUSED_CLAMPED = 24,        /* a position, of a vertex that no triangle uses too, has a cell that clamps (cad_cell) */
     CAD_REFUSED_WORK_AREA = 31,      /* the work area has fewer than CAD_WORK_WORDS(V, I, F) words, of the body handed to the call */
     CAD_REFUSED_STITCHED_LIMIT = 33, /* cad_stitch: the stitched body passes the limits of 13 */
     CAD_REFUSED_OUTPUT = 32,         /* cad_stitch: an output slice is shorter than the stitched body needs */
@@ -228,11 +230,24 @@ typedef struct CadNearestBins {
     uint32_t bins;    /* bins written, all at one distance from the peg; 0 if no vertex is near it */
 } CadNearestBins;
 
+/* cad_cell's answer. */
+typedef struct CadCell {
+    int64_t value;    /* the cell */
+    uint32_t clamped; /* 1 if it is cut off at the end of 64 bits, so that other coordinates share it, else 0 */
+} CadCell;
+
+/* cad_key's answer. */
+typedef struct CadKey {
+    uint64_t value;   /* the key */
+    uint32_t clamped; /* 1 if one of the three cells is cut off, else 0 */
+} CadKey;
+
 /* The library's layout of all these; a compiler that was told to pack structures stops here. */
 typedef char cad_layout_is_the_library_s[sizeof(float) == 4 && sizeof(double) == 8 && sizeof(size_t) == 8 && sizeof(bool) == 1 &&
                                          sizeof(CadTurned) == 16 && sizeof(CadStitched) == 24 && sizeof(CadAssembled) == 56 &&
                                          sizeof(CadMeasured) == 16 && sizeof(CadJudged) == 8 &&
                                          sizeof(CadPlanRead) == 16 && sizeof(CadPlanWritten) == 16 && sizeof(CadNearestBins) == 8 &&
+                                         sizeof(CadCell) == 16 && sizeof(CadKey) == 16 &&
                                          sizeof(CadRow) == CAD_ROW_NUMBERS * sizeof(uint32_t) ? 1 : -1];
 
 /*
@@ -242,7 +257,7 @@ typedef char cad_layout_is_the_library_s[sizeof(float) == 4 && sizeof(double) ==
  *     rows_len CAD_ROW_NUMBERS * F, positions_len 3 * V, normals_len 3 * V, indices_len I,
  *     work_len at least CAD_WORK_WORDS(V, I, F)
  *
- * Refusals: 11, 12, 13, 14, 15, 21, 22, 23, 31.
+ * Refusals: 11, 12, 13, 14, 15, 21, 22, 23, 24, 31.
  */
 CadTurned cad_turn(const uint32_t *rows, size_t rows_len,
                    const float *positions, size_t positions_len,
@@ -264,7 +279,7 @@ CadTurned cad_turn(const uint32_t *rows, size_t rows_len,
  * 3 * CAD_MOST_VERTICES floats and CAD_MOST_INDICES indices (9.4 MB in all) are never refused with 32; smaller ones may be, and the
  * call can be made again with larger ones, since a refusal leaves the body as it was.
  *
- * Refusals: 11, 12, 13, 14, 15, 21, 22, 23, 31, 33, 32.
+ * Refusals: 11, 12, 13, 14, 15, 21, 22, 23, 24, 31, 33, 32.
  */
 CadStitched cad_stitch(const uint32_t *rows, size_t rows_len,
                        const float *positions, size_t positions_len,
@@ -296,7 +311,7 @@ CadStitched cad_stitch(const uint32_t *rows, size_t rows_len,
  *         upstream number, or CAD_FAILURE_ESCAPE), and for an escape the bits of two doubles, how far the patch reaches
  *         from the box's centre and how far it may, else 0 and 0
  *
- * Refusals: 11, 12, 13, 14, 15, 21, 22, 23, 31, 42, 41.
+ * Refusals: 11, 12, 13, 14, 15, 21, 22, 23, 24, 31, 42, 41.
  */
 CadAssembled cad_assemble(const uint32_t *rows, size_t rows_len,
                           const float *positions, size_t positions_len,
@@ -373,7 +388,7 @@ CadPlanWritten cad_write_plan(const int64_t *list, size_t list_len,
  *
  * There is no work area. A refusal leaves the whole bin list as it was. An answer of no bins fits an empty list.
  *
- * Refusals: 11, 12, 13, 14, 15, 21, 22, 23, 65, 66.
+ * Refusals: 11, 12, 13, 14, 15, 21, 22, 23, 24, 65, 66.
  */
 CadNearestBins cad_nearest_bins(const uint32_t *rows, size_t rows_len,
                                 const float *positions, size_t positions_len,
@@ -410,7 +425,7 @@ uint64_t cad_face_indices(const uint32_t *rows, size_t rows_len,
 
 /*
  * One patch alone: a body of one row of bin 0 with positions_len / 3 vertices and indices_len indices. It needs no work area and
- * nothing is written. Refusals: 13 (before the lengths are looked at), 14, 21, 22, 23.
+ * nothing is written. Refusals: 13 (before the lengths are looked at), 14, 21, 22, 23, 24.
  */
 
 /* The volume between the patch and the origin, one sixth of the sum of its triangles' determinants; as if turned, where flip says so. */
@@ -453,11 +468,13 @@ uint64_t cad_round(uint64_t bits);
 /* The larger of two: a NaN is ignored, and +0 is above -0. */
 uint64_t cad_larger(uint64_t a, uint64_t b);
 
-/* The whole number nearest to 1,000,000 * v, halves away from zero, clamped to 64 bits; 0 for a NaN. */
-int64_t cad_cell(float v);
+/* The whole number nearest to 1,000,000 * v, halves away from zero, clamped to 64 bits, and whether it was; 0 for a NaN, which isn't. The
+   last floats that don't clamp have the bits 550637BD and D50637BD; an infinity clamps. */
+CadCell cad_cell(float v);
 
-/* The key of a point, a digest of its three cells: points with one key are one point to cad_turn and cad_stitch. */
-uint64_t cad_key(float x, float y, float z);
+/* The key of a point, a digest of its three cells, and whether one of them clamps: points with one key are one point to cad_turn and
+   cad_stitch, which refuse a body with a clamped one (24). */
+CadKey cad_key(float x, float y, float z);
 
 #ifdef __cplusplus
 }

@@ -68,6 +68,12 @@ function too_large(k) { return length(field[k]) > 10 || field[k] + 0 > LARGEST }
 # Whether hex digits are the bits of a 32-bit float that isn't finite.
 function infinite(bits) { return bits ~ /^[7F]F[89A-F]/ }
 
+# Whether hex digits are the bits of a coordinate beyond 550637BD, the last whose cell doesn't clamp; the sign's bit is dropped first.
+function clamps(bits) {
+  bits = substr("0123456701234567", index("0123456789ABCDEF", substr(bits, 1, 1)), 1) substr(bits, 2)
+  return bits "" > "550637BD"
+}
+
 # Whether a kind may stand at the place at hand.
 function in_order(kind) {
   if (kind == "box") return place == 0
@@ -113,6 +119,9 @@ function in_order(kind) {
     if (refusal == 23 && first == "")
       for (k = 3; k <= count; k++)
         if (field[k] != "n" && infinite(field[k])) first = "face " face " (line " NR "): " (k < 6 ? "a position" : "a normal") " is not finite: " field[k]
+    if (refusal == 24 && first == "")
+      for (k = 3; k <= 5; k++)
+        if (clamps(field[k])) first = "face " face " (line " NR "): a position is beyond 9223372013568: " field[k]
   }
   if (kind == "t") {
     all_corners += 3

@@ -91,8 +91,12 @@ static uint64_t bits64(double v)
 
 static void steps(void)
 {
-    printf("cell of 2^-7 and of 2^44: %" PRId64 " %" PRId64 "\n", cad_cell(0.0078125f), cad_cell(17592186044416.0f));
-    printf("key of (1, 2, 3): %016" PRIX64 "\n", cad_key(1.0f, 2.0f, 3.0f));
+    const CadCell small = cad_cell(0.0078125f), large = cad_cell(17592186044416.0f);
+    const CadKey key = cad_key(1.0f, 2.0f, 3.0f), beyond = cad_key(1.0f, -17592186044416.0f, 3.0f);
+    printf("cell of 2^-7: %" PRId64 ", clamped %" PRIu32 "; of 2^44: %" PRId64 ", clamped %" PRIu32 "\n", small.value, small.clamped, large.value,
+           large.clamped);
+    printf("key of (1, 2, 3): %016" PRIX64 ", clamped %" PRIu32 "; of (1, -2^44, 3): %016" PRIX64 ", clamped %" PRIu32 "\n", key.value, key.clamped,
+           beyond.value, beyond.clamped);
     printf("root of 2: %016" PRIX64 "\n", cad_sqrt(bits64(2.0)));
     printf("1 + 3 * 2^-24 narrowed: %08" PRIX32 "\n", cad_narrow(bits64(1.0 + 3.0 / 16777216.0)));
     printf("-0.1 widened: %016" PRIX64 "\n", cad_widen(bits32(-0.1f)));
@@ -104,11 +108,13 @@ static void steps(void)
 static void patches(void)
 {
     static const float corners[12] = {0, 0, 0, 1, 0, 0, 0, 1, 0, 0, 0, 1}, normals[12] = {0}, far[3] = {13.000001f, 4, 0};
+    static const float clamped[3] = {0, 17592186044416.0f, 0};
     static const uint32_t triangles[12] = {0, 2, 1, 0, 1, 3, 0, 3, 2, 1, 2, 3};
     printf("volume: %016" PRIX64 "\n", bits64(cad_patch_volume(corners, 12, normals, 12, triangles, 12, false).value));
     printf("reversed: %016" PRIX64 "\n", bits64(cad_patch_volume(corners, 12, normals, 12, triangles, 12, true).value));
     printf("farthest: %016" PRIX64 "\n", bits64(cad_farthest(far, 3, normals, 3, NULL, 0, 0, 0, 0, 6, 8, 0).value));
     printf("escapes: %" PRIu32 "\n", cad_escapes_body(far, 3, normals, 3, NULL, 0, 0, 0, 0, 6, 8, 0).verdict);
+    printf("a patch whose vertex is at 2^44: refused with %" PRIu32 "\n", cad_farthest(clamped, 3, normals, 3, NULL, 0, 0, 0, 0, 6, 8, 0).refusal);
     printf("a patch with a normal missing: refused with %" PRIu32 "\n", cad_patch_volume(corners, 12, normals, 9, triangles, 12, false).refusal);
 }
 
@@ -252,6 +258,9 @@ static uint32_t refused(enum CadRefusal refusal)
     case CAD_REFUSED_NOT_FINITE:
         memset(lent.normals, 0xFF, sizeof lent.normals[0]);
         return turn().refusal;
+    case CAD_REFUSED_CLAMPED:
+        lent.positions[26] = -17592186044416.0f;
+        return turn().refusal;
     case CAD_REFUSED_WORK_AREA:
         lent.work_len -= 1;
         return turn().refusal;
@@ -277,10 +286,10 @@ static uint32_t refused(enum CadRefusal refusal)
 int main(void)
 {
     static const enum CadRefusal all[] = {CAD_REFUSED_TABLE, CAD_REFUSED_OUTCOME, CAD_REFUSED_LIMIT, CAD_REFUSED_LENGTHS, CAD_REFUSED_BIN,
-                                          CAD_REFUSED_TRIANGLES, CAD_REFUSED_INDEX, CAD_REFUSED_NOT_FINITE, CAD_REFUSED_WORK_AREA,
-                                          CAD_REFUSED_STITCHED_LIMIT, CAD_REFUSED_OUTPUT, CAD_REFUSED_MATERIAL, CAD_REFUSED_MESH,
-                                          CAD_REFUSED_LINE, CAD_REFUSED_DEPTH, CAD_REFUSED_PLACE, CAD_REFUSED_ENTRIES, CAD_REFUSED_PEG,
-                                          CAD_REFUSED_BIN_LIST, CAD_REFUSED_TEXT};
+                                          CAD_REFUSED_TRIANGLES, CAD_REFUSED_INDEX, CAD_REFUSED_NOT_FINITE, CAD_REFUSED_CLAMPED,
+                                          CAD_REFUSED_WORK_AREA, CAD_REFUSED_STITCHED_LIMIT, CAD_REFUSED_OUTPUT, CAD_REFUSED_MATERIAL,
+                                          CAD_REFUSED_MESH, CAD_REFUSED_LINE, CAD_REFUSED_DEPTH, CAD_REFUSED_PLACE, CAD_REFUSED_ENTRIES,
+                                          CAD_REFUSED_PEG, CAD_REFUSED_BIN_LIST, CAD_REFUSED_TEXT};
     steps();
     patches();
     done();

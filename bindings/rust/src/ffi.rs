@@ -10,6 +10,7 @@ use crate::body::{BinId, BodyMut, BodyOut, BodyRef, FaceId, Point, Row};
 use crate::mesh::{Aabb, MeshOut, Setting};
 use crate::plan::{Place, RawPlacedBin};
 use crate::refusal::Refusal;
+use crate::steps::{Cell, Key};
 
 #[repr(C)]
 struct CadTurned {
@@ -70,6 +71,18 @@ struct CadNearestBins {
     bins: u32,
 }
 
+#[repr(C)]
+struct CadCell {
+    value: i64,
+    clamped: u32,
+}
+
+#[repr(C)]
+struct CadKey {
+    value: u64,
+    clamped: u32,
+}
+
 #[rustfmt::skip]
 extern "C" {
     fn cad_turn(rows: *const u32, rows_len: usize, positions: *const f32, positions_len: usize, normals: *mut f32, normals_len: usize, indices: *mut u32,
@@ -101,8 +114,8 @@ extern "C" {
     fn cad_sqrt(bits: u64) -> u64;
     fn cad_round(bits: u64) -> u64;
     fn cad_larger(a: u64, b: u64) -> u64;
-    fn cad_cell(v: f32) -> i64;
-    fn cad_key(x: f32, y: f32, z: f32) -> u64;
+    fn cad_cell(v: f32) -> CadCell;
+    fn cad_key(x: f32, y: f32, z: f32) -> CadKey;
 }
 
 /// A slice of records as a pointer to the numbers they are made of, and how many there are.
@@ -300,12 +313,14 @@ pub fn larger(a: u64, b: u64) -> u64 {
     unsafe { cad_larger(a, b) }
 }
 
-pub fn cell(v: f32) -> i64 {
+pub fn cell(v: f32) -> Cell {
     // Sound: see above.
-    unsafe { cad_cell(v) }
+    let answer = unsafe { cad_cell(v) };
+    Cell { value: answer.value, clamped: answer.clamped == 1 }
 }
 
-pub fn key(x: f32, y: f32, z: f32) -> u64 {
+pub fn key(x: f32, y: f32, z: f32) -> Key {
     // Sound: see above.
-    unsafe { cad_key(x, y, z) }
+    let answer = unsafe { cad_key(x, y, z) };
+    Key { value: answer.value, clamped: answer.clamped == 1 }
 }

@@ -31,6 +31,8 @@ pub enum Refusal {
     Index,
     /// 23: a position or normal isn't finite.
     NotFinite,
+    /// 24: a position, of a vertex that no triangle uses too, has a cell that clamps: see [`steps::cell`](crate::steps::cell).
+    Clamped,
     /// 31: the work area is too short for the body handed to that call; assembling is handed the stitched one.
     WorkArea,
     /// 33: the stitched body passes the limits of 13.
@@ -58,8 +60,8 @@ pub enum Refusal {
 }
 
 impl Refusal {
-    /// Every refusal, in the order in which the checks go; those of a peg come straight after 23.
-    pub const ALL: [Refusal; 20] = [
+    /// Every refusal, in the order in which the checks go; those of a peg come straight after 24.
+    pub const ALL: [Refusal; 21] = [
         Refusal::Table,
         Refusal::Outcome,
         Refusal::Limit,
@@ -68,6 +70,7 @@ impl Refusal {
         Refusal::Triangles,
         Refusal::Index,
         Refusal::NotFinite,
+        Refusal::Clamped,
         Refusal::WorkArea,
         Refusal::StitchedLimit,
         Refusal::Output,
@@ -93,6 +96,7 @@ impl Refusal {
             Refusal::Triangles => 21,
             Refusal::Index => 22,
             Refusal::NotFinite => 23,
+            Refusal::Clamped => 24,
             Refusal::WorkArea => 31,
             Refusal::StitchedLimit => 33,
             Refusal::Output => 32,
@@ -124,6 +128,7 @@ impl Refusal {
             Refusal::Triangles => "an index count isn't a multiple of 3",
             Refusal::Index => "an index isn't below its row's vertex count",
             Refusal::NotFinite => "a position or normal isn't finite",
+            Refusal::Clamped => "a position's cell clamps: a coordinate is beyond plus or minus 9,223,372,013,568",
             Refusal::WorkArea => {
                 "the work area has fewer than 16 × indices + 16 × rows + 4 × vertices 64-bit words, of the body handed to that call"
             }

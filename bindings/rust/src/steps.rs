@@ -9,12 +9,28 @@
 //! assert_eq!(steps::widen(1f32.to_bits()), 1f64.to_bits());
 //! assert_eq!(steps::round((-2.5f64).to_bits()), (-3f64).to_bits());
 //! assert_eq!(steps::larger(0f64.to_bits(), (-0f64).to_bits()), 0);
-//! assert_eq!(steps::cell(0.0078125), 7_813);
+//! assert_eq!(steps::cell(0.0078125).value, 7_813);
 //! assert_ne!(steps::key([0.0, 0.0, 0.0]), steps::key([0.0, 0.0, 0.000001]));
 //! ```
 
 use crate::body::Point;
 use crate::ffi;
+
+/// A coordinate's cell.
+#[derive(Debug, Clone, Copy, PartialEq, Eq, Hash, Default)]
+pub struct Cell {
+    pub value: i64,
+    /// Whether it is cut off at the end of 64 bits, so that other coordinates share it.
+    pub clamped: bool,
+}
+
+/// A point's key.
+#[derive(Debug, Clone, Copy, PartialEq, Eq, Hash, Default)]
+pub struct Key {
+    pub value: u64,
+    /// Whether one of the point's three cells is cut off.
+    pub clamped: bool,
+}
 
 /// The binary64 of the same value.
 pub fn widen(bits: u32) -> u64 {
@@ -41,12 +57,31 @@ pub fn larger(a: u64, b: u64) -> u64 {
     ffi::larger(a, b)
 }
 
-/// The whole number nearest to 1,000,000 × v, halves away from zero, clamped to 64 bits; 0 for a NaN.
-pub fn cell(v: f32) -> i64 {
+/// The whole number nearest to 1,000,000 × v, halves away from zero, clamped to 64 bits, and whether it was; 0 for a NaN, which isn't.
+/// The calls refuse a body with a position whose cell clamps with [`Clamped`](crate::Refusal::Clamped).
+///
+/// ```
+/// use body_finisher::steps::{cell, Cell};
+///
+/// assert_eq!(cell(f32::powi(2.0, 43)), Cell { value: 8_796_093_022_208_000_000, clamped: false });
+/// assert_eq!(cell(f32::powi(2.0, 44)), Cell { value: i64::MAX, clamped: true });
+/// assert!(!cell(f32::from_bits(0xD50637BD)).clamped && cell(f32::from_bits(0xD50637BE)).clamped);
+/// assert!(cell(f32::NEG_INFINITY).clamped);
+/// assert_eq!(cell(f32::NAN), Cell::default());
+/// ```
+pub fn cell(v: f32) -> Cell {
     ffi::cell(v)
 }
 
-/// The digest of a point's three cells: points with one key are one point to turning and stitching.
-pub fn key([x, y, z]: Point) -> u64 {
+/// The digest of a point's three cells, and whether one of them clamps: points with one key are one point to turning and stitching.
+///
+/// ```
+/// use body_finisher::steps::key;
+///
+/// let (first, second) = ([f32::powi(2.0, 44), 0.0, 0.0], [f32::MAX, 0.0, 0.0]);
+/// assert_eq!(key(first).value, key(second).value, "strangers in one clamped cell");
+/// assert!(key(first).clamped && !key([1.0, 2.0, 3.0]).clamped);
+/// ```
+pub fn key([x, y, z]: Point) -> Key {
     ffi::key(x, y, z)
 }

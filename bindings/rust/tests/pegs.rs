@@ -80,11 +80,18 @@ fn bins_ascend_and_each_is_named_once() {
 }
 
 #[test]
-fn a_coordinate_beyond_64_bits_of_micrometres_is_just_far() {
-    // 2^64 mm are a multiple of 2^64 micrometres.
-    let (wraps, most) = ([18_446_744_073_709_551_616.0, 0.0, 0.0], [0.0, f32::MAX, f32::MIN]);
+fn a_coordinate_beyond_32_bits_of_micrometres_is_just_far_and_one_whose_cell_clamps_is_refused() {
+    // 2^43 mm are a multiple of 2^32 micrometres; the others are the last whose cells don't clamp, of bits 550637BD.
+    let (wraps, most) = ([8_796_093_022_208.0, 0.0, 0.0], [0.0, 9_223_372_013_568.0, -9_223_372_013_568.0]);
     let body = yard(&[(1, &[wraps, most]), (2, &[[4.0, 0.0, 0.0]])]);
     assert_eq!(nearest(&body, &[[0; 3]; 2], [0; 3]), [2]);
+    // The next ones, 2^64 mm, which are a multiple of 2^64 micrometres, and the largest.
+    for clamped in [9_223_373_062_144.0, 18_446_744_073_709_551_616.0, f32::MAX] {
+        for vertex in [[clamped, 0.0, 0.0], [0.0, -clamped, 0.0], [0.0, 0.0, clamped]] {
+            let body = yard(&[(1, &[[4.0, 0.0, 0.0]]), (2, &[[0.0; 3], vertex])]);
+            assert_eq!(nearest_bins(body.view(), &[[0; 3]; 2], [0; 3]), Err(Refusal::Clamped));
+        }
+    }
     let tiny = yard(&[(1, &[[f32::from_bits(1), -0.0, f32::MIN_POSITIVE]])]);
     assert_eq!(nearest(&tiny, &[[MOST_OFFSET; 3]], [MOST_OFFSET; 3]), [1]);
 }
@@ -128,6 +135,8 @@ fn a_body_is_looked_at_before_the_places_and_these_before_the_bin_list() {
     let mut body = yard(&[(1, &[[0.0; 3]])]);
     assert_eq!(lent::nearest_bins(body.view(), &[], [0; 3], &mut []), Err(Refusal::Peg));
     assert_eq!(lent::nearest_bins(body.view(), &[[0; 3]], [0; 3], &mut []), Err(Refusal::BinList));
+    body.positions[0][2] = f32::MIN;
+    assert_eq!(lent::nearest_bins(body.view(), &[], [0; 3], &mut []), Err(Refusal::Clamped));
     body.normals[0][1] = f32::NAN;
     assert_eq!(lent::nearest_bins(body.view(), &[], [0; 3], &mut []), Err(Refusal::NotFinite));
 }

@@ -6,6 +6,9 @@ use body_finisher::{
 };
 
 const UP: [[f32; 3]; 6] = [[0.0, 0.0, 1.0]; 6];
+/// The last coordinate whose cell doesn't clamp, of bits 550637BD, and the next one.
+const LAST_UNCLAMPED: f32 = 9_223_372_013_568.0;
+const FIRST_CLAMPED: f32 = 9_223_373_062_144.0;
 const NOTHING: Setting<'static> = Setting { bounds: Aabb::EMPTY, materials: &[], default: Entry::NONE };
 
 /// K8 of document 01: a triangle, and two that meet in the middle of its first edge.
@@ -24,7 +27,7 @@ fn spoiled(spoil: impl FnOnce(&mut Body)) -> Body {
     body
 }
 
-/// Bodies that every call refuses, one for each check up to 23.
+/// Bodies that every call refuses, one for each check up to 24.
 fn refused_bodies() -> Vec<(Refusal, Body)> {
     vec![
         (Refusal::Table, spoiled(|b| b.rows.resize(MOST_ROWS + 1, Row::default()))),
@@ -46,6 +49,19 @@ fn refused_bodies() -> Vec<(Refusal, Body)> {
         (Refusal::Index, spoiled(|b| b.indices[8] = 6)),
         (Refusal::NotFinite, spoiled(|b| b.positions[0][0] = f32::NAN)),
         (Refusal::NotFinite, spoiled(|b| b.normals[8][2] = f32::NEG_INFINITY)),
+        (Refusal::NotFinite, spoiled(|b| (b.positions[0][0], b.normals[8][2]) = (FIRST_CLAMPED, f32::NAN))),
+        (Refusal::Clamped, spoiled(|b| b.positions[0][0] = FIRST_CLAMPED)),
+        (Refusal::Clamped, spoiled(|b| b.positions[8][2] = -FIRST_CLAMPED)),
+        (Refusal::Clamped, spoiled(|b| b.positions[4] = [f32::MAX; 3])),
+        (
+            Refusal::Clamped,
+            spoiled(|b| {
+                // A vertex that no triangle uses.
+                b.rows[1].vertices += 1;
+                b.positions.push([0.0, FIRST_CLAMPED, 0.0]);
+                b.normals.push([0.0; 3]);
+            }),
+        ),
     ]
 }
 
@@ -221,6 +237,19 @@ fn a_patch_alone_is_refused_by_the_checks_of_a_body() {
     assert_eq!(volume(&p, n, &[0, 1]), Err(Refusal::Triangles));
     assert_eq!(body_finisher::farthest(&p, n, &[0, 1, 3], Aabb::EMPTY), Err(Refusal::Index));
     assert_eq!(body_finisher::escapes_body(&[[f32::INFINITY; 3]], &n[..1], &[], Aabb::EMPTY), Err(Refusal::NotFinite));
+    assert_eq!(body_finisher::farthest(&[[0.0, -FIRST_CLAMPED, 0.0]], &n[..1], &[], Aabb::EMPTY), Err(Refusal::Clamped));
+    assert_eq!(body_finisher::escapes_body(&[[f32::MAX; 3]], &[[f32::NAN; 3]], &[], Aabb::EMPTY), Err(Refusal::NotFinite));
+    assert_eq!(volume(&[[0.0; 3], [f32::MAX; 3], [0.0, 1.0, 0.0]], n, &[0, 1, 2]), Err(Refusal::Clamped));
+}
+
+#[test]
+fn the_last_coordinates_whose_cells_do_not_clamp_are_accepted_and_normals_have_no_such_limit() {
+    let body = spoiled(|b| {
+        (b.positions[0][0], b.positions[8][2]) = (LAST_UNCLAMPED, -LAST_UNCLAMPED);
+        b.normals[4] = [f32::MAX, -FIRST_CLAMPED, 0.0];
+    });
+    assert!(Finisher::new().finish(body.view(), 1.0, &NOTHING).is_ok());
+    assert_eq!(body_finisher::farthest(&[[LAST_UNCLAMPED; 3]], &[[f32::MIN; 3]], &[], Aabb::EMPTY), Ok(0.0));
 }
 
 #[test]

@@ -2,7 +2,7 @@
 use mathlib.Core.Bool.{Bool, false, cond}
 use mathlib.Core.List.{List, [], _∷_, _++_, map}
 use Prim.Native.Nat.{ℕ}
-use lib.ListN.{take}
+use lib.ListN.{take, replicate}
 use lib.IntN.{pos, negℤ}
 use lib.Dec.{T}
 use lib.Ieee.{Float}
@@ -48,6 +48,20 @@ counts (Finished t s a) =
 quarter : Float
 quarter = f64 0x3FD0000000000000
 
+-- K2, its second half as request N6 has it: a body with a corner at 2^44, whose cell is clamped
+K2 : Sheet
+K2 =
+    record {
+      box = onePoint;
+      sag = zero64;
+      default = 0;
+      materials = [];
+      table = 0 ∷ 5 ∷ 0 ∷ 3 ∷ 3 ∷ 0 ∷ [];
+      positions = 0x55800000 ∷ replicate 8 0;
+      normals = replicate 9 0;
+      indices = 0 ∷ 1 ∷ 2 ∷ [];
+    }
+
 -- K5: no rows
 nothing : Sheet
 nothing =
@@ -64,11 +78,11 @@ nothing =
 
 -- ---- the table
 
--- K1 to K10: what the definitions yield, and what the paper says
+-- K1 to K10: what the definitions yield, and what the papers say: document 01, and of K2's second half request N6
 pub cases : List Case
 cases =
     case 1 (map (λ b. pattern (cell (f32 b))) (0x3C000000 ∷ 0xBC000000 ∷ 0x80000000 ∷ [])) (7813 ∷ pattern (negℤ (pos 7813)) ∷ 0 ∷ [])
-    ∷ case 2 (map (λ b. pattern (cell (f32 b))) (0x55000000 ∷ 0x55800000 ∷ [])) (8_796_093_022_208_000_000 ∷ 9_223_372_036_854_775_807 ∷ [])
+    ∷ case 2 (pattern (cell (f32 0x55000000)) ∷ counts (finish benchLimits K2)) (8_796_093_022_208_000_000 ∷ 24 ∷ [])
     ∷ case 3 (bits64 (sqrt (f64 0x4000000000000000)) ∷ []) (0x3FF6A09E667F3BCD ∷ [])
     ∷ case 4 (map (λ b. bits32 (narrow (f64 b))) (0x3FF0000010000000 ∷ 0x3FF0000030000000 ∷ [])) (0x3F800000 ∷ 0x3F800002 ∷ [])
     ∷ case 5 (counts (finish benchLimits nothing)) (0 ∷ 0 ∷ 0 ∷ 0 ∷ 0 ∷ 0 ∷ 0 ∷ 0 ∷ 0 ∷ 0 ∷ 0 ∷ 0 ∷ 0 ∷ 1 ∷ [])
@@ -81,5 +95,5 @@ cases =
 
 -- The definitions yield each row.
 pub K1-to-K10 : T (all agrees cases)
-unfolding evaluation turnGiven roomy stitchGiven volumes number counts quarter nothing cases
+unfolding evaluation turnGiven roomy stitchGiven volumes number counts quarter K2 nothing cases
 K1-to-K10 = tt

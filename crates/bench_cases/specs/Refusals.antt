@@ -6,6 +6,7 @@ use Prim.Native.Nat.{ℕ, _+_, _-_, _*_}
 use lib.ListN.{take, drop, replicate}
 use lib.Dec.{T}
 use lib.Ieee.{Float, nan, inf}
+use Rattle.float_steps.specs.Floats.{f32}
 use Rattle.lists.specs.Lists.{all}
 use Rattle.lists.specs.Table.{Case, case, agrees}
 use Rattle.point_rules.specs.Points.{key}
@@ -40,6 +41,14 @@ nine = zero64 ∷ zero64 ∷ zero64 ∷ one64 ∷ zero64 ∷ zero64 ∷ zero64 �
 -- the same with a NaN
 withNan : List Float
 withNan = nan ∷ drop 1 nine
+
+-- nine numbers, the first of them of these bits
+beginning : ℕ → List Float
+beginning b = f32 b ∷ drop 1 nine
+
+-- nine numbers, the first of them the first whose cell is clamped
+withFar : List Float
+withFar = beginning 0x550637BE
 
 -- its indices
 corners : List ℕ
@@ -120,6 +129,9 @@ refusals =
     ∷ case 22 (turnWith one nine nine (0 ∷ 1 ∷ 3 ∷ []) 99 ∷ turnWith one nine nine (0 ∷ 1 ∷ 2 ∷ []) 99
     ∷ turnWith (0 ∷ 5 ∷ 0 ∷ 3 ∷ 3 ∷ 0 ∷ 0 ∷ 6 ∷ 0 ∷ 0 ∷ 3 ∷ 0 ∷ []) nine nine (0 ∷ 1 ∷ 2 ∷ 0 ∷ 0 ∷ 0 ∷ []) 99 ∷ []) (22 ∷ 0 ∷ 22 ∷ [])
     ∷ case 23 (turnWith one nine withNan corners 99 ∷ turnWith one (inf true ∷ drop 1 nine) nine corners 99 ∷ turnWith (0 ∷ 0 ∷ 0 ∷ 3 ∷ 0 ∷ 0 ∷ []) withNan nine [] 99 ∷ []) (23 ∷ 23 ∷ 23 ∷ [])
+    ∷ case 24 (map (λ b. turnWith one (beginning b) nine corners 99) (0x550637BD ∷ 0xD50637BD ∷ 0x550637BE ∷ 0xD50637BE ∷ 0x7F7FFFFF ∷ [])) (0 ∷ 0 ∷ 24 ∷ 24 ∷ 24 ∷ [])
+    ∷ case 24 (turnWith one nine withFar corners 99 ∷ turnWith (0 ∷ 0 ∷ 0 ∷ 3 ∷ 0 ∷ 0 ∷ []) withFar nine [] 99 ∷ stitchRefuses one withFar corners (out rowWidth 9 9 3 76)
+    ∷ assembleRefuses one withFar corners [] (meshOfOne 9 3 76) ∷ volumeAlone withFar nine corners false .refusal ∷ []) (0 ∷ 24 ∷ 24 ∷ 24 ∷ 24 ∷ [])
     ∷ case 31 (turnWith one nine nine corners 75 ∷ turnWith one nine nine corners 76 ∷ turnWith [] [] [] [] 0 ∷ turnWith (0 ∷ 0 ∷ 9 ∷ 0 ∷ 0 ∷ 0 ∷ []) [] [] [] 15
     ∷ turnWith (0 ∷ 0 ∷ 9 ∷ 0 ∷ 0 ∷ 0 ∷ []) [] [] [] 16 ∷ []) (31 ∷ 0 ∷ 0 ∷ 31 ∷ 0 ∷ [])
     ∷ case 31 (take 1 (leaves 75) ++ take 1 (leaves 77) ++ drop 75 (leaves 77)) (7 ∷ 0 ∷ 0 ∷ 7 ∷ [])
@@ -144,7 +156,7 @@ refusals =
 
 -- The definitions give each of these numbers.
 pub refusals-agree : T (all agrees refusals)
-unfolding evaluation Lone.evaluation one inBin nine withNan corners turnWith leaves out stitchWith stitchRefuses mesh meshOfOne noBox assembleWith assembleRefuses stitchedSize refusals
+unfolding evaluation Lone.evaluation one inBin nine withNan beginning withFar corners turnWith leaves out stitchWith stitchRefuses mesh meshOfOne noBox assembleWith assembleRefuses stitchedSize refusals
 refusals-agree = tt
 
 -- ---- two checks at once
@@ -184,11 +196,18 @@ pairs =
     ∷ case 2223 (turnWith one nine withNan (0 ∷ 1 ∷ 3 ∷ []) 99 ∷ []) (22 ∷ [])
     ∷ case 2223 (turnWith (0 ∷ 5 ∷ 0 ∷ 3 ∷ 3 ∷ 0 ∷ 0 ∷ 6 ∷ 0 ∷ 0 ∷ 3 ∷ 0 ∷ []) withNan nine (0 ∷ 1 ∷ 2 ∷ 0 ∷ 0 ∷ 0 ∷ []) 99 ∷ []) (22 ∷ [])
     ∷ case 2231 (turnWith one nine nine (0 ∷ 1 ∷ 3 ∷ []) 0 ∷ []) (22 ∷ [])
+    ∷ case 1424 (turnWith one withFar (drop 1 nine) corners 99 ∷ []) (14 ∷ [])
+    ∷ case 1524 (turnWith (inBin 65536) withFar nine corners 99 ∷ []) (15 ∷ [])
+    ∷ case 2124 (turnWith (0 ∷ 5 ∷ 0 ∷ 3 ∷ 4 ∷ 0 ∷ []) withFar nine (0 ∷ 1 ∷ 2 ∷ 0 ∷ []) 99 ∷ []) (21 ∷ [])
+    ∷ case 2224 (turnWith one withFar nine (0 ∷ 1 ∷ 3 ∷ []) 99 ∷ []) (22 ∷ [])
+    ∷ case 2324 (turnWith one withFar withNan corners 99 ∷ turnWith one (beginning 0x7F800000) nine corners 99 ∷ []) (23 ∷ 23 ∷ [])
+    ∷ case 2431 (turnWith one withFar nine corners 0 ∷ []) (24 ∷ [])
     ∷ case 2331 (turnWith one nine withNan corners 0 ∷ []) (23 ∷ [])
     ∷ case 1132 (stitchRefuses (0 ∷ []) [] [] (out 0 0 0 0 99) ∷ []) (11 ∷ [])
     ∷ case 1432 (stitchRefuses one (drop 1 nine) corners (out 0 0 0 0 99) ∷ []) (14 ∷ [])
     ∷ case 1532 (stitchRefuses (inBin 65536) nine corners (out 0 0 0 0 99) ∷ []) (15 ∷ [])
     ∷ case 2332 (stitchRefuses one withNan corners (out 0 0 0 0 99) ∷ []) (23 ∷ [])
+    ∷ case 2432 (stitchRefuses one withFar corners (out 0 0 0 0 99) ∷ []) (24 ∷ [])
     ∷ case 3132 (stitchRefuses one nine corners (out 0 0 0 0 75) ∷ []) (31 ∷ [])
     ∷ case 3332 (stitchedSize 262145 0 (out 0 0 0 0 0) ∷ []) (33 ∷ [])
     ∷ case 1242 (assembleRefuses (0 ∷ 0 ∷ 256 ∷ 0 ∷ 0 ∷ 0 ∷ []) [] [] (4294967297 ∷ []) (mesh 0 0 0 0 0 99) ∷ []) (12 ∷ [])
@@ -197,10 +216,12 @@ pairs =
     ∷ case 3142 (assembleRefuses one nine corners (4294967297 ∷ []) (meshOfOne 9 3 75) ∷ []) (31 ∷ [])
     ∷ case 3141 (assembleRefuses one nine corners [] (mesh 0 0 0 0 0 75) ∷ []) (31 ∷ [])
     ∷ case 4241 (assembleRefuses one nine corners (4294967297 ∷ []) (mesh 0 0 0 0 0 76) ∷ []) (42 ∷ [])
+    ∷ case 2442 (assembleRefuses one withFar corners (4294967297 ∷ []) (meshOfOne 9 3 99) ∷ []) (24 ∷ [])
+    ∷ case 2441 (assembleRefuses one withFar corners [] (mesh 0 0 0 0 0 99) ∷ []) (24 ∷ [])
     ∷ case 2342 (assembleRefuses one withNan corners (4294967297 ∷ []) (meshOfOne 9 3 99) ∷ []) (23 ∷ [])
     ∷ []
 
 -- The first in table order is given.
 pub pairs-agree : T (all agrees pairs)
-unfolding evaluation Lone.evaluation one inBin nine withNan corners turnWith leaves out stitchWith stitchRefuses mesh meshOfOne noBox assembleWith assembleRefuses stitchedSize pairs
+unfolding evaluation Lone.evaluation one inBin nine withNan beginning withFar corners turnWith leaves out stitchWith stitchRefuses mesh meshOfOne noBox assembleWith assembleRefuses stitchedSize pairs
 pairs-agree = tt

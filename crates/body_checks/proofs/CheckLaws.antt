@@ -10,6 +10,7 @@ use lib.Ieee.{Float}
 use borrow.Author.Tests.{eq-eqb, ne-eqb, lt-ltb, le-ltb, ltb-false}
 use Rattle.lists.specs.Lists.{any, all}
 use Rattle.lists.specs.Any.{any-one}
+use Rattle.point_rules.specs.Points.{clamps}
 use Rattle.body_table_checks.specs.Tabled.{Tabled, tabled}
 use Rattle.body_checks.specs.Accepted.{clean-before, before-numbered, checks-before, lone-vertices, lone-indices, lone-inside}
 use Rattle.body_rows.specs.Body.{Row, Patch, check, rowsOf, patchesOf, allVertices, allIndices, firstFailing, workNeeded}
@@ -151,9 +152,14 @@ module _ (ps ns : List Float) (is : List ℕ) where
         pub lone-23 : d ≡ true → 23 ≡ firstFailing (patchChecks (patchesOf (rowsOf (loneTable ps is)) ps ns is))
         lone-23 h = Patch′.fails-23 (loneTable ps is) ps ns is ok lone-parts whole-triangles (eb ∙ inside-is) pb ed h
 
-        -- all is well
-        pub lone-none : d ≡ false → 0 ≡ firstFailing (patchChecks (patchesOf (rowsOf (loneTable ps is)) ps ns is))
-        lone-none h = Patch′.fails-no-patch (loneTable ps is) ps ns is ok lone-parts whole-triangles (eb ∙ inside-is) pb ed h
+        module _ (pd : d ≡ false) {e : Bool} (ee : e ≡ any clamps ps) where
+          -- a cell is clamped
+          pub lone-24 : e ≡ true → 24 ≡ firstFailing (patchChecks (patchesOf (rowsOf (loneTable ps is)) ps ns is))
+          lone-24 h = Patch′.fails-24 (loneTable ps is) ps ns is ok lone-parts whole-triangles (eb ∙ inside-is) pb ed pd ee h
+
+          -- all is well
+          pub lone-none : e ≡ false → 0 ≡ firstFailing (patchChecks (patchesOf (rowsOf (loneTable ps is)) ps ns is))
+          lone-none h = Patch′.fails-no-patch (loneTable ps is) ps ns is ok lone-parts whole-triangles (eb ∙ inside-is) pb ed pd ee h
 
   -- a check of its table fails
   pub lone-table : {t : ℕ} → t ≡ firstFailing (tableChecks (loneTable ps is) (rowsOf (loneTable ps is)) ps ns is) → (t ≡ 0 → ⊥) → t ≡ firstFailing (loneChecks ps ns is)

@@ -31,7 +31,7 @@ use Rattle.body_patch_checks.specs.Patched.{Patched}
 pub record CleanBefore (table : List ℕ) (ps ns : List Float) (is : List ℕ) : Type 0 where
   -- the checks 11 to 15 have passed
   pub tabled : Tabled table ps ns is
-  -- the checks 21 to 23 have passed
+  -- the checks 21 to 24 have passed
   pub patched : Patched (patchesOf (rowsOf table) ps ns is)
 
 module _ (table : List ℕ) (ps ns : List Float) (is : List ℕ) where
@@ -47,9 +47,10 @@ module _ (table : List ℕ) (ps ns : List Float) (is : List ℕ) where
       let c21 = clear-first 20 _ _ (c15 .rest) in
       let c22 = clear-first 21 _ _ (c21 .rest) in
       let c23 = clear-first 22 _ _ (c22 .rest) in
+      let c24 = clear-first 23 _ _ (c23 .rest) in
       record {
         tabled = tabled-by table ps ns is (c11 .here) (c12 .here) (c13 .here) (c14 .here) (c15 .here);
-        patched = record { threes = c21 .here; inside = c22 .here; numbers = c23 .here };
+        patched = record { threes = c21 .here; inside = c22 .here; numbers = c23 .here; unclamped = c24 .here };
       }
 
   -- each of them has a number above 0

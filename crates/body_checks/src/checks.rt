@@ -7,7 +7,7 @@ ghost use mathlib.Core.Path.{_≡_};
 ghost use Rattle.body_refusals.specs.BodyChecks.{beforeWork, bodyChecks};
 ghost use Rattle.body_rows.specs.Body.{firstFailing};
 
-// The number of the first of the checks 11 to 23 that fails, or 0.
+// The number of the first of the checks 11 to 24 that fails, or 0.
 pub fn failing_before_work(rows: &[u32], positions: &[f32], normals: &[f32], indices: &[u32]) -> u32
     ensures { λ r. ⌜ r ≡ firstFailing (beforeWork (now (rows .entry)) (now (positions .entry)) (now (normals .entry)) (now (indices .entry))) ⌝ }
 {
@@ -18,7 +18,7 @@ pub fn failing_before_work(rows: &[u32], positions: &[f32], normals: &[f32], ind
     patch_failing(rows, positions, normals, indices)
 }
 
-// The number of the first of the checks 11 to 23 and 31 that fails for a work area of so many words, or 0.
+// The number of the first of the checks 11 to 24 and 31 that fails for a work area of so many words, or 0.
 pub fn first_failing(
     rows: &[u32],
     positions: &[f32],

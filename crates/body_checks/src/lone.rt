@@ -1,6 +1,7 @@
 // The checks of a patch asked about alone: a body of one row, with no work area.
 
 use body_patch_checks::any_at_least;
+use body_patch_checks::any_clamps;
 use body_patch_checks::any_number_not_finite;
 use body_table_checks::too_many;
 ghost use mathlib.Core.Path.{_≡_};
@@ -29,7 +30,7 @@ fn lone_table_failing(positions: &[f32], normals: &[f32], indices: &[u32]) -> u3
     0
 }
 
-// The number of the first of the checks 21 to 23 that fails, or 0.
+// The number of the first of the checks 21 to 24 that fails, or 0.
 fn lone_patch_failing(positions: &[f32], normals: &[f32], indices: &[u32]) -> u32
     requires { ⌜ Tabled (loneTable (now positions) (now indices)) (now positions) (now normals) (now indices) ⌝ }
     ensures { λ r. ⌜ r ≡ firstFailing (patchChecks (patchesOf (rowsOf (loneTable (now (positions .entry)) (now (indices .entry)))) (now (positions .entry))
@@ -45,10 +46,13 @@ fn lone_patch_failing(positions: &[f32], normals: &[f32], indices: &[u32]) -> u3
     if any_number_not_finite(positions, normals) {
         return 23;
     }
+    if any_clamps(positions) {
+        return 24;
+    }
     0
 }
 
-// The number of the first of the checks 11 to 23 that fails for a patch alone, or 0.
+// The number of the first of the checks 11 to 24 that fails for a patch alone, or 0.
 pub fn lone_failing(positions: &[f32], normals: &[f32], indices: &[u32]) -> u32
     ensures { λ r. ⌜ r ≡ firstFailing (loneChecks (now (positions .entry)) (now (normals .entry)) (now (indices .entry))) ⌝ }
 {

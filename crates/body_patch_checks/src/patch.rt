@@ -1,4 +1,4 @@
-// Checks 21 to 23: the patches' index counts, indices, positions and normals.
+// Checks 21 to 24: the patches' index counts, indices, positions and normals.
 
 use body_rows::indices;
 use body_rows::row_count;
@@ -10,6 +10,7 @@ ghost use Prim.Native.Nat.{_<_};
 ghost use lib.ListN.{take, drop};
 ghost use lib.Dec.{leb};
 ghost use Rattle.lists.specs.Lists.{any};
+ghost use Rattle.point_rules.specs.Points.{clamps};
 ghost use Rattle.body_table_checks.specs.Tabled.{Tabled};
 ghost use Rattle.body_refusals.specs.PatchChecks.{badIndices, patchChecks};
 ghost use Rattle.body_rows.specs.Body.{firstFailing, patchesOf, rowsOf};
@@ -74,18 +75,17 @@ fn any_bad_index(table: &[u32], all: &[u32]) -> bool
     false
 }
 
-// 23: whether a number of s isn't finite.
+// 23: whether a number of s isn't finite. All are looked at, without a jump, so that the processor takes several at a time.
 fn any_not_finite(s: &[f32]) -> bool
     ensures { λ r. ⌜ r ≡ any notFinite (now (s .entry)) ⌝ }
 {
+    let mut found = false;
     let mut k = 0usize;
     while k < s.len() {
-        if !float_steps::is_finite_f32(s[k]) {
-            return true;
-        }
+        found = found | !float_steps::is_finite_f32(s[k]);
         k += 1;
     }
-    false
+    found
 }
 
 // 23: whether a position or a normal isn't finite.
@@ -98,7 +98,20 @@ pub fn any_number_not_finite(positions: &[f32], normals: &[f32]) -> bool
     any_not_finite(normals)
 }
 
-// The number of the first of the checks 21 to 23 that fails, or 0.
+// 24: whether a position's cell is clamped. All are looked at, without a jump.
+pub fn any_clamps(positions: &[f32]) -> bool
+    ensures { λ r. ⌜ r ≡ any clamps (now (positions .entry)) ⌝ }
+{
+    let mut found = false;
+    let mut k = 0usize;
+    while k < positions.len() {
+        found = found | point_cell::clamps(positions[k]);
+        k += 1;
+    }
+    found
+}
+
+// The number of the first of the checks 21 to 24 that fails, or 0.
 pub fn patch_failing(table: &[u32], positions: &[f32], normals: &[f32], indices: &[u32]) -> u32
     requires { ⌜ Tabled (now table) (now positions) (now normals) (now indices) ⌝ }
     ensures { λ r. ⌜ r ≡ firstFailing (patchChecks (patchesOf (rowsOf (now (table .entry))) (now (positions .entry)) (now (normals .entry))
@@ -112,6 +125,9 @@ pub fn patch_failing(table: &[u32], positions: &[f32], normals: &[f32], indices:
     }
     if any_number_not_finite(positions, normals) {
         return 23;
+    }
+    if any_clamps(positions) {
+        return 24;
     }
     0
 }

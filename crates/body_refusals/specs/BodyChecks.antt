@@ -8,11 +8,11 @@ use Rattle.body_rows.specs.Body.{rowsOf, patchesOf, Check, check, workNeeded}
 use Rattle.body_refusals.specs.TableChecks.{tableChecks}
 use Rattle.body_refusals.specs.PatchChecks.{patchChecks}
 
--- 11 to 23: the checks of a call that needs no work area
+-- 11 to 24: the checks of a call that needs no work area
 unfoldable pub beforeWork : List ℕ → List Float → List Float → List ℕ → List Check
 beforeWork table ps ns is = let rows = rowsOf table in tableChecks table rows ps ns is ++ patchChecks (patchesOf rows ps ns is)
 
--- the checks that all three calls begin with: 11 to 23, and 31 for a work area of so many words
+-- the checks that all three calls begin with: 11 to 24, and 31 for a work area of so many words
 unfoldable pub bodyChecks : List ℕ → List Float → List Float → List ℕ → ℕ → List Check
 bodyChecks table ps ns is words = beforeWork table ps ns is ++ check 31 (ltb words (workNeeded (rowsOf table))) ∷ []
 

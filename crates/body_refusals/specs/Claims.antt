@@ -1,9 +1,10 @@
 -- The checks on small bodies that stand at their edges. Assumes nothing.
-use mathlib.Core.List.{List, [], _∷_}
+use mathlib.Core.List.{List, [], _∷_, _++_}
 use Prim.Native.Nat.{ℕ, _*_}
-use lib.ListN.{length, replicate}
+use lib.ListN.{length, replicate, take}
 use lib.Dec.{T}
 use lib.Ieee.{Float, nan}
+use Rattle.float_steps.specs.Floats.{f32}
 use Rattle.lists.specs.Lists.{all}
 use Rattle.lists.specs.Table.{Case, case, agrees}
 use Rattle.body_rows.specs.Body.{rowWidth, firstFailing}
@@ -31,6 +32,14 @@ failedLast = 0 ∷ 0 ∷ 7 ∷ 0 ∷ 0 ∷ 65535 ∷ 0 ∷ 0 ∷ 7 ∷ 0 ∷ 0 �
 partTriangle : List ℕ
 partTriangle = 0 ∷ 5 ∷ 0 ∷ 3 ∷ 4 ∷ 65536 ∷ []
 
+-- the triangle's positions, its last number having these bits
+far : ℕ → List Float
+far b = take 8 (givenPositions one) ++ f32 b ∷ []
+
+-- a row of three vertices that no triangle uses
+unused : List ℕ
+unused = 0 ∷ 5 ∷ 0 ∷ 3 ∷ 0 ∷ 0 ∷ []
+
 -- what passes and what doesn't, check by check
 pub claims : List Case
 claims =
@@ -43,10 +52,13 @@ claims =
     ∷ case 21 (refusalOf (0 ∷ 1 ∷ 2 ∷ 3 ∷ []) 99 ∷ refusalOf (0 ∷ 1 ∷ 2 ∷ []) 99 ∷ []) (21 ∷ 0 ∷ [])
     ∷ case 22 (refusalOf (0 ∷ 1 ∷ 3 ∷ []) 99 ∷ refusal (givenTable one) (givenPositions one) (replicate 9 nan) (0 ∷ 1 ∷ 3 ∷ []) 99 ∷ []) (22 ∷ 22 ∷ [])
     ∷ case 23 (refusal (givenTable one) (givenPositions one) (replicate 9 nan) (givenIndices one) 0 ∷ []) (23 ∷ [])
+    ∷ case 24 (refusal (givenTable one) (far 0x550637BE) (givenPositions one) (givenIndices one) 0 ∷ refusal (givenTable one) (far 0xD50637BE) (givenPositions one) (givenIndices one) 0 ∷ []) (24 ∷ 24 ∷ [])
+    ∷ case 24 (refusal (givenTable one) (far 0x550637BD) (givenPositions one) (givenIndices one) 0 ∷ refusal (givenTable one) (givenPositions one) (far 0x550637BE) (givenIndices one) 99 ∷ []) (31 ∷ 0 ∷ [])
+    ∷ case 24 (refusal (givenTable one) (far 0x550637BE) (replicate 9 nan) (givenIndices one) 0 ∷ refusal unused (far 0xD50637BE) (givenPositions one) [] 99 ∷ []) (23 ∷ 24 ∷ [])
     ∷ case 31 (refusalOf (0 ∷ 1 ∷ 2 ∷ []) 75 ∷ refusalOf (0 ∷ 1 ∷ 2 ∷ []) 76 ∷ []) (31 ∷ 0 ∷ [])
     ∷ []
 
 -- The definitions yield each.
 pub claims-hold : T (all agrees claims)
-unfolding evaluation refusal one refusalOf failedLast partTriangle claims
+unfolding evaluation refusal one refusalOf failedLast partTriangle far unused claims
 claims-hold = tt

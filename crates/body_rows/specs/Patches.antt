@@ -136,6 +136,25 @@ any-number f (r ∷ rs) ps ns is h k =
     ∙ either (any f (take v ps)) (any f (take v ns)) (any f (drop v ps)) (any f (drop v ns))
     ∙ (λ j. any-split f v ps j || any-split f v ns j)
 
+-- Check 24 looks at every position of such a body, and at no normal.
+pub any-position : (f : Float → Bool) (rows : List Row) (ps ns : List Float) (is : List ℕ) → length ps ≡ 3 * allVertices rows
+    → any (λ p. any f (p .positions)) (patchesOf rows ps ns is) ≡ any f ps
+unfolding patchesOf any allVertices sumOf
+any-position f [] [] ns is h = refl
+any-position f [] (p ∷ ps) ns is h = absurd (no h)
+  where
+    no : suc (length ps) ≡ 0 → ⊥
+    no b = omega arith
+any-position f (r ∷ rs) ps ns is h =
+    let v = 3 * r .vertices in
+    ap (λ (b : Bool). elim (any f (take v ps)) [ true ↦ true | false ↦ b ]) (any-position f rs (drop v ps) (drop v ns) (drop (r .indices) is) (left-length (r .vertices) _ ps h))
+    ∙ one (any f (take v ps)) (any f (drop v ps))
+    ∙ any-split f v ps
+  where
+    one : (a b : Bool) → elim a [ true ↦ true | false ↦ b ] ≡ (a || b)
+    one true b = refl
+    one false b = refl
+
 -- the first row's vertices and indices start at 0
 pub before-none : (rows : List Row) → (verticesBefore rows 0 ≡ 0) × (indicesBefore rows 0 ≡ 0)
 unfolding verticesBefore indicesBefore allVertices allIndices sumOf

@@ -1,4 +1,4 @@
--- The definitions' answers as the C structs: of a patch alone, of the three calls, of plans and of pegs.
+-- The definitions' answers as the C structs: of a patch alone, of the three calls, of plans, of pegs, of cells and of keys.
 pub mod Answers
 pub mod Turning
 pub mod Stitching
@@ -6,3 +6,4 @@ pub mod Assembling
 pub mod AssembledStruct
 pub mod Plans
 pub mod Pegs
+pub mod Naming

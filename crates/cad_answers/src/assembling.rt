@@ -22,7 +22,7 @@ pub struct CadAssembled {
 }
 
 // 1 for true, 0 for false.
-fn flag(b: bool) -> u32
+pub fn flag(b: bool) -> u32
     ensures { λ r. ⌜ r ≡ cond b 1 0 ⌝ }
 {
     if b { 1 } else { 0 }

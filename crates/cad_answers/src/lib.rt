@@ -1,6 +1,7 @@
 // The structs that the library's calls for C answer with, the refusal first, and the answers as these structs.
 
 mod assembling;
+mod naming;
 mod patch;
 mod pegs;
 mod plans;
@@ -9,6 +10,10 @@ mod turning;
 
 pub use assembling::CadAssembled;
 pub use assembling::assembled_answer;
+pub use naming::CadCell;
+pub use naming::CadKey;
+pub use naming::cell_answer;
+pub use naming::key_answer;
 pub use patch::CadJudged;
 pub use patch::CadMeasured;
 pub use patch::box_of;

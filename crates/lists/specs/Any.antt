@@ -8,7 +8,7 @@ use native.Mathlib.Nat.{le-of-suc-le-suc, not-suc-le-zero}
 use native.Mathlib.Numerals.{add-one}
 use native.Mathlib.Omega.{arith}
 use lib.ListN.{length, getD, take, drop, replicate, drop-of-length-le}
-use lib.Seq.{drop-cons, take-all}
+use lib.Seq.{drop-cons, take-all, take-suc}
 use Rattle.lists.specs.Lists.{any, sumOf, itemAt}
 
 module _ {A : Type 0} where
@@ -91,6 +91,31 @@ module _ {A : Type 0} where
   pub searched-all : {f : A → Bool} {xs : List A} {k : ℕ} → Searched f xs k → length xs ≤ k → false ≡ any f xs
   unfolding any
   searched-all {f} {xs} {k} s h = sym (ap (any f) (drop-of-length-le xs h)) ∙ s .rest
+
+  -- a look at every item, without a jump, has seen the first k: whether one of them passes
+  pub record Looked (f : A → Bool) (xs : List A) (k : ℕ) (found : Bool) : Type 0 where
+    pub low : k ≤ length xs
+    pub is : found ≡ any f (take k xs)
+
+  -- no item is seen yet
+  pub looked-none : (f : A → Bool) (xs : List A) → Looked f xs 0 false
+  unfolding any
+  looked-none f xs = record { low = omega arith; is = refl }
+
+  -- item k is seen
+  pub looked-more : {f : A → Bool} {xs : List A} {k : ℕ} {found b : Bool} (d : A) → Looked f xs k found → k < length xs → b ≡ f (getD xs k d) → Looked f xs (k + 1) (found || b)
+  looked-more {f} {xs} {k} d v h e = record {
+    low = omega arith;
+    is =
+        (λ i. v .is i || e i)
+        ∙ ap (λ (t : Bool). any f (take k xs) || t) (sym (any-one f (getD xs k d)))
+        ∙ sym (any-append f (take k xs) (getD xs k d ∷ []))
+        ∙ ap (any f) (sym (ap (λ (n : ℕ). take n xs) (add-one k) ∙ take-suc xs k d h));
+  }
+
+  -- every item is seen
+  pub looked-all : {f : A → Bool} {xs : List A} {k : ℕ} {found : Bool} → Looked f xs k found → length xs ≤ k → found ≡ any f xs
+  looked-all {f} {xs} {k} v h = v .is ∙ ap (any f) (take-all k xs h)
 
   -- the sum over one item more
   pub sum-more : (f : A → ℕ) (xs : List A) (k : ℕ) (d : A) → k < length xs → sumOf f (take (k + 1) xs) ≡ sumOf f (take k xs) + f (getD xs k d)

@@ -11,7 +11,7 @@ use lib.ListN.{length, getD, take, drop}
 use lib.Seq.{take-all, take-suc}
 use lib.Ieee.{Float, nan}
 use Rattle.lists.specs.Lists.{any}
-use Rattle.lists.specs.Any.{any-append, any-one}
+use Rattle.lists.specs.Any.{Looked, looked-more}
 use Rattle.lists.specs.Stretches.{rest-less}
 use Rattle.float_steps.specs.Floats.{bits32}
 use Rattle.point_rules.specs.Rule.{names}
@@ -28,27 +28,10 @@ use Rattle.mesh_edges.specs.declared.mesh.MeshEdges.{MeshEdges}
 
 -- ---- a look for −0.0
 
--- the first k positions were looked at
-pub record Looked (ps : List Float) (k : ℕ) (found : Bool) : Type 0 where
-  pub low : k ≤ length ps
-  pub is : found ≡ any minusZero (take k ps)
-
-pub looked-none : (ps : List Float) → Looked ps 0 false
-unfolding any
-looked-none ps = record { low = omega arith; is = refl }
-
-pub looked-more : (ps : List Float) (k : ℕ) {found : Bool} → Looked ps k found → k < length ps → {b : ℕ} → b ≡ bits32 (getD ps k nan) → Looked ps (k + 1) (found || eqb b 2147483648)
-looked-more ps k v h e = record {
-  low = omega arith;
-  is =
-      (λ i. v .is i || eqb (e i) (2 ^ 31))
-      ∙ ap (λ (t : Bool). any minusZero (take k ps) || t) (sym (any-one minusZero (getD ps k nan)))
-      ∙ sym (any-append minusZero (take k ps) (getD ps k nan ∷ []))
-      ∙ ap (any minusZero) (sym (ap (λ (n : ℕ). take n ps) (add-one k) ∙ take-suc ps k nan h));
-}
-
-pub looked-all : (ps : List Float) (k : ℕ) {found : Bool} → Looked ps k found → length ps ≤ k → found ≡ any minusZero ps
-looked-all ps k v h = v .is ∙ ap (any minusZero) (take-all k ps h)
+-- position k is looked at
+pub minus-more : (ps : List Float) (k : ℕ) {found : Bool} → Looked minusZero ps k found → k < length ps → {b : ℕ} → b ≡ bits32 (getD ps k nan)
+    → Looked minusZero ps (k + 1) (found || eqb b 2147483648)
+minus-more ps k v h e = looked-more nan v h (ap (λ (n : ℕ). eqb n (2 ^ 31)) e)
 
 -- ---- closed by counts
 pub closed-is : (c : EdgeCounts) {r : Bool} → r ≡ (eqb (c .opens) 0 && eqb (c .overs) 0) → r ≡ closedBy (countsIn c)

@@ -31,8 +31,8 @@ rounded-first : alone 0xBD800000 (pos 64) (at 5001 0 0) ∷ alone 0xBD800000 (po
 unfolding evaluation alone rows at
 rounded-first = refl
 
--- 62.5 are 63; 0.00049 micrometres are none; 2^127 millimetres are just far
-rounded : alone 0x3D800000 (pos 0) (at 5063 0 0) ∷ alone 0x3D800000 (pos 0) (at 5064 0 0) ∷ alone 0x35000000 (pos 0) (at 5000 0 0) ∷ alone 0x7F000000 (pos 0) (at 0 0 0) ∷ []
+-- 62.5 are 63; 0.00049 micrometres are none; the last coordinate whose cell isn't clamped is just far
+rounded : alone 0x3D800000 (pos 0) (at 5063 0 0) ∷ alone 0x3D800000 (pos 0) (at 5064 0 0) ∷ alone 0x35000000 (pos 0) (at 5000 0 0) ∷ alone 0x550637BD (pos 0) (at 0 0 0) ∷ []
     ≡ Found (7 ∷ []) ∷ Found [] ∷ Found (7 ∷ []) ∷ Found [] ∷ []
 unfolding evaluation alone rows at
 rounded = refl
@@ -72,6 +72,15 @@ refused : atOrigin (1 ∷ 2 ∷ []) (replicate 5 (pos 0)) (at 0 0 0) 0
     ≡ Refused 65 ∷ Refused 65 ∷ Refused 65 ∷ Refused 65 ∷ Refused 23 ∷ Found [] ∷ []
 unfolding evaluation atOrigin rows at
 refused = refl
+
+-- the next coordinate is refused, on either side, before a place that is too far; a normal that isn't finite comes before it
+clamped : alone 0x550637BE (pos 0) (at 0 0 0)
+    ∷ alone 0xD50637BE (pos 1099511627777) (at 0 0 0)
+    ∷ lookupOf (rows (1 ∷ [])) (replicate 3 (f32 0x7F7FFFFF)) (replicate 3 nan) [] [] (at 0 0 0) 0
+    ∷ []
+    ≡ Refused 24 ∷ Refused 24 ∷ Refused 23 ∷ []
+unfolding evaluation alone rows at
+clamped = refl
 
 -- bins in front of a list of three numbers; a refusal leaves it
 bins-after : binsAfter (atOrigin (8 ∷ 4 ∷ []) (replicate 6 (pos 0)) (at 0 0 0) 3) (9 ∷ 9 ∷ 9 ∷ []) ≡ 4 ∷ 8 ∷ 9 ∷ []

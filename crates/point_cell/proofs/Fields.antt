@@ -65,11 +65,11 @@ unfolding ofBits
 ofBits-is b = refl
 
 -- the exponent's field and the digits
-abbrev expo : ℕ → ℕ
+abbrev pub expo : ℕ → ℕ
 expo b = b % 2 ^ 31 / 2 ^ 23
 
 -- the digits
-abbrev rest : ℕ → ℕ
+abbrev pub rest : ℕ → ℕ
 rest b = b % 2 ^ 23
 
 -- the float is that of its fields
@@ -114,7 +114,7 @@ module _ (x : Float) (b F L : ℕ) (f : fits binary32 x ≡ true) (at : b ≡ to
           none ∙ ap (λ (z : ℕ). min z L) (sym (below-half (F * (2 ^ 23 + rest b)) (expo b - 1) 149 44 digits-few (omega arith))) ∙ normal p (omega arith)
 
   -- the quotient before the last halving
-  quotient-few : F * (2 ^ 23 + rest b) / 2 ^ (149 - expo b) < 2 ^ 44
+  pub quotient-few : F * (2 ^ 23 + rest b) / 2 ^ (149 - expo b) < 2 ^ 44
   quotient-few = lt-of-le-of-lt (shr-le (F * (2 ^ 23 + rest b)) (149 - expo b)) digits-few
 
   -- it can be rounded
@@ -133,7 +133,7 @@ module _ (x : Float) (b F L : ℕ) (f : fits binary32 x ≡ true) (at : b ≡ to
       small q l = omega (arith, g .low)
 
   -- whole
-  high : 150 ≤ expo b → expo b < 255 → min (F * (2 ^ 23 + rest b) * 2 ^ (expo b - 150)) L ≡ min (nearestSize F x) L
+  pub high : 150 ≤ expo b → expo b < 255 → min (F * (2 ^ 23 + rest b) * 2 ^ (expo b - 150)) L ≡ min (nearestSize F x) L
   high l h =
       ap (λ (z : ℕ). min z L) (sym (no-digits (F * (2 ^ 23 + rest b)) (expo b - 1) 149 (expo b - 150) (omega arith))) ∙ normal (omega arith) h
 

@@ -3,3 +3,4 @@ pub mod Rounding
 pub mod Fields
 pub mod Signs
 pub mod Words
+pub mod Clamping

@@ -12,7 +12,9 @@ use mir.Val.{SFits, toZ, ofZ}
 use mir.ValLaws.{toZ-ofZ, toZ-pos}
 use lib.Dec.{leb, eqb, lit≤}
 use lib.Ieee.{Float, nan, inf, fin, binary32, odd, ofFields, toBits, fits}
-use Rattle.point_rules.specs.Points.{cell, nearestSize, cellSize, clamped, pattern}
+use Rattle.point_rules.specs.Points.{cell, nearestSize, cellSize, clamped, clamps, pattern}
+use Rattle.point_cell.specs.Told.{cellTold}
+use Rattle.point_cell.specs.declared.CellAnswer.{CellAnswer}
 use Rattle.point_cell.proofs.Fields.{is}
 
 -- ---- the sign
@@ -171,3 +173,28 @@ module _ (x : Float) (b n : ℕ) (f : fits binary32 x ≡ true) (at : b ≡ toBi
   pub number-some : 2 ^ 31 ≤ b → (n ≡ 0 → ⊥)
       → toZ w64 (ofZ w64 (toZ w64 (ofZ w64 (pos 0 -ℤ toZ w64 (n - 1))) -ℤ pos 1)) ≡ cell x
   number-some h z = lower-is (n - 1) below ∙ minus-some h z
+
+-- ---- the cell as it is answered
+
+-- a clamped number fits
+clamped-fits : (s : Bool) (n : ℕ) → SFits w64 (clamped s n)
+clamped-fits false n = record { sfits = few n }
+  where
+    few : (n : ℕ) → min n (2 ^ 63 - 1) < 2 ^ 63
+    few n = omega arith
+clamped-fits true n = record { sfits = few (min n (2 ^ 63)) (min-le-right _ _) }
+  where
+    few : (k : ℕ) → k ≤ 2 ^ 63 → mag (negℤ (pos k)) < 2 ^ 63
+    few zero h = omega arith
+    few (suc k) h = omega arith
+
+-- so does a cell
+cell-fits : (x : Float) → SFits w64 (cell x)
+unfolding cell
+cell-fits nan = record { sfits = omega arith }
+cell-fits (inf s) = clamped-fits s (2 ^ 63)
+cell-fits (fin s m e) = clamped-fits s _
+
+-- value and clamped make the answer
+pub cell-told : (x : Float) {z : ℤ} {b : Bool} → z ≡ cell x → b ≡ clamps x → _≡_ {A = CellAnswer} (record { value = toZ w64 (ofZ w64 z); clamped = b }) (cellTold x)
+cell-told x {z} e f = let v : toZ w64 (ofZ w64 z) ≡ cell x = ap (λ (y : ℤ). toZ w64 (ofZ w64 y)) e ∙ toZ-ofZ w64 (cell x) (cell-fits x) in λ i. record { value = v i; clamped = f i }

@@ -39,7 +39,7 @@ fields-nearest F s (suc x) t = go (eqb (suc x) 255) (eqb t 0)
 
 module _ (x : Float) (b F : ℕ) (f : fits binary32 x ≡ true) (at : b ≡ toBits binary32 x) where
   -- by the sign's bit
-  signed-is : nearest F x ≡ signed (leb (2 ^ 31) b) (nearestSize F x)
+  pub signed-is : nearest F x ≡ signed (leb (2 ^ 31) b) (nearestSize F x)
   signed-is = ap (nearest F) (sym (is x b f at)) ∙ fields-nearest F (leb (2 ^ 31) b) _ _ ∙ ap (λ (v : Float). signed (leb (2 ^ 31) b) (nearestSize F v)) (is x b f at)
 
   -- the word of a number without a sign

@@ -4,6 +4,7 @@ ghost use Prim.Native.Nat.{_^_, _≤_, _<_, min};
 ghost use Rattle.float_round.specs.Integral.{halfUp};
 ghost use Rattle.point_rules.specs.Points as Points;
 ghost use Rattle.point_cell.specs.Scale.{NearestWord, Scale};
+ghost use Rattle.point_cell.specs.Told.{cellTold};
 use float_steps::bits_of_f32;
 
 // How many cells a unit of length has.
@@ -90,8 +91,22 @@ pub fn cell_bits(v: f32) -> u64
     }
 }
 
+// The first size of a coordinate, as its bits without the sign, whose cell is clamped: 9,223,373,062,144.
+const FIRST_CLAMPED: u32 = 0x5506_37BE;
+
+// The bits of infinity: what stands above them is a NaN.
+const INFINITE: u32 = 0x7F80_0000;
+
+// Whether the cell of v is clamped: the size decides, as no coordinate times 1,000,000 is -2^63. Both ends are one test, so that a loop over many has no jump.
+pub fn clamps(v: f32) -> bool
+    ensures { λ r. ⌜ r ≡ Points.clamps v ⌝ }
+{
+    let b = bits_of_f32(v) % 2147483648;
+    (b >= FIRST_CLAMPED) & (b <= INFINITE)
+}
+
 // The whole number nearest 1,000,000 × v, halves away from zero, clamped to signed 64 bits; 0 of a NaN.
-pub fn cell(v: f32) -> i64
+fn cell_value(v: f32) -> i64
     ensures { λ r. ⌜ r ≡ Points.cell v ⌝ }
 {
     let n = cell_size(v);
@@ -99,5 +114,21 @@ pub fn cell(v: f32) -> i64
         if n < LIMIT { n as i64 } else { LARGEST }
     } else {
         if n == 0 { 0 } else { (0 - (n - 1) as i64) - 1 }
+    }
+}
+
+// A cell, and whether it was clamped.
+pub struct CellAnswer {
+    pub value: i64,
+    pub clamped: bool,
+}
+
+// The cell of v, and whether it was clamped.
+pub fn cell(v: f32) -> CellAnswer
+    ensures { λ r. ⌜ r ≡ cellTold v ⌝ }
+{
+    CellAnswer {
+        value: cell_value(v),
+        clamped: clamps(v),
     }
 }

@@ -1,5 +1,6 @@
 -- Laws of the key's steps. Assumes nothing.
 use mathlib.Core.Path.{_≡_, refl, sym, ap, _∙_}
+use mathlib.Core.Bool.{Bool, _||_}
 use mathlib.Core.List.{List, [], _∷_, _++_}
 use Prim.Native.Nat.{ℕ, zero, suc, _+_, _-_, _*_, _/_, _%_, _^_, _<_}
 use native.Mathlib.Nat.{zero-add, add-comm, mul-assoc, mul-comm, mul-left-comm, add-mul, div-add-mod', add-mul-mod-self-right}
@@ -7,7 +8,9 @@ use native.Mathlib.Omega.{arith}
 use lib.Pow.{split}
 use lib.Bits.{bitXor, xor-block, xor-zero-r}
 use lib.Ieee.{Float}
-use Rattle.point_rules.specs.Points.{cell, pattern, keyStep, keySteps, littleEndian, key}
+use Rattle.point_rules.specs.Points.{cell, pattern, keyStep, keySteps, littleEndian, key, clamps}
+use Rattle.point_key.specs.Told.{keyTold}
+use Rattle.point_key.specs.declared.key.KeyAnswer.{KeyAnswer}
 
 -- exclusive-or with a byte changes the lowest byte only
 xor-byte : (h b : ℕ) → b < 256 → bitXor h b ≡ h / 256 * 256 + bitXor (h % 256) b
@@ -87,3 +90,8 @@ key-is x y z {cx = cx} {cy = cy} {cz = cz} ex ey ez gx gy gz =
     ∙ ap (λ (h : ℕ). keySteps h (littleEndian 8 cz)) (sym (append-steps 1469598103934665603 (littleEndian 8 cx) (littleEndian 8 cy)))
     ∙ sym (append-steps 1469598103934665603 (littleEndian 8 cx ++ littleEndian 8 cy) (littleEndian 8 cz))
     ∙ (λ i. keySteps 1469598103934665603 (littleEndian 8 (ex i) ++ littleEndian 8 (ey i) ++ littleEndian 8 (ez i)))
+
+-- value and clamped make the answer
+pub key-told : (x y z : Float) {k : ℕ} {a b c : Bool} → k ≡ key x y z → a ≡ clamps x → b ≡ clamps y → c ≡ clamps z
+    → _≡_ {A = KeyAnswer} (record { value = k; clamped = a || b || c }) (keyTold x y z)
+key-told x y z e f g h = λ i. record { value = e i; clamped = f i || g i || h i }

@@ -2,8 +2,10 @@
 ghost use mathlib.Core.Path.{_≡_};
 ghost use Prim.Native.Nat.{_<_, _^_};
 ghost use Rattle.point_rules.specs.Points as Points;
+ghost use Rattle.point_key.specs.Told.{keyTold};
 use crate::multiply::wrapping_mul;
 use point_cell::cell_bits;
+use point_cell::clamps;
 
 // What a key starts from, and what it is multiplied by at each byte.
 const START: u64 = 1469598103934665603;
@@ -55,7 +57,7 @@ fn key_low(start: u64, word: u64) -> u64
 }
 
 // The key of a point: the eight bytes of each of its three cells taken in, x first. One test finds that all three are small and none is negative.
-pub fn key(x: f32, y: f32, z: f32) -> u64
+pub fn key_of(x: f32, y: f32, z: f32) -> u64
     ensures { λ r. ⌜ r ≡ Points.key x y z ⌝ }
 {
     let cx = cell_bits(x);
@@ -69,4 +71,20 @@ pub fn key(x: f32, y: f32, z: f32) -> u64
     let hx = key_word(START, cx);
     let hy = key_word(hx, cy);
     key_word(hy, cz)
+}
+
+// A key, and whether one of its three cells was clamped.
+pub struct KeyAnswer {
+    pub value: u64,
+    pub clamped: bool,
+}
+
+// The key of a point, and whether one of its cells was clamped.
+pub fn key(x: f32, y: f32, z: f32) -> KeyAnswer
+    ensures { λ r. ⌜ r ≡ keyTold x y z ⌝ }
+{
+    KeyAnswer {
+        value: key_of(x, y, z),
+        clamped: clamps(x) | clamps(y) | clamps(z),
+    }
 }

@@ -7,7 +7,7 @@ ghost use Rattle.point_rules.specs.Points as Points;
 ghost use Rattle.point_rules.specs.Bits.{Bits32, bitsBy, frontBits, digest};
 ghost use Rattle.point_rules.specs.Rule.{names, VertexInside, Both};
 ghost use lib.Ieee.{nan};
-use crate::key::key;
+use crate::key::key_of;
 use crate::multiply::wrapping_mul;
 use float_steps::bits_of_f32;
 
@@ -21,7 +21,7 @@ pub fn key_at(positions: &[f32], i: usize) -> u64
     requires { ⌜ VertexInside i (now positions) ⌝ }
     ensures { λ r. ⌜ r ≡ getD (names Points.key (now (positions .entry))) i 0 ⌝ }
 {
-    key(positions[3 * i], positions[3 * i + 1], positions[3 * i + 2])
+    key_of(positions[3 * i], positions[3 * i + 1], positions[3 * i + 2])
 }
 
 // The bits of -0.0.

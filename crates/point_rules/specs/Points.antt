@@ -4,7 +4,7 @@ use mathlib.Core.List.{List, [], _∷_, _++_}
 use Prim.Native.Nat.{ℕ, zero, suc, _+_, _-_, _*_, _/_, _%_, _^_, min}
 use lib.IntN.{ℤ, pos, negsuc, negℤ}
 use lib.Bits.{bitXor}
-use lib.Dec.{eqb}
+use lib.Dec.{leb, eqb}
 use lib.Ieee.{Float, nan, inf, fin, up, down}
 use Rattle.float_round.specs.Integral.{halfUp}
 use Rattle.float_steps.specs.Floats.{bits32}
@@ -37,6 +37,15 @@ unfoldable pub nearest : ℕ → Float → ℤ
 nearest factor nan = pos 0
 nearest factor (inf s) = signed s (nearestSize factor (inf s))
 nearest factor (fin s m e) = signed s (nearestSize factor (fin s m e))
+
+-- whether a whole number is outside signed 64 bits
+abbrev pub outside64 : ℤ → Bool
+outside64 (pos n) = leb (2 ^ 63) n
+outside64 (negsuc n) = leb (2 ^ 63) n
+
+-- Request N6: the cell of v is clamped exactly if the whole number nearest 1,000,000 × v is outside signed 64 bits; an infinity's is, a NaN's, 0, isn't.
+unfoldable pub clamps : Float → Bool
+clamps v = outside64 (nearest 1_000_000 v)
 
 -- how far the cell of v is from zero before the sign decides the clamp: at most 2^63
 abbrev pub cellSize : Float → ℕ

@@ -1,10 +1,10 @@
--- Without its premise, that positions are values of f32, the volume rule would be false: three points at 2 ^ 400 on the axes. Assumes nothing.
+-- Without its premise, that positions are values of f32, the volume rule would be false: three points at 2 ^ −150 on the axes, half of the smallest f32. Assumes nothing.
 use mathlib.Core.Path.{_≡_, refl}
 use mathlib.Core.Bool.{false}
 use mathlib.Core.List.{List, [], _∷_}
 use Prim.Native.Nat.{ℕ}
 use lib.ListN.{replicate}
-use lib.IntN.{pos}
+use lib.IntN.{pos, negsuc}
 use lib.Ieee.{Float, fin}
 use Rattle.point_rules.specs.Rule.{Rule}
 use Rattle.point_rules.specs.Points.{key}
@@ -17,9 +17,9 @@ pub Unpremised : Type 0
 Unpremised = (rule : Rule) (table : List ℕ) (ps ns : List Float) (is work : List ℕ) → turnOf rule table ps ns is work .refusal ≡ 0
     → let t = turnOf rule table ps ns is work in KeepsVolume rule table ps ns is (t .normals) (t .indices)
 
--- 2 ^ 400
-far : Float
-far = fin false 1 (pos 400)
+-- 2 ^ −150
+small : Float
+small = fin false 1 (negsuc 149)
 
 -- 0
 nil : Float
@@ -27,6 +27,6 @@ nil = fin false 0 (pos 0)
 
 -- It is false.
 pub unpremised-false : Unpremised → ⊥
-unfolding evaluation KeepsVolume Unpremised far nil
+unfolding evaluation KeepsVolume Unpremised small nil
 unpremised-false rule =
-    rule key (0 ∷ 0 ∷ 0 ∷ 3 ∷ 3 ∷ 7 ∷ []) (far ∷ nil ∷ nil ∷ nil ∷ far ∷ nil ∷ nil ∷ nil ∷ far ∷ []) (replicate 9 nil) (0 ∷ 1 ∷ 2 ∷ []) (replicate 76 0) refl
+    rule key (0 ∷ 0 ∷ 0 ∷ 3 ∷ 3 ∷ 7 ∷ []) (small ∷ nil ∷ nil ∷ nil ∷ small ∷ nil ∷ nil ∷ nil ∷ small ∷ []) (replicate 9 nil) (0 ∷ 1 ∷ 2 ∷ []) (replicate 76 0) refl

@@ -1,6 +1,6 @@
 //! The ways to break a body that document 01's table lists, each with its number.
 
-use driver::check::{MOST_BIN, MOST_INDICES, MOST_ROWS, MOST_VERTICES};
+use driver::check::{LAST_UNCLAMPED, MOST_BIN, MOST_INDICES, MOST_ROWS, MOST_VERTICES};
 use driver::flat::{Flat, ROW};
 use driver::random::Random;
 
@@ -61,12 +61,21 @@ pub const FAULTS: &[Fault] = &[
     fault(23, "a normal that is no number", |c, r| bits(&mut c.body.normals, r, &NANS)),
     fault(23, "an infinite normal", |c, r| bits(&mut c.body.normals, r, &[0x7f80_0000])),
     fault(23, "a negative infinite normal", |c, r| bits(&mut c.body.normals, r, &[0xff80_0000])),
+    fault(24, "a position whose cell clamps", |c, r| bits(&mut c.body.positions, r, &CLAMPED)),
+    fault(24, "the first position that clamps", |c, r| bits(&mut c.body.positions, r, &CLAMPED[..1])),
+    fault(24, "the first negative one", |c, r| bits(&mut c.body.positions, r, &CLAMPED[1..2])),
+    fault(24, "every position clamps", |c, r| every_clamped(c, r)),
+    fault(24, "an unused vertex that clamps", unused_clamped),
     fault(31, "a work area one word short", |c, _| words(c, |needed| needed - 1)),
     fault(31, "no work area", |c, _| words(c, |_| 0)),
 ];
 
 /// Quiet and signalling, of both signs.
 const NANS: [u32; 5] = [0x7fc0_0000, 0xffc0_0000, 0x7f80_0001, 0xff80_0001, 0x7fff_ffff];
+
+/// Bits of coordinates whose cells clamp: the first of either sign, about 10^13, 2^44, and the largest and the smallest number.
+pub const CLAMPED: [u32; 7] =
+    [LAST_UNCLAMPED + 1, 1 << 31 | (LAST_UNCLAMPED + 1), 0x5511_84e7, 0x5580_0000, 0xd580_0000, 0x7f7f_ffff, 0xff7f_ffff];
 
 fn push<T>(list: &mut Vec<T>, more: T) -> Option<()> {
     list.push(more);
@@ -178,6 +187,28 @@ fn bits(list: &mut [f32], r: &mut Random, patterns: &[u32]) -> Option<()> {
     let last = list.len().checked_sub(1)?;
     let place = end_or_between(r, last);
     list[place] = f32::from_bits(*r.pick(patterns));
+    Some(())
+}
+
+/// Every coordinate of every position clamps.
+fn every_clamped(c: &mut Case, r: &mut Random) -> Option<()> {
+    c.body.positions.iter_mut().for_each(|v| *v = f32::from_bits(*r.pick(&CLAMPED)));
+    (!c.body.positions.is_empty()).then_some(())
+}
+
+/// A vertex behind a row's own, which no triangle uses, with one coordinate that clamps; the work area grows with it.
+fn unused_clamped(c: &mut Case, r: &mut Random) -> Option<()> {
+    let row = row_with(c, r, |row| row[OUTCOME] == 0)?;
+    let end = 3 * total(c, VERTICES, row + ROW);
+    if c.body.positions.len() == 3 * MOST_VERTICES {
+        return None;
+    }
+    c.body.rows[row + VERTICES] += 1;
+    let mut vertex = [0.0; 3];
+    vertex[r.size(0, 2)] = f32::from_bits(*r.pick(&CLAMPED));
+    c.body.positions.splice(end..end, vertex);
+    c.body.normals.splice(end..end, [0.0; 3]);
+    c.words += 4;
     Some(())
 }
 

@@ -70,8 +70,22 @@ pub struct NearestBins {
     pub bins: u32,
 }
 
+#[repr(C)]
+#[derive(Debug, Clone, Copy, PartialEq, Default)]
+pub struct Cell {
+    pub value: i64,
+    pub clamped: u32,
+}
+
+#[repr(C)]
+#[derive(Debug, Clone, Copy, PartialEq, Default)]
+pub struct Key {
+    pub value: u64,
+    pub clamped: u32,
+}
+
 pub mod raw {
-    use super::{Assembled, Judged, Measured, NearestBins, PlanRead, PlanWritten, ROW, Stitched, Turned};
+    use super::{Assembled, Cell, Judged, Key, Measured, NearestBins, PlanRead, PlanWritten, ROW, Stitched, Turned};
 
     #[rustfmt::skip]
     unsafe extern "C" {
@@ -80,8 +94,8 @@ pub mod raw {
         pub fn cad_sqrt(b: u64) -> u64;
         pub fn cad_round(b: u64) -> u64;
         pub fn cad_larger(a: u64, b: u64) -> u64;
-        pub fn cad_cell(v: f32) -> i64;
-        pub fn cad_key(x: f32, y: f32, z: f32) -> u64;
+        pub fn cad_cell(v: f32) -> Cell;
+        pub fn cad_key(x: f32, y: f32, z: f32) -> Key;
         pub fn cad_face_at(rows: *const [u32; ROW], rows_len: usize, k: usize) -> u32;
         pub fn cad_face_indices(rows: *const u32, rows_len: usize, i: *const u32, ni: usize, stitched_rows: *const u32, stitched_rows_len: usize, si: *const u32, sin: usize, k: usize, out: *mut u32, out_len: usize) -> u64;
         pub fn cad_patch_volume(p: *const f32, pn: usize, n: *const f32, nn: usize, i: *const u32, ni: usize, flip: bool) -> Measured;
@@ -118,11 +132,11 @@ pub fn larger(a: u64, b: u64) -> u64 {
     unsafe { raw::cad_larger(a, b) }
 }
 
-pub fn cell(v: f32) -> i64 {
+pub fn cell(v: f32) -> Cell {
     unsafe { raw::cad_cell(v) }
 }
 
-pub fn key(p: [f32; 3]) -> u64 {
+pub fn key(p: [f32; 3]) -> Key {
     unsafe { raw::cad_key(p[0], p[1], p[2]) }
 }
 

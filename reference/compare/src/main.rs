@@ -3,6 +3,7 @@
 //! whether a mesh is closed, which the Rust has not, are held to plain models.
 
 mod assembling;
+mod clamps;
 mod faces;
 mod faults;
 mod fences;
@@ -207,6 +208,14 @@ fn compare_zeros_alone((first, last, _): (u64, u64, Option<usize>), tally: &mut 
     }
 }
 
+/// The bodies at the last coordinates whose cells don't clamp and past them.
+fn compare_clamps_by_hand(tally: &mut Tally) {
+    match clamps::by_hand() {
+        Ok(bodies) => tally.worst += bodies,
+        Err(what) => fail(&format!("compare: cells that clamp: {what}")),
+    }
+}
+
 /// What a program prints of plans.
 fn compare_plan_program(program: &str, (first, last, _): (u64, u64, Option<usize>)) {
     match plans::program::compared(program, first, last) {
@@ -267,6 +276,7 @@ fn compare_all(first: u64, last: u64, size: Option<usize>, tally: &mut Tally) {
     compare_plans_by_hand(tally);
     compare_pegs_by_hand(tally);
     compare_zeros_by_hand(tally);
+    compare_clamps_by_hand(tally);
     compare_worst(WORST_POINTS, tally);
     compare_seeds(first, last, size, tally);
     compare_kinds(LARGE, first, MANY_TRIANGLES, tally);

@@ -3,7 +3,7 @@
 use crate::stitching::{Case, case, differs, refusal, shortened, written, wrong};
 use crate::work::Work;
 use compare::library::{self, Stitched};
-use driver::check::{MOST_BIN, MOST_INDICES, MOST_VERTICES};
+use driver::check::{LAST_UNCLAMPED, MOST_BIN, MOST_INDICES, MOST_VERTICES};
 use driver::condition::{Condition, condition};
 use driver::flat::Flat;
 use driver::random::Random;
@@ -47,9 +47,9 @@ fn equally_near() -> Sheet {
     sheet(vec![corner, points], 2.25)
 }
 
-/// Corners at both ends of the range of f32, and points at its smallest values.
+/// Corners at both ends of what cells reach, and points at f32's smallest values.
 fn ends_of_the_range() -> Sheet {
-    let (last, least) = (f32::MAX, f32::from_bits(1));
+    let (last, least) = (f32::from_bits(LAST_UNCLAMPED), f32::from_bits(1));
     let wide = row(0, &[[[-last, 0.0, 0.0], [last, 0.0, 0.0], [0.5 * last, last, last]]]);
     let near = row(1, &[[[least, -least, least], [last, -last, 5.0], [-last, -last, 6.0]]]);
     sheet(vec![wide, near], f64::INFINITY)

@@ -9,12 +9,32 @@ pub const MOST_VERTICES: usize = 262_144;
 pub const MOST_INDICES: usize = 786_432;
 pub const MOST_BIN: u32 = 65_535;
 
+/// The bits of the last coordinate whose cell doesn't clamp, without its sign; those behind it clamp, an infinity too.
+pub const LAST_UNCLAMPED: u32 = 0x5506_37bd;
+
 fn finite(bits: u32) -> bool {
     bits & 0x7f80_0000 != 0x7f80_0000
 }
 
+/// Whether the cell of a coordinate clamps: the whole number nearest 1,000,000 × v lies outside signed 64 bits; a NaN's is 0.
+pub fn clamps(v: f32) -> bool {
+    let (exponent, fraction) = (v.to_bits() >> 23 & 0xff, v.to_bits() & 0x7f_ffff);
+    if exponent == 0xff {
+        return fraction == 0;
+    }
+    // A mantissa is below 2^24 and a million below 2^20, so only a multiple of 1 can be out of range: there is nothing to round.
+    let millions = 1_000_000 * u128::from(fraction | 1 << 23);
+    let most: u128 = if v.is_sign_negative() { 1 << 63 } else { (1 << 63) - 1 };
+    exponent >= 150 && millions > most >> (exponent - 150)
+}
+
 fn all_finite(row: &Row) -> bool {
     row.positions.iter().chain(&row.normals).flatten().all(|bits| finite(*bits))
+}
+
+/// Whether the cell of a position clamps, of a vertex that no triangle uses too.
+fn any_clamps(row: &Row) -> bool {
+    row.positions.iter().flatten().any(|bits| clamps(f32::from_bits(*bits)))
 }
 
 /// The first check that a body fails, if it fails one.
@@ -40,6 +60,9 @@ pub fn check(sheet: &Sheet) -> Result<(), Refusal> {
     }
     if let Some(i) = rows.iter().position(|r| !all_finite(r)) {
         return Err(Refusal::new(23, format!("row {i}: a position or normal isn't finite")));
+    }
+    if let Some(i) = rows.iter().position(any_clamps) {
+        return Err(Refusal::new(24, format!("row {i}: a position's cell clamps")));
     }
     Ok(())
 }
@@ -82,6 +105,9 @@ pub fn refusal(body: &Flat, words: usize) -> u32 {
     }
     if !body.positions.iter().chain(&body.normals).all(|v| finite(v.to_bits())) {
         return 23;
+    }
+    if body.positions.iter().any(|v| clamps(*v)) {
+        return 24;
     }
     if words < 16 * indices + 16 * table.len() + 4 * vertices { 31 } else { 0 }
 }

@@ -1,7 +1,7 @@
 //! The bench cases of document 01 that a sheet can show, its worked example, those of 02's two zeros, and the tools' own rules.
 
 use cad_tess::face::{patch_of, probe};
-use driver::check::{check, refusal};
+use driver::check::{LAST_UNCLAMPED, check, clamps, refusal};
 use driver::closed::{NEGATIVE_ZERO, uses};
 use driver::command::answer;
 use driver::finish::{faces_of, finish, outcome_of};
@@ -23,7 +23,10 @@ fn sheet_text(name: &str) -> Vec<u8> {
 }
 
 fn answer_text(name: &str) -> String {
-    print::finished(&answer(&sheet_text(name), Some(&BENCH)).expect("an accepted body"))
+    match answer(&sheet_text(name), Some(&BENCH)) {
+        Ok(done) => print::finished(&done),
+        Err(refusal) => format!("(refused {})\n", refusal.number),
+    }
 }
 
 #[test]
@@ -38,7 +41,7 @@ fn every_stored_case_has_its_stored_answer() {
             count += 1;
         }
     }
-    assert_eq!(count, 12);
+    assert_eq!(count, 15);
 }
 
 #[test]
@@ -56,7 +59,10 @@ fn stored_answers_say_what_the_paper_says() {
     says("K8", &["(split 1)", "(t 0 3 1)", "(t 0 1 2)"]);
     says("K9-stays", &["(ok 1)"]);
     says("K9-escapes", &["(ok 0)", "(failed 0 0 (escape 4024000020000000 4024000000000000))"]);
-    says("K10", &["(ok 1)"]);
+    says("K2-stays", &["(ok 1)", "(edges 3)", "(open 3)", "(over 0)"]);
+    says("K2-clamps", &["(refused 24)"]);
+    says("K10", &["(refused 24)"]);
+    says("K10-farthest", &["(ok 1)"]);
     says("N5-seam", &["(edges 12)", "(open 6)", "(over 0)", "(closed 1)"]);
     says("N5-touch", &["(edges 12)", "(open 0)", "(over 0)", "(closed 0)"]);
     says("N5-sliver", &["(edges 3)", "(open 3)", "(over 0)", "(closed 1)"]);
@@ -117,7 +123,51 @@ fn the_volume_of_k6() {
 fn cells_of_k1_and_k2() {
     assert_eq!([cell(0.0078125), cell(-0.0078125), cell(-0.0)], [7813, -7813, 0]);
     assert_eq!([cell(8_796_093_022_208.0), cell(17_592_186_044_416.0)], [8_796_093_022_208_000_000, i64::MAX]);
+    assert_eq!([clamps(8_796_093_022_208.0), clamps(17_592_186_044_416.0)], [false, true]);
     assert_eq!(key(&[0.0, 0.0, 0.0]), 0xD852_DCB8_7B6F_12A3);
+}
+
+/// K2's second half: two corners that are far apart share a clamped cell, so that to the Rust they are one point; the body is refused.
+#[test]
+fn the_second_half_of_k2_is_a_refused_body() {
+    let (first, second) = ([17_592_186_044_416.0, 0.0, 0.0], [3e13, 0.0, 0.0]);
+    assert_eq!((key(&first), cell(first[0])), (key(&second), i64::MAX));
+    let sheet = parse(&sheet_text("K2-clamps"), None).expect("a sheet");
+    let corners: Vec<[f32; 3]> = sheet.rows[0].positions.iter().map(|p| p.map(f32::from_bits)).collect();
+    assert_eq!(corners[..2], [first, second]);
+    assert_eq!(check(&sheet).expect_err("a refused body").number, 24);
+    assert_eq!(refusal(&Flat::of(&sheet), usize::MAX), 24);
+}
+
+/// A cell clamps exactly if the whole number that a million times the coordinate is, all its digits written out, is past 64 bits.
+#[test]
+fn cells_clamp_where_their_digits_pass_64_bits() {
+    let last = f32::from_bits(LAST_UNCLAMPED);
+    assert_eq!([cell(last), cell(-last)], [9_223_372_013_568_000_000, -9_223_372_013_568_000_000]);
+    assert_eq!([clamps(last), clamps(-last), clamps(last.next_up()), clamps(-last.next_up())], [false, false, true, true]);
+    assert_eq!([f32::INFINITY, f32::NEG_INFINITY, f32::NAN, -f32::NAN].map(clamps), [true, true, false, false]);
+    let every = (0..0x7f80_0000u32).step_by(65_521).chain(LAST_UNCLAMPED - 9..LAST_UNCLAMPED + 9).chain([1, 0x7f7f_ffff]);
+    for v in every.flat_map(|bits| [f32::from_bits(bits), -f32::from_bits(bits)]) {
+        let away = format!("{v:.0}000000");
+        let inside = v.abs() < 1e9 || away.parse::<i64>().is_ok();
+        assert_eq!(clamps(v), !inside, "{v:e}");
+        assert_eq!(clamps(v), v.to_bits() << 1 > LAST_UNCLAMPED << 1, "{v:e}");
+        assert!(!clamps(v) || cell(v) == if v < 0.0 { i64::MIN } else { i64::MAX }, "{v:e}");
+    }
+}
+
+/// Bodies of the generator whose kind isn't one of texts are accepted: none has a coordinate whose cell clamps.
+#[test]
+fn generated_bodies_do_not_clamp() {
+    let mut last = 0;
+    for (k, seed) in KINDS.iter().chain(SEAMS).chain(ZEROS).flat_map(|k| (0..60).map(move |seed| (k, seed))) {
+        for sheet in [0, 5].into_iter().filter_map(|size| body_of(k, seed, size)) {
+            assert!(check(&sheet).is_ok(), "{} {seed}", k.name);
+            let mut bits = sheet.rows.iter().flat_map(|row| &row.positions).flatten();
+            last += bits.any(|bits| bits << 1 == LAST_UNCLAMPED << 1) as usize;
+        }
+    }
+    assert!(last > 60);
 }
 
 #[test]
@@ -171,6 +221,15 @@ fn refusals_have_their_numbers() {
         ("(face 0 1)\n(t 0 1 2)\n", 22),
         ("(face 0 1)\n(v (p 7F800000 00000000 00000000) (n 00000000 00000000 00000000))\n", 23),
         ("(face 0 1)\n(v (p 00000000 00000000 00000000) (n 00000000 00000000 7FC00000))\n", 23),
+        ("(face 0 1)\n(v (p 550637BD D50637BD 00000000) (n 00000000 00000000 00000000))\n", 0),
+        ("(face 0 1)\n(v (p 550637BE 00000000 00000000) (n 00000000 00000000 00000000))\n", 24),
+        ("(face 0 1)\n(v (p 00000000 D50637BE 00000000) (n 00000000 00000000 00000000))\n", 24),
+        ("(face 0 1)\n(v (p 00000000 00000000 7F7FFFFF) (n 00000000 00000000 00000000))\n", 24),
+        ("(face 0 1)\n(v (p 00000000 00000000 00000000) (n 550637BE FF7FFFFF 7F7FFFFF))\n", 0),
+        ("(face 0 1)\n(v (p 550637BE 00000000 00000000) (n 00000000 00000000 7FC00000))\n", 23),
+        ("(face 0 1)\n(v (p 550637BE 7F800001 00000000) (n 00000000 00000000 00000000))\n", 23),
+        ("(face 0 1)\n(v (p 550637BE 00000000 00000000) (n 00000000 00000000 00000000))\n(t 0 0 1)\n", 22),
+        ("(face 0 1 65536)\n(v (p 550637BE 00000000 00000000) (n 00000000 00000000 00000000))\n", 15),
         ("(fail 0 1 1)\n(material 1 1)\n", 51),
         ("\n", 51),
         ("(default -)\n", 51),
@@ -207,7 +266,7 @@ type Change = (fn(&mut Flat), u32);
 fn slices_are_refused_with_their_numbers() {
     let body = Flat::of(&parse(&sheet_text("K7"), None).expect("a sheet"));
     let words = body.words();
-    let changes: [Change; 14] = [
+    let changes: [Change; 20] = [
         (|_| (), 0),
         (|b| b.rows.truncate(2 * ROW - 1), 11),
         (|b| b.rows.resize(ROW * 4097, 0), 11),
@@ -222,6 +281,12 @@ fn slices_are_refused_with_their_numbers() {
         (|b| (b.rows[4], b.rows[ROW + 4]) = (4, 5), 21),
         (|b| b.indices[2] = 3, 22),
         (|b| b.positions[0] = f32::NEG_INFINITY, 23),
+        (|b| b.positions[26] = f32::from_bits(LAST_UNCLAMPED), 0),
+        (|b| b.positions[26] = f32::from_bits(LAST_UNCLAMPED + 1), 24),
+        (|b| b.positions[0] = -f32::from_bits(LAST_UNCLAMPED + 1), 24),
+        (|b| b.normals.fill(f32::MAX), 0),
+        (|b| (b.positions[0], b.normals[26]) = (f32::MAX, f32::NAN), 23),
+        (|b| (b.positions[0], b.positions[26]) = (f32::MAX, f32::NAN), 23),
     ];
     for (change, number) in changes {
         let mut other = body.clone();
@@ -230,4 +295,6 @@ fn slices_are_refused_with_their_numbers() {
     }
     assert_eq!(words, 16 * 9 + 16 * 2 + 4 * 9);
     assert_eq!(refusal(&body, words - 1), 31);
+    let clamped = Flat { positions: vec![f32::MIN; 27], ..body };
+    assert_eq!([refusal(&clamped, words - 1), refusal(&clamped, 0)], [24, 24]);
 }

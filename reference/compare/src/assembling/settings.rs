@@ -1,7 +1,7 @@
 //! The box, materials and default that a body is assembled with, varied at random, and some of its rows.
 
 use compare::library::Setting;
-use driver::check::{MOST_BIN, MOST_ROWS, MOST_VERTICES};
+use driver::check::{LAST_UNCLAMPED, MOST_BIN, MOST_ROWS, MOST_VERTICES, clamps};
 use driver::closed::NEGATIVE_ZERO;
 use driver::finish::{box_of, face_materials};
 use driver::random::Random;
@@ -155,12 +155,12 @@ fn add_failed_rows(sheet: &mut Sheet, r: &mut Random) {
     }
 }
 
-/// A vertex that no triangle uses, in the body's neighbourhood or far away: it counts for an escape too.
+/// A vertex that no triangle uses, in the body's neighbourhood or as far away as cells go: it counts for an escape too.
 fn add_unused_vertex(sheet: &mut Sheet, r: &mut Random) {
     let near = vertex(sheet, r).unwrap_or([1.0; 3]).map(|v| (v * r.between(-3.0, 3.0)) as f32);
-    let at = *r.pick(&[near, near, [1e9, -3.0, 0.0], [f32::MAX, 0.0, -0.0]]);
+    let at = *r.pick(&[near, near, [1e9, -3.0, 0.0], [f32::from_bits(LAST_UNCLAMPED), 0.0, -0.0]]);
     let patches: Vec<usize> = (0..sheet.rows.len()).filter(|k| sheet.rows[*k].outcome == 0).collect();
-    if !patches.is_empty() && sheet.vertices() < MOST_VERTICES && at.iter().all(|v| v.is_finite()) {
+    if !patches.is_empty() && sheet.vertices() < MOST_VERTICES && !at.into_iter().any(clamps) {
         let row = &mut sheet.rows[*r.pick(&patches)];
         row.positions.push(at.map(f32::to_bits));
         row.normals.push([0x8000_0000, 1, 0x3f80_0000]);

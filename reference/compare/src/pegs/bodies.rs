@@ -2,6 +2,7 @@
 
 use super::coordinates::{any, far, near};
 use super::model::{MOST_PLACE, REACH, micrometres};
+use crate::faults::CLAMPED;
 use compare::library::Lookup;
 use driver::check::{MOST_BIN, check};
 use driver::flat::{Flat, ROW};
@@ -205,7 +206,16 @@ pub fn small(r: &mut Random) -> Lookup {
         let next = row(rows.last(), peg, &aims, r);
         rows.push(Row { bin: *r.pick(&bins), ..next });
     }
-    with_rubbish(lookup(&rows, peg), r)
+    with_rubbish(with_large_normal(lookup(&rows, peg), r), r)
+}
+
+/// A body with a normal of which a position's cell would clamp, or as it is.
+fn with_large_normal(mut lookup: Lookup, r: &mut Random) -> Lookup {
+    if r.chance(10) && !lookup.body.normals.is_empty() {
+        let place = r.below(lookup.body.normals.len() as u64) as usize;
+        lookup.body.normals[place] = f32::from_bits(*r.pick(&CLAMPED));
+    }
+    lookup
 }
 
 /// A body with numbers of any value behind its places, or as it is.

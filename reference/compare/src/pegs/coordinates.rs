@@ -1,5 +1,7 @@
-//! Coordinates of every size: at and beside the halves of micrometres, tiny, of a yard, and beyond 32 and 64 bits of micrometres.
+//! Coordinates of every size that is accepted: at and beside the halves of micrometres, tiny, of a yard, beyond 32 bits of micrometres,
+//! and up to the last whose cell doesn't clamp.
 
+use driver::check::LAST_UNCLAMPED;
 use driver::random::Random;
 
 /// A number with a sign at random.
@@ -52,17 +54,17 @@ pub fn near(r: &mut Random) -> f32 {
     signed(v, r)
 }
 
-/// A coordinate beyond 2^32 micrometres, most of which are 0 at their lowest 32 or 64 bits.
+/// A coordinate beyond 2^32 micrometres, most of which are 0 at their lowest 32 bits.
 pub fn far(r: &mut Random) -> f32 {
-    let power = f32::from_bits((r.size(127 + 29, 254) as u32) << 23);
-    let any = f32::from_bits(r.size(0x4e00_0000, 0x7f7f_ffff) as u32);
-    let v = *r.pick(&[power, power, power, f32::MAX, 3e38, any]);
+    let power = f32::from_bits((r.size(127 + 29, 127 + 43) as u32) << 23);
+    let any = f32::from_bits(r.size(0x4e00_0000, LAST_UNCLAMPED as usize) as u32);
+    let v = *r.pick(&[power, power, power, f32::from_bits(LAST_UNCLAMPED), 9e12, any]);
     signed(v, r)
 }
 
-/// A finite coordinate of any size.
+/// A coordinate of any size whose cell doesn't clamp.
 pub fn any(r: &mut Random) -> f32 {
-    let bits = r.below(0x7f80_0000) as u32;
+    let bits = r.below(u64::from(LAST_UNCLAMPED) + 1) as u32;
     match r.below(3) {
         0 => near(r),
         1 => far(r),

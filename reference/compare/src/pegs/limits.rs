@@ -3,8 +3,9 @@
 use super::bodies::{Row, lookup};
 use super::decimals;
 use super::model::{MOST_PLACE, REACH, find, micrometres};
+use crate::faults::CLAMPED;
 use compare::library::Lookup;
-use driver::check::{MOST_BIN, MOST_ROWS};
+use driver::check::{LAST_UNCLAMPED, MOST_BIN, MOST_ROWS};
 
 /// A lookup, the numbers that its list has room for, and the bins that it gives or what it is refused with.
 pub type Case = (Lookup, usize, Result<Vec<u32>, u32>);
@@ -35,18 +36,9 @@ const WHOLE: [(f32, i128); 22] = [
     (1_099_511_680.0, 1_099_511_680_000),
 ];
 
-/// Coordinates that are far from every peg, many of them 0 at the lowest 32 or 64 bits of their micrometres.
-const FAR: [f32; 9] = [
-    536_870_912.0,
-    4_294_967_296.0,
-    2_305_843_009_213_693_952.0,
-    9_223_372_036_854_775.0,
-    18_446_744_073_709_551_616.0,
-    1.267_650_6e30,
-    1.701_411_8e38,
-    3e38,
-    f32::MAX,
-];
+/// Coordinates that are far from every peg, many of them 0 at the lowest 32 bits of their micrometres, up to the last that doesn't clamp.
+const FAR: [f32; 6] =
+    [536_870_912.0, 4_294_967_296.0, 1e12, 8_796_093_022_208.0, f32::from_bits(LAST_UNCLAMPED - 1), f32::from_bits(LAST_UNCLAMPED)];
 
 const ORIGIN: [i64; 3] = [0; 3];
 
@@ -93,7 +85,7 @@ fn whole_micrometres() -> Vec<Case> {
     cases
 }
 
-/// 5,000 and 5,001 on each axis, and coordinates that are far whatever their lowest bits are.
+/// 5,000 and 5,001 on each axis, and coordinates that are far whatever their lowest bits are, or refused.
 fn near_and_far() -> Vec<Case> {
     let mut cases = vec![
         (lookup(&[at(4, [REACH, -REACH, REACH])], ORIGIN), 1, Ok(vec![4])),
@@ -115,6 +107,35 @@ fn near_and_far() -> Vec<Case> {
                 cases.push((lookup(&rows, ORIGIN), 0, Ok(vec![])));
                 cases.push((lookup(&[&rows[..], &[at(9, [REACH; 3])]].concat(), ORIGIN), 1, Ok(vec![9])));
             }
+            for v in [9_223_372_036_854_775.0, 18_446_744_073_709_551_616.0, 1.267_650_6e30, 3e38, f32::MAX] {
+                cases.push((lookup(&[at(9, ORIGIN), point(6, ORIGIN, vertex(axis, v * sign as f32))], ORIGIN), 1, Err(24)));
+            }
+        }
+    }
+    cases
+}
+
+/// A coordinate whose cell clamps, on each axis of each vertex, used or not, near a bin or not; normals have no such limit.
+fn clamped() -> Vec<Case> {
+    let vertices = vec![[0.0; 3], [1.0; 3], [2.0; 3], [3.0; 3]];
+    let used = Row { bin: 2, place: ORIGIN, vertices, indices: vec![0, 1, 2], ..Row::default() };
+    let rows = [at(4, ORIGIN), failed(ORIGIN), used];
+    let with = |list: fn(&mut Lookup) -> &mut Vec<f32>, k: usize, v: f32, peg: [i64; 3]| {
+        let mut lookup = lookup(&rows, peg);
+        list(&mut lookup)[k] = v;
+        lookup
+    };
+    let mut cases = Vec::new();
+    for k in 0..15 {
+        for v in CLAMPED.map(f32::from_bits) {
+            cases.push((with(|l| &mut l.body.positions, k, v, ORIGIN), 2, Err(24)));
+            cases.push((with(|l| &mut l.body.positions, k, v, ORIGIN), 0, Err(24)));
+            cases.push((with(|l| &mut l.body.positions, k, v, [0, MOST_PLACE + 1, 0]), 2, Err(24)));
+            cases.push((with(|l| &mut l.body.normals, k, v, ORIGIN), 2, Ok(vec![2, 4])));
+        }
+        for v in [f32::from_bits(LAST_UNCLAMPED), -f32::from_bits(LAST_UNCLAMPED)] {
+            let bins = if k < 6 { vec![if k < 3 { 2 } else { 4 }] } else { vec![2, 4] };
+            cases.push((with(|l| &mut l.body.positions, k, v, ORIGIN), 2, Ok(bins)));
         }
     }
     cases
@@ -188,6 +209,11 @@ fn places_and_order() -> Vec<Case> {
         (with(far(), |l| l.body.positions[5] = f32::NAN), 0, Err(23)),
         (with(good(6), |l| l.body.normals[0] = f32::INFINITY), 0, Err(23)),
         (with(good(0), |l| l.body.normals[5] = f32::NEG_INFINITY), 0, Err(23)),
+        (with(far(), |l| (l.body.positions[0], l.body.normals[5]) = (f32::MAX, f32::NAN)), 0, Err(23)),
+        (with(good(6), |l| (l.body.positions[0], l.body.positions[5]) = (f32::MIN, f32::INFINITY)), 2, Err(23)),
+        (with(good(6), |l| (l.body.positions[0], l.body.rows[5]) = (f32::MIN, MOST_BIN + 1)), 2, Err(15)),
+        (with(good(5), |l| l.body.positions[5] = f32::MIN), 2, Err(24)),
+        (with(good(0), |l| l.body.positions[0] = f32::MAX), 0, Err(24)),
         (with(far(), |l| l.body.rows[5] = MOST_BIN + 1), 0, Err(15)),
         (with(far(), |l| l.body.positions.push(0.0)), 0, Err(14)),
         (with(far(), |l| l.body.rows[2] = 1), 0, Err(12)),
@@ -215,7 +241,7 @@ fn all_tied() -> Vec<Case> {
 
 /// Lookups with their answers, the model's held to them too.
 pub fn cases() -> Vec<Case> {
-    let all = [vertices_and_bins(), whole_micrometres(), near_and_far(), ranges(), places_and_order(), all_tied()].concat();
+    let all = [vertices_and_bins(), whole_micrometres(), near_and_far(), clamped(), ranges(), places_and_order(), all_tied()].concat();
     for (lookup, room, wanted) in &all {
         let (rows, positions) = (&lookup.body.rows, &lookup.body.positions);
         let shown = (&rows[..rows.len().min(12)], &positions[..positions.len().min(6)], &lookup.places[..lookup.places.len().min(6)]);

@@ -16,7 +16,7 @@ pub struct Tally {
     refused: [u64; NUMBERS.len()],
 }
 
-const NUMBERS: [u32; 10] = [11, 12, 13, 14, 15, 21, 22, 23, 65, 66];
+const NUMBERS: [u32; 11] = [11, 12, 13, 14, 15, 21, 22, 23, 24, 65, 66];
 
 impl Tally {
     /// One more answer, by its number and its bins.

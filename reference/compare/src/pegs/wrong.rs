@@ -22,7 +22,6 @@ pub enum Wrong {
     NoFactor,
     CellsForMicrometres,
     WrapAt32,
-    WrapAt64,
     ClampedToRange,
     // Where a vertex stands.
     PlaceNotAdded,
@@ -40,7 +39,6 @@ pub enum Wrong {
     OneAxisIsNear,
     ThirdAxisFree,
     OneSided,
-    FarBelowIsNear,
     FarToo,
     // Which vertices count.
     UsedOnly,
@@ -71,6 +69,13 @@ pub enum Wrong {
     BinOf8Bits,
     // What is refused.
     NormalsUnchecked,
+    ClampedUnchecked,
+    ClampedAboveOnly,
+    ClampedUsedOnly,
+    ClampedFromTheLast,
+    ClampedPastTheFirst,
+    ClampedByMicrometres,
+    ClampedNormalsToo,
     BinsUnchecked,
     IndicesUnchecked,
     FailedPlaceUnchecked,
@@ -95,6 +100,9 @@ pub enum Wrong {
     RangeBeforeFloats,
     RangeBeforeBody,
     RoomBeforeFloats,
+    ClampedBeforeFloats,
+    RangeBeforeClamped,
+    RoomBeforeClamped,
     // What is written.
     WrittenBeforeRoom,
     CountOfRefused,
@@ -106,14 +114,16 @@ pub enum Wrong {
 #[rustfmt::skip]
 pub const ALL: &[Wrong] = &[
     Wrong::RoundedAfterPlace, Wrong::HalvesToEven, Wrong::HalvesToZero, Wrong::HalvesUp, Wrong::HalvesDown, Wrong::Truncated,
-    Wrong::Floored, Wrong::InSinglePrecision, Wrong::NoFactor, Wrong::CellsForMicrometres, Wrong::WrapAt32, Wrong::WrapAt64,
+    Wrong::Floored, Wrong::InSinglePrecision, Wrong::NoFactor, Wrong::CellsForMicrometres, Wrong::WrapAt32,
     Wrong::ClampedToRange, Wrong::PlaceNotAdded, Wrong::PlaceTakenAway, Wrong::PlaceOfFirstRow, Wrong::PlacesOfPatchesOnly,
     Wrong::PlaceAxesExchanged, Wrong::PlaceOf32Bits, Wrong::SumClampedToRange, Wrong::OutsideRangeIgnored, Wrong::MoreIsNear,
-    Wrong::LessIsNear, Wrong::BallIsNear, Wrong::OneAxisIsNear, Wrong::ThirdAxisFree, Wrong::OneSided, Wrong::FarBelowIsNear,
+    Wrong::LessIsNear, Wrong::BallIsNear, Wrong::OneAxisIsNear, Wrong::ThirdAxisFree, Wrong::OneSided,
     Wrong::FarToo, Wrong::UsedOnly, Wrong::WithTrianglesOnly, Wrong::FirstVertexOnly, Wrong::LastVertexLeftOut, Wrong::LargestAxis,
     Wrong::SumOfAxes, Wrong::TwoAxes, Wrong::WholeRoot, Wrong::Farthest, Wrong::LowestOnly, Wrong::HighestOnly, Wrong::FirstFoundOnly,
     Wrong::LastFoundOnly, Wrong::AllNear, Wrong::FartherKept, Wrong::Twice, Wrong::InRowOrder, Wrong::Descending, Wrong::BinOfFirstRow,
     Wrong::FaceForBin, Wrong::RowForBin, Wrong::BinZeroLost, Wrong::LastBinLost, Wrong::BinOf8Bits, Wrong::NormalsUnchecked,
+    Wrong::ClampedUnchecked, Wrong::ClampedAboveOnly, Wrong::ClampedUsedOnly, Wrong::ClampedFromTheLast, Wrong::ClampedPastTheFirst,
+    Wrong::ClampedByMicrometres, Wrong::ClampedNormalsToo, Wrong::ClampedBeforeFloats, Wrong::RangeBeforeClamped, Wrong::RoomBeforeClamped,
     Wrong::BinsUnchecked, Wrong::IndicesUnchecked, Wrong::FailedPlaceUnchecked, Wrong::EmptyPlaceUnchecked, Wrong::PegUnchecked,
     Wrong::PlacesUnchecked, Wrong::BehindPlacesChecked, Wrong::LargerRange, Wrong::SmallerRange, Wrong::PlaceForEachRow,
     Wrong::PlacesRoundedUp, Wrong::PlacesExact, Wrong::VertexRangeChecked, Wrong::RoomForTiedRows, Wrong::RoomForTiedVertices,

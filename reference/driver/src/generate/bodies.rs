@@ -1,8 +1,12 @@
 //! Bodies of closed shapes.
 
 use super::shapes::{Point, Shape, bits, cuboid, lathe, rows, sheet, shuffle, torus as torus_shape, turn};
+use crate::check::LAST_UNCLAMPED;
 use crate::random::Random;
 use crate::sheet::{Row, Sheet};
+
+/// The sign among a float's bits.
+const SIGN: u32 = 0x8000_0000;
 
 fn sag(r: &mut Random) -> f64 {
     *r.pick(&[0.25, 0.01, 0.001, 1.0])
@@ -191,9 +195,37 @@ pub fn tiny(r: &mut Random, _: usize) -> Sheet {
     rescaled(r, scale, scale)
 }
 
+/// Coordinates of a size at which cells clamp and beyond, so that most of these are refused.
 pub fn huge(r: &mut Random, _: usize) -> Sheet {
     let scale = *r.pick(&[1e12, 9.2e12, 1e13, 8.796e12, 1e20, 1e30, 1.7e38]);
     rescaled(r, scale, scale * 0.5)
+}
+
+/// A coordinate at the last ones whose cells do not clamp, of either sign, or a small one.
+fn last_or_small(r: &mut Random) -> f64 {
+    let last = f64::from(f32::from_bits(LAST_UNCLAMPED - *r.pick(&[0, 0, 1, 2, 40])));
+    let small = *r.pick(&[0.0, -0.0, 1.0, -17.5, 1e-6, 4e6, -1e9]);
+    *r.pick(&[last, -last, last, -last, small])
+}
+
+/// A box whose corners are at the last coordinates that do not clamp, or a shape of about that size with the rest cut off; some
+/// coordinates stand a step of f32 nearer the origin.
+pub fn farthest(r: &mut Random, _: usize) -> Sheet {
+    let last = f64::from(f32::from_bits(LAST_UNCLAMPED));
+    let mut body = if r.chance(60) {
+        let ends = [(); 3].map(|_| [last_or_small(r), last_or_small(r)]);
+        one(r, cuboid(1.0, 1.0, 1.0).mapped(|p| [0, 1, 2].map(|k| ends[k][(p[k] != 0.0) as usize])))
+    } else {
+        let scale = *r.pick(&[1e12, 8.796e12, 9.2e12, last]);
+        rescaled(r, scale, scale * 0.5)
+    };
+    let closer = *r.pick(&[0, 0, 5, 30]);
+    for bits in body.rows.iter_mut().flat_map(|row| &mut row.positions).flatten() {
+        let amount = (*bits & !SIGN).min(LAST_UNCLAMPED);
+        *bits = (*bits & SIGN) | if r.chance(closer) { amount.saturating_sub(1) } else { amount };
+    }
+    let sag = *r.pick(&[0.25, 1.1e6, 1e12, last, f64::INFINITY]);
+    sheet(body.rows, sag)
 }
 
 pub fn subnormal(r: &mut Random, _: usize) -> Sheet {

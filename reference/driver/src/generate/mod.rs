@@ -56,7 +56,8 @@ pub const KINDS: &[Kind] = &[
     body("escape", "patches that reach as far as the box's diagonal and beyond", bodies::escape),
     body("materials", "materials by face, replaced, missing, with and without a default", bodies::materials),
     body("tiny", "coordinates around the size of a cell", bodies::tiny),
-    body("huge", "coordinates whose cells clamp, up to the end of f32", bodies::huge),
+    text("huge", "coordinates of a size at which cells clamp, up to the end of f32: 24", texts::huge),
+    body("farthest", "coordinates up to the last ones whose cells don't clamp, of both signs, beside small ones", bodies::farthest),
     body("subnormal", "subnormal coordinates and normals", bodies::subnormal),
     body("negative-zero", "0.0 on one side of a seam and -0.0 on the other", bodies::negative_zero),
     body("sag", "a sag of zero, below zero, not a number, infinite, subnormal", edges::sag),
@@ -64,6 +65,7 @@ pub const KINDS: &[Kind] = &[
     body("same-cell", "loose points of one key with other bits", edges::same_cell),
     body("tie", "points that tie on an edge", edges::tie),
     text("refused", "sheets whose body fails a check: 12, 22, 23", texts::refused),
+    text("clamped", "sheets with positions whose cells clamp, used or not, alone and with other faults: 24", texts::clamped),
     text("bins", "sheets whose bins are named, left out, at the limit and past it, alone and with other faults: 15", texts::bins),
     text("limits", "sheets at the bench program's limits and past them: 52, 32", texts::limits),
     text("malformed", "texts that are no sheet: 51", texts::malformed),
@@ -77,7 +79,7 @@ pub const SEAMS: &[Kind] = &[
     body("seam-sliver", "triangles whose third corner stands on the opposite edge or near it", seams::sliver),
     body("seam-thicket", "triangles anywhere, some with a shared corner or edge", seams::thicket),
     body("seam-close", "points within 1e-9 of each other along an edge, and at 1e-6 from its ends", seams::close),
-    body("seam-ends", "corners at the ends of f32's range and where cells clamp", seams::ends),
+    body("seam-ends", "corners up to the last coordinates whose cells don't clamp", seams::ends),
     body("seam-cells", "points around a cell apart, subnormal coordinates among them", seams::cells),
 ];
 

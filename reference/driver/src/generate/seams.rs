@@ -2,6 +2,7 @@
 
 use super::edges::row_of;
 use super::shapes::{Point, bits, shuffle, sub, turn};
+use crate::check::LAST_UNCLAMPED;
 use crate::random::Random;
 use crate::sheet::{Row, Sheet};
 
@@ -206,15 +207,20 @@ pub fn close(r: &mut Random, size: usize) -> Sheet {
     body(r, rows, sag)
 }
 
-/// Corners at the ends of the range of f32 and where cells clamp, beside points near the origin.
+/// All of a length, or some of it.
+fn part(r: &mut Random) -> f64 {
+    let some = r.between(0.5, 1.0);
+    *r.pick(&[1.0, some, some])
+}
+
+/// Corners up to the last coordinates whose cells don't clamp, beside points near the origin.
 pub fn ends(r: &mut Random, size: usize) -> Sheet {
-    let last = f32::MAX as f64;
-    let scale = *r.pick(&[last, 1e30, 9.3e12, 8.7e12, 4e12]);
+    let last = f64::from(f32::from_bits(LAST_UNCLAMPED));
+    let scale = *r.pick(&[last, last, 9.2e12, 8.7e12, 4e12]);
     let mut rows = Vec::new();
     for k in 0..pieces(r, size.min(12), 4) {
-        // Beyond the clamp only the sign of a coordinate counts, so another coordinate tells the points apart.
         let apart = k as f64;
-        let (a, b) = ([-scale * r.between(0.5, 1.0), apart, 0.0], [scale * r.between(0.5, 1.0), apart, 1.0]);
+        let (a, b) = ([-scale * part(r), apart, 0.0], [scale * part(r), apart, 1.0]);
         let c = [r.between(-1.0, 1.0) * 1e6, *r.pick(&[scale, -scale, 1e6, 17.0]), apart];
         rows.push(vec![[a, b, c]]);
         if r.chance(50) {

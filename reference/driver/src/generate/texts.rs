@@ -1,6 +1,7 @@
 //! Texts that a reader must refuse: no sheet at all, past a limit, or a body that fails a check.
 
 use super::{bins as named, bodies, edges};
+use crate::check::LAST_UNCLAMPED;
 use crate::print;
 use crate::random::Random;
 use crate::sheet::{Row, Sheet};
@@ -25,6 +26,39 @@ pub fn refused(r: &mut Random, of_bins: &mut Random) -> Vec<u8> {
         }
     }
     print::sheet(&named::given(body, of_bins)).into_bytes()
+}
+
+/// A body with coordinates of a size at which cells clamp, mostly refused.
+pub fn huge(r: &mut Random, of_bins: &mut Random) -> Vec<u8> {
+    print::sheet(&named::given(bodies::huge(r, 0), of_bins)).into_bytes()
+}
+
+/// Bits of coordinates whose cells clamp: the first of them, the next, 2^44, about 10^13, and the largest number.
+const CLAMPED: [u32; 5] = [LAST_UNCLAMPED + 1, LAST_UNCLAMPED + 2, 0x5580_0000, 0x5511_84e7, 0x7f7f_ffff];
+
+/// A body with positions whose cells clamp, in vertices that triangles use or in others, alone or with a fault of another check.
+pub fn clamped(r: &mut Random, of_bins: &mut Random) -> Vec<u8> {
+    let mut body = named::given(some_body(r), of_bins);
+    for _ in 0..r.size(1, 3) {
+        let patches: Vec<usize> = (0..body.rows.len()).filter(|k| !body.rows[*k].indices.is_empty()).collect();
+        let row = &mut body.rows[*r.pick(&patches)];
+        if r.chance(40) {
+            row.positions.push([0, 0x3f80_0000, 0x4000_0000]);
+            row.normals.push([0; 3]);
+        }
+        let last = row.positions.len() - 1;
+        let vertex = *r.pick(&[0, last, last]);
+        row.positions[vertex][r.size(0, 2)] = *r.pick(&CLAMPED) | *r.pick(&[0, 0x8000_0000]);
+    }
+    let k = body.rows.iter().rposition(|row| !row.indices.is_empty()).expect("a row with triangles");
+    match r.below(10) {
+        0 => body.rows[k].normals[0][2] = *r.pick(&[0x7fc0_0000, 0xff80_0000]),
+        1 => body.rows[k].positions[1][1] = *r.pick(&[0xff80_0000, 0x7f80_0001]),
+        2 => body.rows[k].indices[2] = u32::MAX,
+        3 => body.rows[k].bin = 65_536,
+        _ => {}
+    }
+    print::sheet(&body).into_bytes()
 }
 
 /// A body with a bin past the limit or at it, on a patch or on a failed row, alone or with a fault of another check; its lines may name

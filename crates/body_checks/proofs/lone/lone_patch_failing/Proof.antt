@@ -1,5 +1,5 @@
 -- `checks::lone::lone_patch_failing` meets its contract. Assumes nothing.
-use Rattle.body_checks.proofs.CheckLaws.{lone-21, lone-22, lone-23, lone-none}
+use Rattle.body_checks.proofs.CheckLaws.{lone-21, lone-22, lone-23, lone-24, lone-none}
 use borrow.Author.Needs.{needs}
 use Rattle.body_checks.proofs.lone.lone_patch_failing.Statement.{statement}
 use Rattle.body_checks.proofs.lone.lone_patch_failing.Tie as tie
@@ -22,8 +22,14 @@ any-number-not-finite-requires c κs = search needs
 returns-3 : tie.Need-returns-3
 returns-3 c = search lone-23
 
+any-clamps-requires : tie.Need-any-clamps-requires
+any-clamps-requires c κs = search needs
+
 returns-4 : tie.Need-returns-4
-returns-4 c = search lone-none
+returns-4 c = search lone-24
+
+returns-5 : tie.Need-returns-5
+returns-5 c = search lone-none
 
 pub lone-patch-failing-spec : {M : Type 1} → statement M
 lone-patch-failing-spec =
@@ -35,4 +41,6 @@ lone-patch-failing-spec =
     returns-2
     any-number-not-finite-requires
     returns-3
-    returns-4)
+    any-clamps-requires
+    returns-4
+    returns-5)

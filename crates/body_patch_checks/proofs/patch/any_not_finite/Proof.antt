@@ -1,24 +1,24 @@
--- `body_patch_checks::patch::any_not_finite` meets its contract. The first k numbers are finite. Assumes nothing.
+-- `body_patch_checks::patch::any_not_finite` meets its contract. The first k numbers were looked at. Assumes nothing.
+use mathlib.Core.Path.{ap}
+use mathlib.Core.Bool.{not}
 use Prim.Native.Nat.{_-_}
 use native.Mathlib.Omega.{arith}
-use mathlib.Core.Path.{sym, ap, _∙_}
-use mathlib.Core.Bool.{not}
 use lib.ListN.{length}
 use lib.Ieee.{nan}
-use Rattle.lists.specs.Any.{Searched, searched-none, searched-more, searched-hit, searched-all}
+use Rattle.lists.specs.Any.{Looked, looked-none, looked-more, looked-all}
 use Rattle.body_patch_checks.specs.PatchTests.{notFinite}
+use borrow.Author.Needs.{needs}
 use Rattle.body_patch_checks.proofs.patch.any_not_finite.Statement.{statement}
 use Rattle.body_patch_checks.proofs.patch.any_not_finite.Tie as tie
-use borrow.Author.Needs.{needs}
 
 abbrev Inv-loop : tie.InvT-loop
-Inv-loop s k₀ k = Searched notFinite s k
+Inv-loop s found₀ k₀ found k = Looked notFinite s k found
 
 abbrev μ-loop : tie.MeasureT-loop
-μ-loop s k₀ k = length s - k
+μ-loop s found₀ k₀ found k = length s - k
 
 loop-holds : tie.Need-loop-holds Inv-loop μ-loop
-loop-holds c = searched-none _ _
+loop-holds c = looked-none _ _
 
 mul-is-finite-f32 : tie.Need-mul-is-finite-f32 Inv-loop μ-loop
 mul-is-finite-f32 c = search needs
@@ -29,9 +29,6 @@ shared-slice-read-is-finite-f32 c = search needs
 is-finite-f32-requires : tie.Need-is-finite-f32-requires Inv-loop μ-loop
 is-finite-f32-requires c κs = search needs
 
-returns : tie.Need-returns Inv-loop μ-loop
-returns c = searched-hit nan (c .before .before .before .before .loop .inv) (omega arith) (ap not (sym (c .before .is-finite-f32 .ensures)) ∙ c .if1 .taken)
-
 add-k : tie.Need-add-k Inv-loop μ-loop
 add-k c = search needs
 
@@ -39,10 +36,10 @@ loop-less : tie.Need-loop-less Inv-loop μ-loop
 loop-less c = search needs
 
 loop-again : tie.Need-loop-again Inv-loop μ-loop
-loop-again c = searched-more nan (c .before .before .before .before .loop .inv) (omega arith) (ap not (sym (c .before .is-finite-f32 .ensures)) ∙ c .if1 .left)
+loop-again c = looked-more nan (c .before .before .before .loop .inv) (omega arith) (ap not (c .is-finite-f32 .ensures))
 
-returns-2 : tie.Need-returns-2 Inv-loop μ-loop
-returns-2 c = searched-all (c .before .loop .inv) (omega arith)
+returns : tie.Need-returns Inv-loop μ-loop
+returns c = search looked-all
 
 pub any-not-finite-spec : {M : Type 1} → statement M
 any-not-finite-spec =
@@ -54,8 +51,7 @@ any-not-finite-spec =
     mul-is-finite-f32
     shared-slice-read-is-finite-f32
     is-finite-f32-requires
-    returns
     add-k
     loop-less
     loop-again
-    returns-2)
+    returns)

@@ -2,12 +2,14 @@
 use borrow.Author.Needs.{needs}
 use Prim.Native.Nat.{_-_}
 use lib.ListN.{length}
-use Rattle.mesh_edges.proofs.ClosedLaws.{Looked, looked-all, looked-more, looked-none}
+use Rattle.lists.specs.Any.{Looked, looked-all, looked-none}
+use Rattle.point_rules.specs.Zeros.{minusZero}
+use Rattle.mesh_edges.proofs.ClosedLaws.{minus-more}
 use Rattle.mesh_edges.proofs.mesh.any_minus_zero.Statement.{statement}
 use Rattle.mesh_edges.proofs.mesh.any_minus_zero.Tie as tie
 
 abbrev Inv-loop : tie.InvT-loop
-Inv-loop positions found₀ k₀ found k = Looked positions k found
+Inv-loop positions found₀ k₀ found k = Looked minusZero positions k found
 
 abbrev μ-loop : tie.MeasureT-loop
 μ-loop positions found₀ k₀ found k = length positions - k
@@ -31,7 +33,7 @@ loop-less : tie.Need-loop-less Inv-loop μ-loop
 loop-less c = search needs
 
 loop-again : tie.Need-loop-again Inv-loop μ-loop
-loop-again c = search looked-more
+loop-again c = search minus-more
 
 returns : tie.Need-returns Inv-loop μ-loop
 returns c = search looked-all

@@ -4,41 +4,41 @@ use borrow.Author.Needs.{needs}
 use Rattle.point_key.proofs.vertex.key_at.Statement.{statement}
 use Rattle.point_key.proofs.vertex.key_at.Tie as tie
 
-mul-key : tie.Need-mul-key
-mul-key c = search needs
+mul-key-of : tie.Need-mul-key-of
+mul-key-of c = search needs
 
-mul-key-2 : tie.Need-mul-key-2
-mul-key-2 c = search needs
+mul-key-of-2 : tie.Need-mul-key-of-2
+mul-key-of-2 c = search needs
 
-shared-slice-read-key : tie.Need-shared-slice-read-key
-shared-slice-read-key c = search needs
+shared-slice-read-key-of : tie.Need-shared-slice-read-key-of
+shared-slice-read-key-of c = search needs
 
-mul-key-3 : tie.Need-mul-key-3
-mul-key-3 c = search needs
+mul-key-of-3 : tie.Need-mul-key-of-3
+mul-key-of-3 c = search needs
 
-add-key : tie.Need-add-key
-add-key c = search needs
+add-key-of : tie.Need-add-key-of
+add-key-of c = search needs
 
-mul-key-4 : tie.Need-mul-key-4
-mul-key-4 c = search needs
+mul-key-of-4 : tie.Need-mul-key-of-4
+mul-key-of-4 c = search needs
 
-shared-slice-read-key-2 : tie.Need-shared-slice-read-key-2
-shared-slice-read-key-2 c = search needs
+shared-slice-read-key-of-2 : tie.Need-shared-slice-read-key-of-2
+shared-slice-read-key-of-2 c = search needs
 
-mul-key-5 : tie.Need-mul-key-5
-mul-key-5 c = search needs
+mul-key-of-5 : tie.Need-mul-key-of-5
+mul-key-of-5 c = search needs
 
-add-key-2 : tie.Need-add-key-2
-add-key-2 c = search needs
+add-key-of-2 : tie.Need-add-key-of-2
+add-key-of-2 c = search needs
 
-mul-key-6 : tie.Need-mul-key-6
-mul-key-6 c = search needs
+mul-key-of-6 : tie.Need-mul-key-of-6
+mul-key-of-6 c = search needs
 
-shared-slice-read-key-3 : tie.Need-shared-slice-read-key-3
-shared-slice-read-key-3 c = search needs
+shared-slice-read-key-of-3 : tie.Need-shared-slice-read-key-of-3
+shared-slice-read-key-of-3 c = search needs
 
-key-requires : tie.Need-key-requires
-key-requires c κs = search needs
+key-of-requires : tie.Need-key-of-requires
+key-of-requires c κs = search needs
 
 returns : tie.Need-returns
 returns c = search key-named
@@ -47,16 +47,16 @@ pub key-at-spec : {M : Type 1} → statement M
 key-at-spec =
     tie.close
     (tie.spec
-    mul-key
-    mul-key-2
-    shared-slice-read-key
-    mul-key-3
-    add-key
-    mul-key-4
-    shared-slice-read-key-2
-    mul-key-5
-    add-key-2
-    mul-key-6
-    shared-slice-read-key-3
-    key-requires
+    mul-key-of
+    mul-key-of-2
+    shared-slice-read-key-of
+    mul-key-of-3
+    add-key-of
+    mul-key-of-4
+    shared-slice-read-key-of-2
+    mul-key-of-5
+    add-key-of-2
+    mul-key-of-6
+    shared-slice-read-key-of-3
+    key-of-requires
     returns)

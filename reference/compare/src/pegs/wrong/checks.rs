@@ -3,8 +3,8 @@
 use super::{Wrong, rounding};
 use crate::pegs::model::MOST_PLACE;
 use compare::library::{Lookup, PLACE};
-use driver::check::refusal;
-use driver::flat::ROW;
+use driver::check::{LAST_UNCLAMPED, clamps, refusal};
+use driver::flat::{Flat, ROW};
 
 /// The number that a body is refused with, or 0; what a fault doesn't check is made good first.
 pub fn of_body(lookup: &Lookup, wrong: Wrong) -> u32 {
@@ -16,9 +16,36 @@ pub fn of_body(lookup: &Lookup, wrong: Wrong) -> u32 {
             body.indices.clear();
         }
         (23, Wrong::NormalsUnchecked) => body.normals.fill(0.0),
-        (number, _) => return number,
+        (23, Wrong::ClampedBeforeFloats) if body.positions.iter().any(|v| v.is_finite() && clamps(*v)) => return 24,
+        (number, _) => return if matches!(number, 0 | 24) { clamped(&body, wrong) } else { number },
     }
     refusal(&body, usize::MAX)
+}
+
+/// Whether each vertex of a body is used by a triangle.
+fn used(body: &Flat) -> Vec<bool> {
+    let (mut used, mut first, mut indices) = (vec![false; body.positions.len() / 3], 0, body.indices.iter());
+    for row in body.rows.chunks_exact(ROW) {
+        indices.by_ref().take(row[4] as usize).for_each(|index| used[first + *index as usize] = true);
+        first += row[3] as usize;
+    }
+    used
+}
+
+/// 24 if it is due of a body that passes the checks before, else 0.
+fn clamped(body: &Flat, wrong: Wrong) -> u32 {
+    let any = |holds: fn(f32) -> bool| body.positions.iter().any(|v| holds(*v));
+    let due = match wrong {
+        Wrong::ClampedUnchecked => false,
+        Wrong::ClampedAboveOnly => any(|v| v > 0.0 && clamps(v)),
+        Wrong::ClampedUsedOnly => body.positions.chunks_exact(3).zip(used(body)).any(|(p, used)| used && p.iter().any(|v| clamps(*v))),
+        Wrong::ClampedFromTheLast => any(|v| v.abs().to_bits() >= LAST_UNCLAMPED),
+        Wrong::ClampedPastTheFirst => any(|v| v.abs().to_bits() > LAST_UNCLAMPED + 1),
+        Wrong::ClampedByMicrometres => any(|v| rounding::placed(v, 0, Wrong::Nothing).abs() > i128::from(i64::MAX)),
+        Wrong::ClampedNormalsToo => any(clamps) || body.normals.iter().any(|v| clamps(*v)),
+        _ => any(clamps),
+    };
+    if due { 24 } else { 0 }
 }
 
 /// Whether a number is outside the range.

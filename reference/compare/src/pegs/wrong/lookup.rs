@@ -43,7 +43,6 @@ fn apart(vertex: &[f32], place: [i64; 3], peg: [i64; 3], wrong: Wrong) -> Option
         Wrong::OneAxisIsNear => apart.iter().any(close) && apart.iter().all(|d| d.abs() < 1 << 60),
         Wrong::ThirdAxisFree => apart[..2].iter().all(close) && apart[2].abs() < 1 << 60,
         Wrong::OneSided => apart.iter().all(|d| *d <= most && *d > -(1 << 60)),
-        Wrong::FarBelowIsNear => apart.iter().all(|d| close(d) || *d < i128::from(i64::MIN)),
         Wrong::FarToo => apart.iter().all(|d| d.abs() < 1 << 60),
         Wrong::OutsideRangeIgnored => apart.iter().all(close) && stands.iter().all(|n| n.abs() <= i128::from(MOST_PLACE)),
         _ => apart.iter().all(close),
@@ -164,6 +163,8 @@ fn first(body: u32, range: u32, room: u32, wrong: Wrong) -> u32 {
         Wrong::RangeBeforeBody => [range, body, room],
         Wrong::RangeBeforeFloats if body == 23 => [range, body, room],
         Wrong::RoomBeforeFloats if body == 23 && range == 0 => [room, body, range],
+        Wrong::RangeBeforeClamped if body == 24 => [range, body, room],
+        Wrong::RoomBeforeClamped if body == 24 && range == 0 => [room, body, range],
         _ => [body, range, room],
     };
     order.into_iter().find(|number| *number != 0).unwrap_or(0)
@@ -173,7 +174,7 @@ fn first(body: u32, range: u32, room: u32, wrong: Wrong) -> u32 {
 pub fn find(lookup: &Lookup, list: &mut [u32], wrong: Wrong) -> NearestBins {
     let number = checks::of_body(lookup, wrong);
     let range = if checks::out_of_range(lookup, wrong) { 65 } else { 0 };
-    let found = if matches!(number, 0 | 23) { nearest(lookup, wrong) } else { Vec::new() };
+    let found = if matches!(number, 0 | 23 | 24) { nearest(lookup, wrong) } else { Vec::new() };
     let bins = answer(&found, wrong);
     let needed = room_needed(bins.len(), found.len(), lookup.body.rows.len() / ROW, wrong);
     let refusal = first(number, range, if needed > list.len() { 66 } else { 0 }, wrong);

@@ -45,11 +45,9 @@ fn whole(quarters: i128, wrong: Wrong) -> i128 {
 fn micrometres(v: f32, wrong: Wrong) -> i128 {
     let (thousands, power) = parts(v);
     let wrapped = if (0..64).contains(&power) { thousands << power } else { 0 };
-    let signed = |n: i64| i128::from(if v.is_sign_negative() { n.wrapping_neg() } else { n });
     let most = i128::from(MOST_PLACE);
     match wrong {
-        Wrong::WrapAt32 if power >= 0 => signed(i64::from(wrapped as i32)),
-        Wrong::WrapAt64 if power >= 0 => signed(wrapped as i64),
+        Wrong::WrapAt32 if power >= 0 => i128::from(wrapped as i32) * if v.is_sign_negative() { -1 } else { 1 },
         Wrong::InSinglePrecision => ((v * 1000.0).round() as i128).clamp(-FAR, FAR),
         Wrong::NoFactor => (v.round() as i128).clamp(-FAR, FAR),
         Wrong::CellsForMicrometres => ((f64::from(v) * 1e6).round() as i128).clamp(-FAR, FAR),

@@ -1,0 +1,2 @@
+-- A key as the code answers it.
+pub mod Told
