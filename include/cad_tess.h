@@ -8,9 +8,9 @@
  *     cad_stitch    writes the stitched body into second slices
  *     cad_assemble  writes the mesh, its parts, ranges and failures
  *
- * cad_read_plan and cad_write_plan turn the text of a yard plan, which says where bins stand, into a list and back. cad_nearest_bins
- * says which of the bins that stand there a probe peg is nearest to. The other calls read a face of a body, ask about one patch alone,
- * or are the float steps on which the three are built.
+ * cad_report adds a stitched body to a page of counts over many bodies. cad_read_plan and cad_write_plan turn the text of a yard plan,
+ * which says where bins stand, into a list and back. cad_nearest_bins says which of the bins that stand there a probe peg is nearest to.
+ * The other calls read a face of a body, ask about one patch alone, or are the float steps on which the three are built.
  *
  * No call allocates, keeps anything between calls, or has any state of its own: a caller lends every slice, and threads may call at
  * once with slices of their own. What each call answers and what it leaves in each slice is proved against a definition, refusals
@@ -49,11 +49,11 @@
  *
  * THE WORK AREA
  *
- * The three calls want CAD_WORK_WORDS(V, I, F) 64-bit words of work area, counted for the body handed to that call. It may hold
- * anything. Keep one for all bodies: to make it anew for a large body costs about as much time as turning it.
+ * The three calls and cad_report want CAD_WORK_WORDS(V, I, F) 64-bit words of work area, counted for the body handed to that call. It may
+ * hold anything. Keep one for all bodies: to make it anew for a large body costs about as much time as turning it.
  *
- * cad_assemble is handed the STITCHED body, which has a vertex and three indices more for each vertex that cad_stitch adds: an area
- * sized for the body before is refused with 31 after one split. Two ways to have one that is always enough:
+ * cad_assemble and cad_report are handed the STITCHED body, which has a vertex and three indices more for each vertex that cad_stitch
+ * adds: an area sized for the body before is refused with 31 after one split. Two ways to have one that is always enough:
  *
  *   - CAD_MOST_WORK_WORDS, 110 MB, for any body.
  *   - Where the largest body is known, CAD_WORK_WORDS(V2, I2, F2) for the output slices lent to cad_stitch, with room for V2 vertices,
@@ -68,7 +68,8 @@
  *     refusal            inputs and outputs    work area
  *     11 to 31           unchanged             unchanged
  *     33, 32, 42, 41     unchanged             its first CAD_WORK_WORDS(V, I, F) words are 0, the others unchanged
- *     61 to 68           unchanged             none is lent
+ *     67, 69             unchanged             the same
+ *     61 to 66, 68       unchanged             none is lent
  *     0                  as each call says     its first CAD_WORK_WORDS(V, I, F) words are 0, the others unchanged
  */
 #ifndef CAD_TESS_H
@@ -113,8 +114,14 @@ extern "C" {
 #define CAD_PLACE_NUMBERS 3
 #define CAD_PEG_REACH 5000
 
-/* The work area that a call needs for the body handed to it, in 64-bit words (check 31): for cad_assemble the stitched one. Its
-   arguments are evaluated once. */
+/* The most bodies of a page, and what no count of it may pass a body (check 67). Numbers that an entry of its face list takes: a face
+   number and its count. */
+#define CAD_MOST_BODIES 4096
+#define CAD_MOST_PAGE_COUNT UINT64_C(262144)
+#define CAD_FACE_ENTRY_NUMBERS 2
+
+/* The work area that a call needs for the body handed to it, in 64-bit words (check 31): for cad_assemble and cad_report the stitched
+   one. Its arguments are evaluated once. */
 #define CAD_WORK_WORDS(vertices, indices, rows) \
     ((size_t)16 * (size_t)(indices) + (size_t)16 * (size_t)(rows) + (size_t)4 * (size_t)(vertices))
 
@@ -131,8 +138,8 @@ extern "C" {
 
 /*
  * Why a call is refused, in the order in which the checks go; each looks at the whole body before the next, but 61 to 64 at one line
- * of a plan, or one entry of a list, before the next line or entry. 65 and 66 come straight after 24: their call needs no work area.
- * Numbers 51 and 52 are the bench program's, for its text.
+ * of a plan, or one entry of a list, before the next line or entry. 65 and 66 come straight after 24, since their call needs no work
+ * area, and 67 and 69 straight after 31. Numbers 51 and 52 are the bench program's, for its text.
  */
 enum CadRefusal {
     CAD_DONE = 0,
@@ -156,7 +163,9 @@ enum CadRefusal {
     CAD_REFUSED_ENTRIES = 64,        /* there is a bin beyond CAD_MOST_PLAN_ENTRIES, or beyond the list lent to cad_read_plan */
     CAD_REFUSED_PEG = 65,            /* cad_nearest_bins: the peg or a row's place is beyond CAD_MOST_OFFSET, or places are fewer than rows */
     CAD_REFUSED_BIN_LIST = 66,       /* cad_nearest_bins: the bin list is shorter than the bins that share the smallest distance */
-    CAD_REFUSED_TEXT = 68            /* cad_write_plan: the slice is shorter than the text */
+    CAD_REFUSED_PAGE = 67,           /* cad_report: the page has CAD_MOST_BODIES or more, or a count above CAD_MOST_PAGE_COUNT * its bodies */
+    CAD_REFUSED_TEXT = 68,           /* cad_write_plan: the slice is shorter than the text */
+    CAD_REFUSED_FACE_LIST = 69       /* cad_report: the face list has no room for the page's entries and the new ones */
 };
 
 /* A row of the table: the table's six numbers, in their order. A table of F rows may be lent as F of these where a call takes them. */
@@ -230,6 +239,22 @@ typedef struct CadNearestBins {
     uint32_t bins;    /* bins written, all at one distance from the peg; 0 if no vertex is near it */
 } CadNearestBins;
 
+/* cad_report's answer: a page over bodies. The empty page, from which the first body is reported, has 0 in every count. */
+typedef struct CadReported {
+    uint32_t refusal;        /* enum CadRefusal */
+    uint64_t bodies;         /* bodies reported */
+    uint64_t accepted;       /* their faces, a row each, that are accepted as cad_assemble accepts them */
+    uint64_t failed;         /* all other faces, in the three kinds below */
+    uint64_t triangles;      /* triangles of the accepted faces */
+    uint64_t vertices;       /* their vertices, those that no triangle uses too */
+    uint64_t empty;          /* faces without triangles (CAD_FAILURE_EMPTY) */
+    uint64_t upstream;       /* faces that failed upstream */
+    uint64_t escaped;        /* faces that escape their body's box (CAD_FAILURE_ESCAPE) */
+    uint64_t listed;         /* entries of the face list so far */
+    uint64_t share_accepted; /* the accepted share of all faces as a reduced fraction: this of share_faces, 1 of 1 without a face */
+    uint64_t share_faces;
+} CadReported;
+
 /* cad_cell's answer. */
 typedef struct CadCell {
     int64_t value;    /* the cell */
@@ -247,6 +272,7 @@ typedef char cad_layout_is_the_library_s[sizeof(float) == 4 && sizeof(double) ==
                                          sizeof(CadTurned) == 16 && sizeof(CadStitched) == 24 && sizeof(CadAssembled) == 56 &&
                                          sizeof(CadMeasured) == 16 && sizeof(CadJudged) == 8 &&
                                          sizeof(CadPlanRead) == 16 && sizeof(CadPlanWritten) == 16 && sizeof(CadNearestBins) == 8 &&
+                                         sizeof(CadReported) == 96 &&
                                          sizeof(CadCell) == 16 && sizeof(CadKey) == 16 &&
                                          sizeof(CadRow) == CAD_ROW_NUMBERS * sizeof(uint32_t) ? 1 : -1];
 
@@ -328,6 +354,39 @@ CadAssembled cad_assemble(const uint32_t *rows, size_t rows_len,
                           uint32_t *ranges, size_t ranges_len,
                           uint64_t *failures, size_t failures_len,
                           uint64_t *work, size_t work_len);
+
+/*
+ * Adds a body, which should be a stitched one, to a page over bodies: the answer is the page with that body added. The page so far is
+ * handed over by its numbers, all 0 for the empty page; its share isn't asked for, since it is made of the new sums.
+ *
+ * Face numbers wound against a neighbour are listed. Over the whole body, shells ignored, each later use of an edge that runs the same
+ * way as the edge's first use, by rows and triangles in their order, adds 1 to the face numbers of both rows, 2 if they are one number;
+ * edges are taken as cad_turn takes them, and rows that escape take part. The face numbers with a count above 0 follow in the face list
+ * as (face, count), highest count first, then by number. They go in behind the page's listed entries, so that the list of a yard is that
+ * of its bodies one after another.
+ *
+ *     rows_len CAD_ROW_NUMBERS * F, positions_len 3 * V, normals_len 3 * V, indices_len I,
+ *     work_len at least CAD_WORK_WORDS(V, I, F), where V and I are those of the body handed over
+ *     the box: its lowest and its highest corner, as for cad_assemble
+ *     the page: bodies below CAD_MOST_BODIES, each of the other numbers at most CAD_MOST_PAGE_COUNT * bodies
+ *     faces_len at least CAD_FACE_ENTRY_NUMBERS * the answer's listed; it has room for faces_len / CAD_FACE_ENTRY_NUMBERS entries, rounded
+ *         down. A body lists as many as it has rows at most. Without room for the page's own entries it is refused even if none is new.
+ *         What stands before and behind the new entries stays as it was, and after a refusal all of it
+ *
+ * Refusals: 11, 12, 13, 14, 15, 21, 22, 23, 24, 31, 67, 69.
+ */
+CadReported cad_report(const uint32_t *rows, size_t rows_len,
+                       const float *positions, size_t positions_len,
+                       const float *normals, size_t normals_len,
+                       const uint32_t *indices, size_t indices_len,
+                       double min_x, double min_y, double min_z,
+                       double max_x, double max_y, double max_z,
+                       uint64_t bodies, uint64_t accepted, uint64_t failed,
+                       uint64_t triangles, uint64_t vertices,
+                       uint64_t empty, uint64_t upstream, uint64_t escaped,
+                       uint64_t listed,
+                       uint32_t *faces, size_t faces_len,
+                       uint64_t *work, size_t work_len);
 
 /*
  * Reads a yard plan: a text that places bodies, which are drawn near their own origin, by whole micrometres. Each line ends in LF and

@@ -7,7 +7,7 @@
 
 enum { ROWS = CAD_MOST_ROWS + 1, ROOM = 16, WORDS = 512 };
 
-/* A body and all that the three calls are lent with it. */
+/* A body and all that the calls are lent with it. */
 struct lent {
     uint32_t rows[ROWS * CAD_ROW_NUMBERS], out_rows[2 * CAD_ROW_NUMBERS];
     float positions[3 * ROOM], normals[3 * ROOM], out_positions[3 * ROOM], out_normals[3 * ROOM];
@@ -62,6 +62,15 @@ static CadNearestBins nearest(int64_t y, uint32_t *bins, size_t bins_len)
     static const int64_t places[2 * CAD_PLACE_NUMBERS] = {0, INT64_C(4000000000), 0, 0, INT64_C(4000000100), 0};
     return cad_nearest_bins(lent.rows, lent.rows_len, lent.positions, lent.positions_len, lent.normals, lent.positions_len,
                             lent.indices, lent.indices_len, places, 2 * CAD_PLACE_NUMBERS, 0, y, 0, bins, bins_len);
+}
+
+/* The body added to a page, with no box that it could escape. */
+static CadReported report(const CadReported *page, uint32_t *faces, size_t faces_len)
+{
+    return cad_report(lent.rows, lent.rows_len, lent.positions, lent.positions_len, lent.normals, lent.positions_len,
+                      lent.indices, lent.indices_len, 0, 0, 0, 0, 0, 0, page->bodies, page->accepted, page->failed,
+                      page->triangles, page->vertices, page->empty, page->upstream, page->escaped, page->listed,
+                      faces, faces_len, lent.work, lent.work_len);
 }
 
 /* The stitched body, which stands in the output slices, assembled into those of the body before, with a work area of so many words. */
@@ -194,6 +203,36 @@ static void pegs(void)
     printf("no rows, all pointers null: %" PRIu32 ", %" PRIu32 " bins\n", none.refusal, none.bins);
 }
 
+static void show_page(const CadReported *page)
+{
+    printf("report: %" PRIu32 ", %" PRIu64 " bodies, %" PRIu64 " accepted, %" PRIu64 " failed, %" PRIu64 " triangles, %" PRIu64 " vertices, ",
+           page->refusal, page->bodies, page->accepted, page->failed, page->triangles, page->vertices);
+    printf("%" PRIu64 " empty, %" PRIu64 " upstream, %" PRIu64 " escaped, %" PRIu64 " listed, share %" PRIu64 " of %" PRIu64 "\n", page->empty,
+           page->upstream, page->escaped, page->listed, page->share_accepted, page->share_faces);
+}
+
+/* A body whose last triangle is wound against the one before it, then with its second row left empty; in room for two entries and a
+   half, each number 9 before. */
+static void reports(void)
+{
+    const CadReported empty = {0};
+    uint32_t faces[5] = {9, 9, 9, 9, 9};
+    fresh();
+    lent.indices[7] = 5;
+    lent.indices[8] = 4;
+    CadReported page = report(&empty, faces, 5);
+    show_page(&page);
+    lent.rows[CAD_ROW_NUMBERS + 4] = 0;
+    lent.indices_len = 3;
+    page = report(&page, faces, 5);
+    show_page(&page);
+    printf("faces listed:");
+    for (size_t k = 0; k < 5; k++)
+        printf(" %" PRIu32, faces[k]);
+    const CadReported none = cad_report(NULL, 0, NULL, 0, NULL, 0, NULL, 0, 0, 0, 0, 0, 0, 0, 0, 0, 0, 0, 0, 0, 0, 0, 0, NULL, 0, NULL, 0);
+    printf("\nno rows, all pointers null: %" PRIu32 ", share %" PRIu64 " of %" PRIu64 "\n", none.refusal, none.share_accepted, none.share_faces);
+}
+
 /* The same body with as many unused vertices as there may be, so that the new one is too many. */
 static uint32_t stitched_limit(void)
 {
@@ -225,6 +264,14 @@ static uint32_t refused_plan(enum CadRefusal refusal)
     default:
         return cad_write_plan(list, CAD_PLAN_ENTRY_NUMBERS, NULL, 0).refusal;
     }
+}
+
+/* A page of too many bodies, or one whose listed face has no place in the list. */
+static uint32_t refused_report(enum CadRefusal refusal)
+{
+    const CadReported full = {.bodies = CAD_MOST_BODIES}, listed = {.bodies = 1, .listed = 1};
+    uint32_t faces[CAD_FACE_ENTRY_NUMBERS] = {0};
+    return report(refusal == CAD_REFUSED_PAGE ? &full : &listed, faces, CAD_FACE_ENTRY_NUMBERS - 1).refusal;
 }
 
 /* The body spoiled in the way of one refusal, and the call that gives it. */
@@ -278,6 +325,9 @@ static uint32_t refused(enum CadRefusal refusal)
         return nearest(CAD_MOST_OFFSET + 1, &bin, 1).refusal;
     case CAD_REFUSED_BIN_LIST:
         return nearest(INT64_C(4000000050), &bin, 1).refusal;
+    case CAD_REFUSED_PAGE:
+    case CAD_REFUSED_FACE_LIST:
+        return refused_report(refusal);
     default:
         return refused_plan(refusal);
     }
@@ -289,12 +339,14 @@ int main(void)
                                           CAD_REFUSED_TRIANGLES, CAD_REFUSED_INDEX, CAD_REFUSED_NOT_FINITE, CAD_REFUSED_CLAMPED,
                                           CAD_REFUSED_WORK_AREA, CAD_REFUSED_STITCHED_LIMIT, CAD_REFUSED_OUTPUT, CAD_REFUSED_MATERIAL,
                                           CAD_REFUSED_MESH, CAD_REFUSED_LINE, CAD_REFUSED_DEPTH, CAD_REFUSED_PLACE, CAD_REFUSED_ENTRIES,
-                                          CAD_REFUSED_PEG, CAD_REFUSED_BIN_LIST, CAD_REFUSED_TEXT};
+                                          CAD_REFUSED_PEG, CAD_REFUSED_BIN_LIST, CAD_REFUSED_PAGE, CAD_REFUSED_TEXT,
+                                          CAD_REFUSED_FACE_LIST};
     steps();
     patches();
     done();
     plans();
     pegs();
+    reports();
     for (size_t k = 0; k < sizeof all / sizeof all[0]; k++)
         printf("refused with %" PRIu32 "\n", refused(all[k]));
     return 0;

@@ -1,5 +1,6 @@
-//! Cuts pieces out of the unchanged source, word for word: the closure `key`, so that the tools can ask for one point's key and cell,
-//! and the end of `tessellate_solid` behind turning and stitching, so that they can assemble a body as it stands and time that alone.
+//! Cuts pieces out of the unchanged source, word for word: the closure `key`, so that the tools can ask for one point's key and cell;
+//! the end of `tessellate_solid` behind turning and stitching, so that they can assemble a body as it stands and time that alone; and
+//! its winding audit, so that they have the counts of all faces and not only of the twelve that it prints.
 
 use std::{env, fs, path::Path};
 
@@ -34,12 +35,23 @@ fn tail(text: &str) -> String {
     )
 }
 
+/// The winding audit up to its counts by face number, before they are ranked and some of them printed.
+fn audit(text: &str) -> String {
+    let from = "        let mut used: rustc_hash::FxHashMap<(u64, u64), (usize, u32)> = Default::default();\n        let key = ";
+    let counted = between(text, from, "        // Which faces share an edge with more than one other: an edge used by");
+    assert!(counted.contains("let mut against: rustc_hash::FxHashMap<u32, usize>"), "the audit counts by face number");
+    format!(
+        "/// The source's winding audit of rows as they stand: each face number wound against a neighbour, with its count.\n\
+         pub fn against(faces: Faces) -> rustc_hash::FxHashMap<u32, usize> {{\n{counted}        against\n}}\n"
+    )
+}
+
 fn main() {
     let source = "../cad-tess/src/lib.rs";
     println!("cargo:rerun-if-changed={source}");
     let text = fs::read_to_string(source).expect("the unchanged source");
     let folder = env::var("OUT_DIR").expect("OUT_DIR");
-    for (name, piece) in [("key.rs", key(&text)), ("tail.rs", tail(&text))] {
+    for (name, piece) in [("key.rs", key(&text)), ("tail.rs", tail(&text)), ("audit.rs", audit(&text))] {
         fs::write(Path::new(&folder).join(name), piece).expect("a piece written");
     }
 }

@@ -81,7 +81,7 @@ pub struct BodyOut<'a> {
 }
 
 /// The 64-bit words of work area that a call needs for a body of so many vertices, indices and rows: the body that is handed to that
-/// call. Assembling is handed the stitched body, which has a vertex and three indices more for each vertex that stitching adds; an area
+/// call. Assembling and reporting are handed the stitched body, which has a vertex and three indices more for each vertex that stitching adds; an area
 /// sized for the body before is refused with [`Refusal::WorkArea`](crate::Refusal::WorkArea) after one split. So count the slices that
 /// stitching writes to: no stitched body is larger than they are.
 ///

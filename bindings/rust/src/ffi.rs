@@ -10,6 +10,7 @@ use crate::body::{BinId, BodyMut, BodyOut, BodyRef, FaceId, Point, Row};
 use crate::mesh::{Aabb, MeshOut, Setting};
 use crate::plan::{Place, RawPlacedBin};
 use crate::refusal::Refusal;
+use crate::report::{Page, Share, WoundFace};
 use crate::steps::{Cell, Key};
 
 #[repr(C)]
@@ -72,6 +73,22 @@ struct CadNearestBins {
 }
 
 #[repr(C)]
+struct CadReported {
+    refusal: u32,
+    bodies: u64,
+    accepted: u64,
+    failed: u64,
+    triangles: u64,
+    vertices: u64,
+    empty: u64,
+    upstream: u64,
+    escaped: u64,
+    listed: u64,
+    share_accepted: u64,
+    share_faces: u64,
+}
+
+#[repr(C)]
 struct CadCell {
     value: i64,
     clamped: u32,
@@ -95,6 +112,10 @@ extern "C" {
         materials_len: usize, default_material: u64, mesh_positions: *mut f32, mesh_positions_len: usize, mesh_normals: *mut f32, mesh_normals_len: usize,
         mesh_indices: *mut u32, mesh_indices_len: usize, parts: *mut u32, parts_len: usize, ranges: *mut u32, ranges_len: usize, failures: *mut u64,
         failures_len: usize, work: *mut u64, work_len: usize) -> CadAssembled;
+    fn cad_report(rows: *const u32, rows_len: usize, positions: *const f32, positions_len: usize, normals: *const f32, normals_len: usize,
+        indices: *const u32, indices_len: usize, min_x: f64, min_y: f64, min_z: f64, max_x: f64, max_y: f64, max_z: f64, bodies: u64, accepted: u64,
+        failed: u64, triangles: u64, vertices: u64, empty: u64, upstream: u64, escaped: u64, listed: u64, faces: *mut u32, faces_len: usize,
+        work: *mut u64, work_len: usize) -> CadReported;
     fn cad_read_plan(text: *const u8, text_len: usize, list: *mut i64, list_len: usize) -> CadPlanRead;
     fn cad_write_plan(list: *const i64, list_len: usize, out: *mut u8, out_len: usize) -> CadPlanWritten;
     fn cad_nearest_bins(rows: *const u32, rows_len: usize, positions: *const f32, positions_len: usize, normals: *const f32, normals_len: usize,
@@ -207,6 +228,41 @@ pub fn assemble(body: BodyRef<'_>, setting: &Setting<'_>, out: MeshOut<'_>, work
         overs: answer.overs,
         closed: answer.closed == 1,
     })
+}
+
+#[rustfmt::skip]
+pub fn report(body: BodyRef<'_>, bounds: Aabb, page: Page, faces: &mut [WoundFace], work: &mut [u64]) -> Result<Page, Refusal> {
+    let (rows, rows_len) = numbers(body.rows);
+    let (positions, positions_len) = numbers(body.positions);
+    let (normals, normals_len) = numbers(body.normals);
+    let (indices, indices_len) = (body.indices.as_ptr(), body.indices.len());
+    let Aabb { min, max } = bounds;
+    let (faces, faces_len) = numbers_mut(faces);
+    let (work, work_len) = (work.as_mut_ptr(), work.len());
+    // Sound: each pair is a live slice of the numbers that the call takes; the faces and work come from &mut, so they overlap nothing. An
+    // entry of the faces is two numbers of any value.
+    let answer = unsafe {
+        cad_report(rows, rows_len, positions, positions_len, normals, normals_len, indices, indices_len,
+            min[0], min[1], min[2], max[0], max[1], max[2], page.bodies, page.accepted, page.failed, page.triangles, page.vertices,
+            page.empty, page.upstream, page.escaped, page.listed, faces, faces_len, work, work_len)
+    };
+    unless_refused(answer.refusal, page_of(&answer))
+}
+
+/// The page of an answer.
+fn page_of(answer: &CadReported) -> Page {
+    Page {
+        bodies: answer.bodies,
+        accepted: answer.accepted,
+        failed: answer.failed,
+        triangles: answer.triangles,
+        vertices: answer.vertices,
+        empty: answer.empty,
+        upstream: answer.upstream,
+        escaped: answer.escaped,
+        listed: answer.listed,
+        share: Share { accepted: answer.share_accepted, faces: answer.share_faces },
+    }
 }
 
 pub fn read_plan(text: &[u8], list: &mut [RawPlacedBin]) -> Result<u64, Refusal> {

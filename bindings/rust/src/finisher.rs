@@ -3,8 +3,9 @@
 use crate::answers::{Assembled, Stitched, Turned};
 use crate::body::{grow, work_words, Body, BodyMut, BodyRef};
 use crate::lent;
-use crate::mesh::{Mesh, MeshOut, RawFailure, Setting};
+use crate::mesh::{Aabb, Mesh, MeshOut, RawFailure, Setting};
 use crate::refusal::Refusal;
+use crate::report::{Page, WoundFace};
 
 /// The most rows of a body.
 pub const MOST_ROWS: usize = 4_096;
@@ -175,6 +176,46 @@ impl Finisher {
             mesh.failures.clear();
             mesh.failures.extend(self.failures[..a.failures as usize].iter().map(|failure| failure.decoded()));
         }
+        answer
+    }
+
+    /// Adds a body, which should be a stitched one, to a page over bodies: the answer is the page with that body. Its faces that are wound
+    /// against a neighbour follow in the list from `page.listed` on, highest count first, then by number; the list grows for them. If the
+    /// body is refused, the list is as it was. With the same list from body to body it is as long as the page's `listed`; a shorter one is
+    /// refused with [`FaceList`](Refusal::FaceList) where it can't hold the page's entries.
+    ///
+    /// A face number's count: over the whole body, shells ignored, each later use of an edge that runs the same way as its first adds 1 to
+    /// the face numbers of both rows, 2 if they are one number.
+    ///
+    /// ```
+    /// use body_finisher::{Aabb, BinId, Body, FaceId, Finisher, Page, Share, WoundFace};
+    ///
+    /// // Two triangles with one edge that both run along the same way, in two shells, so that turning leaves them; and a failed face.
+    /// let (o, x, y, z) = ([0.0; 3], [10.0, 0.0, 0.0], [0.0, 10.0, 0.0], [0.0, 0.0, 10.0]);
+    /// let (mut body, mut stitched) = (Body::default(), Body::default());
+    /// body.push_patch(0, FaceId(4), BinId(0), &[o, x, y], &[[0.0, 0.0, 1.0]; 3], &[0, 1, 2])?;
+    /// body.push_patch(1, FaceId(3), BinId(0), &[o, x, z], &[[0.0, 1.0, 0.0]; 3], &[0, 1, 2])?;
+    /// body.push_failure(0, FaceId(5), BinId(0), 40)?;
+    ///
+    /// let (mut finisher, mut faces, mut page) = (Finisher::new(), Vec::new(), Page::default());
+    /// for _ in 0..2 {
+    ///     finisher.turn(body.view_mut())?;
+    ///     finisher.stitch(body.view(), 0.05, &mut stitched)?;
+    ///     page = finisher.report(stitched.view(), Aabb::EMPTY, page, &mut faces)?;
+    /// }
+    /// assert_eq!((page.bodies, page.accepted, page.failed, page.upstream), (2, 4, 2, 2));
+    /// assert_eq!(page.share, Share { accepted: 2, faces: 3 });
+    /// let wound = |face| WoundFace { face: FaceId(face), count: 1 };
+    /// assert_eq!(faces, [wound(3), wound(4), wound(3), wound(4)]);
+    /// # Ok::<(), Box<dyn std::error::Error>>(())
+    /// ```
+    pub fn report(&mut self, body: BodyRef<'_>, bounds: Aabb, page: Page, faces: &mut Vec<WoundFace>) -> Result<Page, Refusal> {
+        self.make_room(body);
+        let before = faces.len();
+        // A row has one face number, so that a list that holds the page's entries is never what is too short.
+        grow(faces, before + body.rows.len().min(MOST_ROWS));
+        let answer = lent::report(body, bounds, page, faces, &mut self.work);
+        faces.truncate(answer.map_or(before, |page| before.max(page.listed as usize)));
         answer
     }
 

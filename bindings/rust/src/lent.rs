@@ -1,7 +1,7 @@
 //! The calls with every slice lent, as C has them: nothing is allocated.
 //!
-//! One work area serves all three calls if it is sized for the slices that [`stitch`] writes to: [`assemble`] is handed the stitched
-//! body, which may be larger than the one before and is never larger than they are.
+//! One work area serves all four calls if it is sized for the slices that [`stitch`] writes to: [`assemble`] and [`report`] are handed the
+//! stitched body, which may be larger than the one before and is never larger than they are.
 //!
 //! ```
 //! use body_finisher::{lent, work_words, BinId, Body, BodyOut, FaceId, Row};
@@ -25,6 +25,7 @@ use crate::ffi;
 use crate::mesh::{Aabb, MeshOut, Setting};
 use crate::plan::{Place, RawPlacedBin};
 use crate::refusal::Refusal;
+use crate::report::{Page, WoundFace};
 
 /// Turns the rows of a body so that neighbours of one shell agree on which side is outside: corners 1 and 2 of a turned row's triangles
 /// are swapped and its normals negated, where they stand. The first [`work_words`](crate::work_words) words of the work area come back
@@ -43,6 +44,31 @@ pub fn stitch(body: BodyRef<'_>, sag: f64, out: BodyOut<'_>, work: &mut [u64]) -
 /// The work area must be enough for the body handed over: see [`work_words`](crate::work_words).
 pub fn assemble(body: BodyRef<'_>, setting: &Setting<'_>, out: MeshOut<'_>, work: &mut [u64]) -> Result<Assembled, Refusal> {
     ffi::assemble(body, setting, out, work)
+}
+
+/// Adds a body, which should be a stitched one, to a page, and answers the page with it. The faces that are wound against a neighbour go
+/// into the list from `page.listed` on; what stands before and behind them stays as it was, and after a refusal all of it. The list must
+/// have room for the page's entries even if none is new. The work area must be enough for the body handed over.
+///
+/// ```
+/// use body_finisher::{lent, work_words, Aabb, BinId, Body, FaceId, Page, Refusal, WoundFace};
+///
+/// // A triangle laid twice: its three edges run the same way on both rows.
+/// let (corners, up) = ([[0.0; 3], [10.0, 0.0, 0.0], [0.0, 10.0, 0.0]], [[0.0, 0.0, 1.0]; 3]);
+/// let mut body = Body::default();
+/// body.push_patch(0, FaceId(8), BinId(0), &corners, &up, &[0, 1, 2])?;
+/// body.push_patch(0, FaceId(7), BinId(0), &corners, &up, &[0, 1, 2])?;
+///
+/// let (mut faces, mut work) = ([WoundFace { face: FaceId(9), count: 9 }; 3], vec![0; work_words(6, 6, 2)]);
+/// let (view, empty) = (body.view(), Page::default());
+/// assert_eq!(lent::report(view, Aabb::EMPTY, empty, &mut faces[..1], &mut work), Err(Refusal::FaceList));
+/// let page = lent::report(view, Aabb::EMPTY, empty, &mut faces, &mut work)?;
+/// assert_eq!((page.bodies, page.accepted, page.triangles, page.vertices, page.listed), (1, 2, 2, 6, 2));
+/// assert_eq!(faces.map(|f| (f.face.0, f.count)), [(7, 3), (8, 3), (9, 9)]);
+/// # Ok::<(), Box<dyn std::error::Error>>(())
+/// ```
+pub fn report(body: BodyRef<'_>, bounds: Aabb, page: Page, faces: &mut [WoundFace], work: &mut [u64]) -> Result<Page, Refusal> {
+    ffi::report(body, bounds, page, faces, work)
 }
 
 /// Reads a plan's text: its bins go to the front of the list in the order read, and the answer is how many there are. The list has room

@@ -3,6 +3,7 @@
 //! crate gives its calls Rust's types and sizes the slices.
 //!
 //! - [`Finisher`] finishes bodies one after another, with a work area that it keeps.
+//! - [`Finisher::report`] adds a stitched body to a [`Page`] of counts over many bodies.
 //! - [`lent`] has the same calls with every slice lent by the caller, without an allocation.
 //! - [`read_plan`] and [`write_plan`] turn the text of a yard plan, which says where bins stand, into a list and back.
 //! - [`nearest_bins`] says which of the bins that a plan places a probe peg is nearest to.
@@ -40,6 +41,7 @@ mod mesh;
 mod peg;
 mod plan;
 mod refusal;
+mod report;
 pub mod steps;
 
 pub use answers::{Assembled, Stitched, Turned};
@@ -50,3 +52,4 @@ pub use mesh::{Aabb, Entry, FaceFailure, FaceRange, Failure, MaterialId, Mesh, M
 pub use peg::{nearest_bins, places_of, PlaceError, PEG_REACH};
 pub use plan::{read_plan, write_plan, Place, PlacedBin, RawPlacedBin, MOST_OFFSET, MOST_PLAN_ENTRIES, MOST_PLAN_LINE};
 pub use refusal::Refusal;
+pub use report::{Page, Share, WoundFace, MOST_BODIES, MOST_PAGE_COUNT};

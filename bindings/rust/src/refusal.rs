@@ -33,7 +33,7 @@ pub enum Refusal {
     NotFinite,
     /// 24: a position, of a vertex that no triangle uses too, has a cell that clamps: see [`steps::cell`](crate::steps::cell).
     Clamped,
-    /// 31: the work area is too short for the body handed to that call; assembling is handed the stitched one.
+    /// 31: the work area is too short for the body handed to that call; assembling and reporting are handed the stitched one.
     WorkArea,
     /// 33: the stitched body passes the limits of 13.
     StitchedLimit,
@@ -55,13 +55,17 @@ pub enum Refusal {
     Peg,
     /// 66: the bin list is shorter than the bins that share the smallest distance from a peg.
     BinList,
+    /// 67: a page that a body is added to has 4,096 bodies or more, or a count above 262,144 for each of its bodies.
+    Page,
     /// 68: the slice is shorter than the text that is written to it.
     Text,
+    /// 69: the face list has no room for the page's entries and the new ones.
+    FaceList,
 }
 
 impl Refusal {
-    /// Every refusal, in the order in which the checks go; those of a peg come straight after 24.
-    pub const ALL: [Refusal; 21] = [
+    /// Every refusal, in the order in which the checks go; those of a peg come straight after 24, those of a page straight after 31.
+    pub const ALL: [Refusal; 23] = [
         Refusal::Table,
         Refusal::Outcome,
         Refusal::Limit,
@@ -82,7 +86,9 @@ impl Refusal {
         Refusal::Entries,
         Refusal::Peg,
         Refusal::BinList,
+        Refusal::Page,
         Refusal::Text,
+        Refusal::FaceList,
     ];
 
     /// The number that the C call gives.
@@ -108,7 +114,9 @@ impl Refusal {
             Refusal::Entries => 64,
             Refusal::Peg => 65,
             Refusal::BinList => 66,
+            Refusal::Page => 67,
             Refusal::Text => 68,
+            Refusal::FaceList => 69,
         }
     }
 
@@ -142,7 +150,9 @@ impl Refusal {
             Refusal::Entries => "there is a bin beyond the 4,096th, or beyond the list",
             Refusal::Peg => "the peg or a row's place is beyond plus or minus 2^40 on an axis, or there are fewer places than rows",
             Refusal::BinList => "the bin list is shorter than the bins that share the smallest distance",
+            Refusal::Page => "the page has 4,096 bodies or more, or a count above 262,144 times its bodies",
             Refusal::Text => "the slice is shorter than the text",
+            Refusal::FaceList => "the face list is shorter than the page's entries and the new ones",
         }
     }
 }

@@ -1,8 +1,8 @@
 //! Every refusal, reached through the calls, and what it leaves unchanged.
 
 use body_finisher::{
-    lent, work_words, Aabb, BinId, Body, BodyOut, Entry, FaceId, FaceRange, Finisher, Mesh, MeshOut, Part, RawFailure, Refusal, Row,
-    RowError, Setting, MOST_BIN, MOST_INDICES, MOST_ROWS, MOST_VERTICES,
+    lent, work_words, Aabb, BinId, Body, BodyOut, Entry, FaceId, FaceRange, Finisher, Mesh, MeshOut, Page, Part, RawFailure, Refusal, Row,
+    RowError, Setting, WoundFace, MOST_BIN, MOST_INDICES, MOST_ROWS, MOST_VERTICES,
 };
 
 const UP: [[f32; 3]; 6] = [[0.0, 0.0, 1.0]; 6];
@@ -92,6 +92,10 @@ fn broken_bodies_are_refused_by_every_call_and_nothing_changes() {
         let mut bins = [BinId(9); 2];
         assert_eq!(lent::nearest_bins(body.view(), &[], [0; 3], &mut bins), Err(refusal));
         assert_eq!(bins, [BinId(9); 2], "{refusal:?}: the bin list is as it was");
+        let (mut faces, former) = (vec![WoundFace { face: FaceId(9), count: 9 }; 2], vec![WoundFace { face: FaceId(9), count: 9 }; 2]);
+        let page = Page { bodies: 4_096, ..Page::default() };
+        assert_eq!(finisher.report(body.view(), Aabb::EMPTY, page, &mut faces), Err(refusal));
+        assert_eq!(faces, former, "{refusal:?}: the face list is as it was");
     }
 }
 

@@ -5,6 +5,7 @@ mod naming;
 mod patch;
 mod pegs;
 mod plans;
+mod reports;
 mod stitching;
 mod turning;
 
@@ -25,6 +26,9 @@ pub use plans::CadPlanRead;
 pub use plans::CadPlanWritten;
 pub use plans::listing_answer;
 pub use plans::plan_answer;
+pub use reports::CadReported;
+pub use reports::page_of;
+pub use reports::reported_answer;
 pub use stitching::CadStitched;
 pub use stitching::stitched_answer;
 pub use turning::CadTurned;

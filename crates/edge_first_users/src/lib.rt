@@ -7,3 +7,4 @@ pub use bodies::list_rows;
 pub use bodies::list_runs;
 pub use bodies::name_uses;
 pub use users::first_users;
+pub use users::list_uses;

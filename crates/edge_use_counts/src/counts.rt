@@ -7,7 +7,7 @@ ghost use lib.ListN.{getD, set};
 ghost use Rattle.edge_uses.specs.Counted.{StepReady, CountReady, Counted};
 
 // Use i adds 1 to the count at its first use.
-fn count_one(w: &mut [u64], firsts: usize, counts: usize, i: usize)
+pub fn count_one(w: &mut [u64], firsts: usize, counts: usize, i: usize)
     requires { ⌜ StepReady (now w) firsts counts i ⌝ }
     ensures { λ _. ⌜ now (w .exit) ≡ set (now (w .entry)) (counts + getD (now (w .entry)) (firsts + i) 0)
         (getD (now (w .entry)) (counts + getD (now (w .entry)) (firsts + i) 0) 0 + 1) ⌝ }

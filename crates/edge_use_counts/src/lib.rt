@@ -2,4 +2,5 @@
 
 mod counts;
 
+pub use counts::count_one;
 pub use counts::count_uses;

@@ -9,7 +9,8 @@ use lib.ListN.{length, getD, take, drop}
 use lib.Ieee.{Float}
 use Rattle.body_rows.specs.Body.{rowsOf, allVertices, allIndices}
 use Rattle.body_rows.specs.Rows.{WholeRows, rowAt, indicesBefore}
-use Rattle.edge_uses.specs.Named.{useRun}
+use Rattle.join_definition.specs.Join.{joined}
+use Rattle.edge_uses.specs.Named.{useName, useRun, rowNumbers}
 use Rattle.edge_uses.specs.FirstUsers.{usesIn}
 
 -- where the uses' names stand
@@ -43,3 +44,10 @@ pub record RunsListed (table is W : List ℕ) (points shells at : ℕ) (Y Z : Li
   pub runs : take (length is) (drop (at + 3 * length is) Z) ≡ map useRun (usesIn table is W points shells)
   pub front : take (at + 3 * length is) Z ≡ take (at + 3 * length is) Y
   pub rest : drop (at + 4 * length is) Z ≡ drop (at + 4 * length is) Y
+
+-- what listing the uses leaves: behind their names their first uses, rows and runs
+pub record UsesListed (table is W : List ℕ) (points shells at : ℕ) (E : List ℕ) : Type 0 where
+  pub firsts : take (length is) (drop (at + length is) E) ≡ joined (map useName (usesIn table is W points shells))
+  pub rows : take (length is) (drop (at + 2 * length is) E) ≡ rowNumbers 0 (rowsOf table)
+  pub runs : take (length is) (drop (at + 3 * length is) E) ≡ map useRun (usesIn table is W points shells)
+  pub rest : drop (at + 4 * length is) E ≡ drop (at + 4 * length is) W

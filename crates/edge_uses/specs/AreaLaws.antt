@@ -16,10 +16,10 @@ use Rattle.body_rows.specs.Rows.{rowAt}
 use Rattle.join_definition.specs.Join.{joined}
 use Rattle.join_definition.specs.Representatives.{joined-below, joined-low}
 use Rattle.edge_uses.specs.Edges.{usesFrom}
-use Rattle.edge_uses.specs.Named.{useRun, rowUses, BodyReady}
+use Rattle.edge_uses.specs.Named.{useRun, useRow, rowUses, rowNumbers, BodyReady}
 use Rattle.edge_uses.specs.Counted.{CountReady}
 use Rattle.edge_uses.specs.FirstUsers.{UsersReady, usesIn}
-use Rattle.edge_uses.specs.RowUses.{Inside, uses-all, row-uses-agree, runs-listed}
+use Rattle.edge_uses.specs.RowUses.{Inside, uses-all, row-uses-agree, rows-listed, runs-listed}
 use Rattle.edge_uses.specs.UseLaws.{rows-uses, length-named}
 use Rattle.edge_uses.specs.Area.{namesAt, Layable, RunsListed}
 
@@ -48,6 +48,11 @@ module _ {table is W : List ℕ} {points shells at : ℕ} (r : UsersReady table 
   pub uses-many : length (usesIn table is W points shells) ≡ length is
   unfolding rowAt
   uses-many = uses-all (drop shells W) 0 (drop points W) (rowsOf table) is (r .names .body .whole) (omega (arith, r .all)) shells-many ∙ sym (r .all)
+
+  -- the numbers of the uses' rows
+  pub rows-there : map useRow (usesIn table is W points shells) ≡ rowNumbers 0 (rowsOf table)
+  unfolding rowAt
+  rows-there = rows-listed (drop shells W) 0 (drop points W) (rowsOf table) is (r .names .body .whole) (omega (arith, r .all)) shells-many
 
   -- what lies in front of the names is as it was
   module _ (Y : List ℕ) (kept : take at Y ≡ take at W) (long : length Y ≡ length W) where

@@ -1,10 +1,15 @@
--- Three, four and five stores, one behind the other. Assumes nothing.
+-- Two, three, four and five stores, one behind the other. Assumes nothing.
+use mathlib.Core.Path.{sym}
 use mathlib.Core.List.{List, [], _∷_}
 use Prim.Native.Nat.{ℕ, _+_, _≤_}
 use native.Mathlib.Omega.{arith}
 use lib.ListN.{length, set}
-use Rattle.lists.specs.Sets.{three-stored, four-stored, five-stored}
+use Rattle.lists.specs.Sets.{sets-append, three-stored, four-stored, five-stored}
 use Rattle.slice_append.specs.Appended.{Appended, appended-sets}
+
+-- two stores
+pub two-stores : (out : List ℕ) (o a b : ℕ) → o + 2 ≤ length out → Appended o (a ∷ b ∷ []) out (set (set out o a) (o + 1) b)
+two-stores out o a b h = appended-sets (omega arith) (sym (sets-append out o (a ∷ []) (b ∷ [])))
 
 -- three stores
 pub three-stores : (out : List ℕ) (o a b c : ℕ) → o + 3 ≤ length out → Appended o (a ∷ b ∷ c ∷ []) out (set (set (set out o a) (o + 1) b) (o + 2) c)

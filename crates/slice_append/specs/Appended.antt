@@ -5,7 +5,7 @@ use Prim.Native.Nat.{ℕ, _+_, _-_, _≤_}
 use native.Mathlib.Nat.{add-zero, zero-add}
 use native.Mathlib.Omega.{arith}
 use lib.ListN.{length, take, drop, length-append, length-take, length-drop, take-append-drop}
-use lib.Seq.{sets, sets-eq, take-at, length-take-le}
+use lib.Seq.{sets, sets-eq, take-at, length-take-le, drop-drop}
 use Rattle.lists.specs.Lists.{written}
 use Rattle.lists.specs.Sets.{drop-sets}
 use Rattle.lists.specs.Stretches.{rest-less}
@@ -52,6 +52,15 @@ module _ {A : Type 0} where
       sym (take-append-drop (length xs) new)
       ∙ ap (λ (l : List A). l ++ drop (length xs) new) (ap (λ (n : ℕ). take n new) (sym e) ∙ p .content)
       ∙ ap (λ (l : List A). xs ++ l) (ap (λ (n : ℕ). drop n new) (sym e) ∙ p .rest ∙ ap (λ (n : ℕ). drop n out) e)
+
+  -- what was appended from place o on stands behind what was there
+  pub appended-behind : {o : ℕ} {xs out new : List A} → Appended o xs out new → new ≡ take o out ++ written xs (drop o out)
+  unfolding written
+  appended-behind {o} {xs} {out} {new} p =
+      sym (take-append-drop (o + length xs) new)
+      ∙ (λ j. p .content j ++ p .rest j)
+      ∙ append-assoc (take o out) xs (drop (o + length xs) out)
+      ∙ ap (λ (l : List A). take o out ++ (xs ++ l)) (sym (drop-drop (length xs) o out))
 
   -- a slice with room for what was appended is as long as it was
   pub appended-long : {o : ℕ} {xs out new : List A} → Appended o xs out new → o + length xs ≤ length out → length new ≡ length out

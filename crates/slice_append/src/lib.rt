@@ -32,6 +32,15 @@ pub fn append_moved(from: &[u32], start: usize, end: usize, base: u32, out: &mut
     }
 }
 
+// Two numbers are written to `out` from place o on.
+pub fn put_two(out: &mut [u32], o: usize, a: u32, b: u32)
+    requires { ⌜ o + 2 ≤ length (now out) ⌝ }
+    ensures { λ _. ⌜ Appended o (a ∷ b ∷ []) (now (out .entry)) (now (out .exit)) ⌝ }
+{
+    out[o] = a;
+    out[o + 1] = b;
+}
+
 // Three numbers are written to `out` from place o on.
 pub fn put_three(out: &mut [u32], o: usize, a: u32, b: u32, c: u32)
     requires { ⌜ o + 3 ≤ length (now out) ⌝ }

@@ -17,15 +17,14 @@ use Rattle.edge_uses.specs.Edges.{Use}
 use Rattle.edge_uses.specs.Named.{useName, useRun, useRow, rowNumbers}
 use Rattle.edge_uses.specs.FirstUsers.{UsersReady, usesIn}
 use Rattle.edge_uses.specs.RowUses.{numbers-below}
-use Rattle.edge_uses.specs.Area.{usesEnd, Layable}
-use Rattle.edge_uses.specs.AreaLaws.{uses-many, points-low, users-ready, uses-there}
+use Rattle.edge_uses.specs.Area.{usesEnd, Layable, UsesListed}
+use Rattle.edge_uses.specs.AreaLaws.{uses-many, rows-there, points-low, users-ready, uses-there}
 use Rattle.edge_uses.specs.UseLaws.{inShell, nameBy, noUse, Apart, uses-in, low-uses, shells-uses, length-named}
 use Rattle.turn_walk.specs.Uses.{Uses, pairsBy, own}
 use Rattle.turn_walk.specs.Area.{usesOf, Sound}
 use Rattle.turn_pairs.specs.PairLaws.{listed, pairs-are}
-use Rattle.turn_pairs.specs.Laid.{shellsOf, usesAt, keyUses, Joinable, BodyJoined, UsesListed, Laid}
+use Rattle.turn_pairs.specs.Laid.{shellsOf, usesAt, keyUses, Joinable, BodyJoined, Laid}
 use Rattle.turn_pairs.proofs.ShellLaws.{shell-at}
-use Rattle.turn_pairs.proofs.StageLaws.{rows-there}
 
 module _ {table : List ℕ} {ps : List Float} {is W : List ℕ} {v m : ℕ} (g : Layable table ps is W v m) where
   -- the vertices and rows can be joined

@@ -13,8 +13,6 @@ use Rattle.join_definition.specs.Join.{joined}
 use Rattle.body_rows.specs.Body.{Row, rowsOf, patchesOf}
 use Rattle.body_rows.specs.Rows.{WholeRows}
 use Rattle.edge_uses.specs.Edges.{Use, usesFrom}
-use Rattle.edge_uses.specs.Named.{useName, useRun, rowNumbers}
-use Rattle.edge_uses.specs.FirstUsers.{usesIn}
 use Rattle.edge_uses.specs.Area.{namesAt, usesEnd}
 use Rattle.turn_walk.specs.Uses.{pairsBy}
 use Rattle.turn_walk.specs.Area.{usesOf, Sound}
@@ -73,13 +71,6 @@ pub record BodyJoined (table : List ℕ) (ps : List Float) (v m : ℕ) (W E : Li
   pub rest : drop (namesAt v m) E ≡ drop (namesAt v m) W
 
 -- ---- uses
-
--- what listing the uses leaves: behind their names their first uses, rows and runs
-pub record UsesListed (table is W : List ℕ) (points shells at : ℕ) (E : List ℕ) : Type 0 where
-  pub firsts : take (length is) (drop (at + length is) E) ≡ joined (map useName (usesIn table is W points shells))
-  pub rows : take (length is) (drop (at + 2 * length is) E) ≡ rowNumbers 0 (rowsOf table)
-  pub runs : take (length is) (drop (at + 3 * length is) E) ≡ map useRun (usesIn table is W points shells)
-  pub rest : drop (at + 4 * length is) E ≡ drop (at + 4 * length is) W
 
 -- the uses of a body whose points are joined by key, as 01 has them: edges of different shells are different
 abbrev pub keyUses : List ℕ → List Float → List ℕ → List Use

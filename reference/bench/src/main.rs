@@ -1,10 +1,11 @@
-//! Times the library's stages beside the unchanged Rust's, in one process, on the same bodies, in turn; and plans and the lookup of a peg's
-//! bins, which the Rust has not.
+//! Times the library's stages beside the unchanged Rust's, in one process, on the same bodies, in turn; the report of a body beside turning
+//! it; and plans and the lookup of a peg's bins, which the Rust has not.
 
 mod assemble;
 mod growth;
 mod peg;
 mod plan;
+mod report;
 mod stitch;
 mod turn;
 mod whole;
@@ -17,7 +18,7 @@ use driver::sheet::Sheet;
 
 const USAGE: &str = "usage: bench [STAGE]   a table of each stage, or of one: turn, turn-new-work, stitch, stitch-new-slices,
        assemble, assemble-new-slices, assemble-zeros, assemble-materials, assemble-materials-new-slices, whole, whole-new-slices, yard,
-       growth, growth-open, plan, peg";
+       growth, growth-open, plan, peg, report";
 
 /// A stage's name, the bodies it is timed on, and how both sides are timed on a body, so many rounds.
 type Stage = (&'static str, fn() -> Vec<Body>, fn(&Sheet, usize) -> Times);
@@ -43,6 +44,7 @@ const OTHERS: &[(&str, fn())] = &[
     ("growth-open", growth::table_of_open_edges),
     ("plan", plan::table),
     ("peg", peg::table),
+    ("report", report::table),
 ];
 
 const YARD_ROUNDS: usize = 101;

@@ -15,11 +15,11 @@ use driver::flat::{Flat, ROW};
 use driver::random::Random;
 use driver::sheet::Sheet;
 use refusals::{is_small, refusals};
-use settings::varied;
 use slices::{unlike, written};
 
 pub use cases::{answer_of, mesh_of, mesh_room};
 pub use refusals::refused;
+pub use settings::varied;
 pub use slices::{unlike as mesh_unlike, written as laid_over};
 pub use tally::Tally;
 
@@ -53,7 +53,7 @@ fn differs(case: &Case, r: &mut Random) -> Option<String> {
 }
 
 /// The sheet, or one that splits nothing where stitching it would take long.
-fn stitchable(sheet: &Sheet) -> Sheet {
+pub fn stitchable(sheet: &Sheet) -> Sheet {
     let long = f64::from_bits(sheet.sag) > 0.0 && open_triangles(sheet) > MOST_OPEN;
     Sheet { sag: if long { 0 } else { sheet.sag }, ..sheet.clone() }
 }

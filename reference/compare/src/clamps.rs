@@ -1,7 +1,7 @@
 //! Bodies at the last coordinates whose cells don't clamp and past them, each coordinate of a body in turn.
 
 use crate::faults::CLAMPED;
-use crate::{assembling, compared, patches, stitching, turning};
+use crate::{assembling, compared, patches, reports, stitching, turning};
 use cad_ir::math::Aabb;
 use driver::check::{LAST_UNCLAMPED, refusal};
 use driver::flat::Flat;
@@ -20,12 +20,12 @@ fn body() -> Sheet {
     sheet
 }
 
-/// What is wrong where a body isn't refused by all three calls with a number, in a work area of so many words.
+/// What is wrong where a body isn't refused by the three calls and the report with a number, in a work area of so many words.
 fn refused(body: &Flat, words: usize, number: u32, r: &mut Random) -> Result<(), String> {
     assert_eq!(refusal(body, words), number, "the model's number");
     turning::refused(body, words, number, r)?;
     let others = stitching::refused(body, words, number, r).or_else(|| assembling::refused(body, words, number, r));
-    others.map_or(Ok(()), Err)
+    others.or_else(|| reports::refused(body, words, number, r)).map_or(Ok(()), Err)
 }
 
 /// A coordinate that clamps: 24, before 31; beside a normal or a position that isn't finite 23.

@@ -4,11 +4,12 @@ use crate::fences::{Fenced, Spoil};
 use crate::pegs;
 use crate::plans::wrong;
 use crate::planted;
+use crate::reports;
 use crate::work::Work;
 use crate::zeros;
 use cad_ir::math::Aabb;
 use compare::library::{
-    Assembled, Judged, Lone, Lookup, Measured, Mesh, NearestBins, PlanRead, PlanWritten, Setting, Stitched, Turned, raw,
+    Assembled, Judged, Lone, Lookup, Measured, Mesh, NearestBins, PlanRead, PlanWritten, Report, Reported, Setting, Stitched, Turned, raw,
 };
 use driver::flat::Flat;
 
@@ -177,5 +178,31 @@ pub fn nearest_bins(lookup: &Lookup, bins: &mut Vec<u32>) -> Result<NearestBins,
     i.kept()?;
     places.kept()?;
     *bins = b.left()?;
+    Ok(answer)
+}
+
+/// The page with a body added, and its faces written to a list.
+pub fn report(asked: &Report, faces: &mut Vec<u32>, work: &mut Work) -> Result<Reported, String> {
+    let (former, body, page) = (std::mem::take(faces), &asked.body, &asked.page);
+    let (mut rows, mut p) = (Fenced::new("rows", &body.rows), Fenced::new("positions", &body.positions));
+    let (mut n, mut i) = (Fenced::new("normals", &body.normals), Fenced::new("indices", &body.indices));
+    let (a, c, mut f) = (asked.reference.min, asked.reference.max, Fenced::new("numbers of the face list", &former));
+    let (w, w_len) = (work.lent().as_mut_ptr(), work.lent().len());
+    // Sound: each pointer has as many elements behind it as the length says, in a block of its own.
+    #[rustfmt::skip]
+    let mut answer = match reports::wrong::planted() {
+        Some(wrong) => reports::wrong::report::report(asked, f.lent(), work.lent(), wrong),
+        None => unsafe {
+            raw::cad_report(rows.start(), rows.len(), p.start(), p.len(), n.start(), n.len(), i.start(), i.len(), a.x, a.y, a.z, c.x, c.y, c.z,
+                page.bodies, page.accepted, page.failed, page.triangles, page.vertices, page.empty, page.upstream, page.escaped, page.listed,
+                f.start(), f.len(), w, w_len)
+        },
+    };
+    planted::spoil("report", &mut answer, &mut [&mut rows, &mut p, &mut n, &mut i, &mut f], Some(work));
+    rows.kept()?;
+    p.kept()?;
+    n.kept()?;
+    i.kept()?;
+    *faces = f.left()?;
     Ok(answer)
 }

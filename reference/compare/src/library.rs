@@ -2,6 +2,7 @@
 
 use cad_ir::math::Aabb;
 use driver::flat::{Flat, ROW};
+use driver::page::Page;
 
 #[repr(C)]
 #[derive(Debug, Clone, Copy, PartialEq)]
@@ -72,6 +73,23 @@ pub struct NearestBins {
 
 #[repr(C)]
 #[derive(Debug, Clone, Copy, PartialEq, Default)]
+pub struct Reported {
+    pub refusal: u32,
+    pub bodies: u64,
+    pub accepted: u64,
+    pub failed: u64,
+    pub triangles: u64,
+    pub vertices: u64,
+    pub empty: u64,
+    pub upstream: u64,
+    pub escaped: u64,
+    pub listed: u64,
+    pub share_accepted: u64,
+    pub share_faces: u64,
+}
+
+#[repr(C)]
+#[derive(Debug, Clone, Copy, PartialEq, Default)]
 pub struct Cell {
     pub value: i64,
     pub clamped: u32,
@@ -85,7 +103,7 @@ pub struct Key {
 }
 
 pub mod raw {
-    use super::{Assembled, Cell, Judged, Key, Measured, NearestBins, PlanRead, PlanWritten, ROW, Stitched, Turned};
+    use super::{Assembled, Cell, Judged, Key, Measured, NearestBins, PlanRead, PlanWritten, ROW, Reported, Stitched, Turned};
 
     #[rustfmt::skip]
     unsafe extern "C" {
@@ -108,6 +126,9 @@ pub mod raw {
         pub fn cad_write_plan(list: *const i64, list_len: usize, out: *mut u8, out_len: usize) -> PlanWritten;
         pub fn cad_nearest_bins(rows: *const u32, rows_len: usize, p: *const f32, pn: usize, n: *const f32, nn: usize, i: *const u32, ni: usize,
             places: *const i64, places_len: usize, x: i64, y: i64, z: i64, bins: *mut u32, bins_len: usize) -> NearestBins;
+        pub fn cad_report(rows: *const u32, rows_len: usize, p: *const f32, pn: usize, n: *const f32, nn: usize, i: *const u32, ni: usize,
+            x0: f64, y0: f64, z0: f64, x1: f64, y1: f64, z1: f64, bodies: u64, accepted: u64, failed: u64, triangles: u64, vertices: u64,
+            empty: u64, upstream: u64, escaped: u64, listed: u64, faces: *mut u32, faces_len: usize, work: *mut u64, work_len: usize) -> Reported;
     }
 }
 
@@ -323,5 +344,25 @@ pub fn nearest_bins(lookup: &Lookup, bins: &mut [u32]) -> NearestBins {
     unsafe {
         raw::cad_nearest_bins(rows.as_ptr(), rows.len(), p.as_ptr(), p.len(), n.as_ptr(), n.len(), i.as_ptr(), i.len(),
             places.as_ptr(), places.len(), x, y, z, bins.as_mut_ptr(), bins.len())
+    }
+}
+
+/// A stitched body with its box, and the page so far.
+#[derive(Debug, Clone)]
+pub struct Report {
+    pub body: Flat,
+    pub reference: Aabb,
+    pub page: Page,
+}
+
+/// The page with a body added, whose faces wound against a neighbour follow in the face list.
+#[rustfmt::skip]
+pub fn report(asked: &Report, faces: &mut [u32], work: &mut [u64]) -> Reported {
+    let Flat { rows, positions: p, normals: n, indices: i } = &asked.body;
+    let (a, c, page) = (asked.reference.min, asked.reference.max, &asked.page);
+    unsafe {
+        raw::cad_report(rows.as_ptr(), rows.len(), p.as_ptr(), p.len(), n.as_ptr(), n.len(), i.as_ptr(), i.len(),
+            a.x, a.y, a.z, c.x, c.y, c.z, page.bodies, page.accepted, page.failed, page.triangles, page.vertices,
+            page.empty, page.upstream, page.escaped, page.listed, faces.as_mut_ptr(), faces.len(), work.as_mut_ptr(), work.len())
     }
 }

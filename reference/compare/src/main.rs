@@ -1,6 +1,6 @@
 //! Holds the proved library against the unchanged Rust on generated bodies: turning, stitching and assembling with their refusals,
-//! each patch alone, keys and cells of points, and the float steps against the processor's own. Plans, the lookup of a peg's bins and
-//! whether a mesh is closed, which the Rust has not, are held to plain models.
+//! each patch alone, keys and cells of points, and the float steps against the processor's own. Plans, the lookup of a peg's bins, whether a
+//! mesh is closed and the page over bodies, which the Rust has not, are held to plain models.
 
 mod assembling;
 mod clamps;
@@ -15,6 +15,7 @@ mod plans;
 mod plantable;
 mod planted;
 mod refusals;
+mod reports;
 mod smallest;
 mod source_bodies;
 mod steps;
@@ -46,6 +47,7 @@ const USAGE: &str = "usage: compare FIRST LAST [SIZE]
        compare --plans FIRST LAST
        compare --pegs FIRST LAST
        compare --zeros FIRST LAST
+       compare --reports FIRST LAST
        compare --plan-program PROGRAM FIRST LAST
        compare --planted FIRST LAST
        compare --keys
@@ -61,6 +63,8 @@ that is one byte away from a small plan.
 With --pegs only lookups of a peg's bins, which every run has besides: about a thousand placed bodies of each seed and their damaged copies, and without
 --small those at the limits.
 With --zeros only bodies with 0.0 and -0.0 side by side, which every run has besides, and without --small those with answers by hand.
+With --reports only reports of bodies, which every run has besides: the bodies of every kind of each seed, as given, finished and damaged, alone and in a
+row, and without --small those at the limits and one of every large kind.
 With --plan-program a program reads the plans at the limits and some of each seed, and must print each one's listing or refusal.
 With --planted faults are planted behind the library's calls, and the seeds FIRST to LAST must find each of them.
 With --keys the keys and cells of 2^32 points in which each coordinate is every f32 once, in some minutes.
@@ -192,6 +196,36 @@ fn compare_pegs_alone((first, last, _): (u64, u64, Option<usize>), tally: &mut T
     println!("compare: {}: no difference", tally.pegs.said());
 }
 
+/// The reports of bodies at the limits.
+fn compare_reports_by_hand(tally: &mut Tally) {
+    held("reports", reports::at_the_limits(&mut tally.reports));
+}
+
+fn compare_reports(first: u64, last: u64, tally: &mut Tally) {
+    for seed in first..=last {
+        tally.show("reports", seed);
+        held("reports", reports::compared(seed, size_of(seed), &mut tally.reports));
+    }
+}
+
+/// Reports of one body of every large kind, and of one at every limit.
+fn compare_large_reports(seed: u64, tally: &mut Tally) {
+    let full = [(named("large-full"), MOST_TRIANGLES)];
+    for (kind, triangles) in LARGE.iter().map(|kind| (kind, MANY_TRIANGLES)).chain(full) {
+        tally.show(kind.name, seed);
+        held("reports", reports::large(kind, seed, triangles, &mut tally.reports));
+    }
+}
+
+/// Reports of bodies and nothing else.
+fn compare_reports_alone((first, last, _): (u64, u64, Option<usize>), tally: &mut Tally) {
+    compare_reports_by_hand(tally);
+    compare_reports(first, last, tally);
+    compare_large_reports(first, tally);
+    Tally::end_line();
+    println!("compare: {}: no difference", tally.reports.said());
+}
+
 /// The bodies with both zeros that have answers by hand.
 fn compare_zeros_by_hand(tally: &mut Tally) {
     match zeros::by_hand(&mut tally.assembled) {
@@ -259,6 +293,7 @@ fn compare_seeds(first: u64, last: u64, size: Option<usize>, tally: &mut Tally) 
     }
     compare_plans(first, last, tally);
     compare_pegs(first, last, tally);
+    compare_reports(first, last, tally);
 }
 
 /// The body of a stored sheet, of any size.
@@ -275,19 +310,22 @@ fn compare_sheet(name: &str, tally: &mut Tally) {
 fn compare_all(first: u64, last: u64, size: Option<usize>, tally: &mut Tally) {
     compare_plans_by_hand(tally);
     compare_pegs_by_hand(tally);
+    compare_reports_by_hand(tally);
     compare_zeros_by_hand(tally);
     compare_clamps_by_hand(tally);
     compare_worst(WORST_POINTS, tally);
     compare_seeds(first, last, size, tally);
     compare_kinds(LARGE, first, MANY_TRIANGLES, tally);
     compare_body(&Made { kind: named("large-full"), seed: first, size: MOST_TRIANGLES }, tally);
+    compare_large_reports(first, tally);
 }
 
 /// Whether a small body of a seed shows a planted fault.
 fn shows(fault: Plant, seeds: RangeInclusive<u64>, differs: fn(&Sheet, u64) -> bool) -> bool {
     plant(Some(fault));
-    if fault.of_plans() || fault.of_pegs() {
-        let shows = if fault.of_plans() { plans::shows } else { pegs::shows };
+    let apart: [(bool, fn(u64, u64) -> bool); 3] =
+        [(fault.of_plans(), plans::shows), (fault.of_pegs(), pegs::shows), (fault.of_reports(), reports::shows)];
+    if let Some((_, shows)) = apart.into_iter().find(|(of_it, _)| *of_it) {
         let found = shows(*seeds.start(), *seeds.end());
         plant(None);
         return found;
@@ -329,6 +367,11 @@ fn find_wrong_closed(first: u64, last: u64) -> usize {
     find_wrong("answers of closed", zeros::wrong::ALL, zeros::wrong::Wrong::Nothing, zeros::wrong::plant, || zeros::shows(first, last))
 }
 
+fn find_wrong_reports(first: u64, last: u64) -> usize {
+    let all: Vec<reports::wrong::Wrong> = reports::wrong::all().collect();
+    find_wrong("reports", &all, reports::wrong::Wrong::Nothing, reports::wrong::plant, || reports::shows(first, last))
+}
+
 /// Plant each fault, and say how many the comparison finds, and the three calls in a row alone of those where a body is finished.
 fn find_planted(first: u64, last: u64) {
     let all = planted::all();
@@ -341,9 +384,11 @@ fn find_planted(first: u64, last: u64) {
         fail(&format!("compare: planted and not found: {missed:?}"));
     }
     let (plans, lookups, closed) = (find_wrong_plans(first, last), find_wrong_lookups(first, last), find_wrong_closed(first, last));
+    let reports = find_wrong_reports(first, last);
     println!(
         "compare: {} planted faults, all found; {in_a_row} of the {} behind a finished call also by the three calls in a row alone; \
-         {plans} wrong readers and writers of plans, {lookups} wrong lookups of a peg's bins and {closed} wrong answers of closed, all found",
+         {plans} wrong readers and writers of plans, {lookups} wrong lookups of a peg's bins, {closed} wrong answers of closed and {reports} wrong \
+         reports, all found",
         all.len(),
         chained.len()
     );
@@ -391,6 +436,7 @@ fn main() {
         Some((word, names)) if word == "--sheets" && !names.is_empty() => names.iter().for_each(|name| compare_sheet(name, tally)),
         Some((word, rest)) if word == "--plans" => return compare_plans_alone(numbers(rest, MOST_ROWS), tally),
         Some((word, rest)) if word == "--pegs" => return compare_pegs_alone(numbers(rest, MOST_ROWS), tally),
+        Some((word, rest)) if word == "--reports" => return compare_reports_alone(numbers(rest, MOST_ROWS), tally),
         Some((word, rest)) if word == "--zeros" => compare_zeros_alone(numbers(rest, MOST_ROWS), tally),
         Some((word, [program, rest @ ..])) if word == "--plan-program" => return compare_plan_program(program, numbers(rest, MOST_ROWS)),
         Some((word, rest)) if word == "--planted" => {

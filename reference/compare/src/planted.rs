@@ -4,7 +4,7 @@
 use crate::fences::{Place, Spoil};
 use crate::plantable::plantable;
 use crate::work::Work;
-use compare::library::{Assembled, FAILURE, Judged, Measured, NearestBins, PlanRead, PlanWritten, RANGE, Stitched, Turned};
+use compare::library::{Assembled, FAILURE, Judged, Measured, NearestBins, PlanRead, PlanWritten, RANGE, Reported, Stitched, Turned};
 use driver::flat::ROW;
 
 /// What is changed: field k of the answer, slice k, or the work area.
@@ -58,10 +58,15 @@ impl Plant {
     pub fn of_pegs(&self) -> bool {
         self.call == "nearest_bins"
     }
+
+    /// Whether it lies behind the call that adds a body to a page.
+    pub fn of_reports(&self) -> bool {
+        self.call == "report"
+    }
 }
 
 /// The calls, with how many fields their answers and how many slices besides the work area they have, and whether they have one.
-const CALLS: [(&str, usize, usize, bool); 9] = [
+const CALLS: [(&str, usize, usize, bool); 10] = [
     ("turn", 3, 4, true),
     ("stitch", 4, 8, true),
     ("assemble", 10, 11, true),
@@ -71,6 +76,7 @@ const CALLS: [(&str, usize, usize, bool); 9] = [
     ("read_plan", 2, 2, false),
     ("write_plan", 2, 2, false),
     ("nearest_bins", 2, 6, false),
+    ("report", 12, 5, true),
 ];
 
 plantable!(Plant);
@@ -128,6 +134,8 @@ raised!(Judged, |_, _, _| 0; refusal + 1, verdict + 1);
 raised!(PlanRead, |_, _, _| 0; refusal + 1, entries + 1);
 raised!(PlanWritten, |_, _, _| 0; refusal + 1, length + 1);
 raised!(NearestBins, |_, _, _| 0; refusal + 1, bins + 1);
+raised!(Reported, |_, _, _| 0; refusal + 1, bodies + 1, accepted + 1, failed + 1, triangles + 1, vertices + 1, empty + 1, upstream + 1,
+    escaped + 1, listed + 1, share_accepted + 1, share_faces + 1);
 
 /// Change what the planted fault changes, if it is one of this call.
 pub fn spoil(call: &str, answer: &mut dyn Answer, slices: &mut [&mut dyn Spoil], work: Option<&mut Work>) {

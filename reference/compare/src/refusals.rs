@@ -1,7 +1,7 @@
 //! Broken bodies, which every call refuses with the number of the first check that fails.
 
 use crate::faults::{FAULTS, Fault, broken};
-use crate::{assembling, stitching, turning};
+use crate::{assembling, reports, stitching, turning};
 use driver::check::refusal;
 use driver::flat::Flat;
 use driver::random::Random;
@@ -16,7 +16,8 @@ fn refused(body: &Flat, faults: &[&Fault], r: &mut Random) -> Result<bool, Strin
     let what = turning::refused(&before, words, number, r)
         .err()
         .or_else(|| stitching::refused(&before, words, number, r))
-        .or_else(|| assembling::refused(&before, words, number, r));
+        .or_else(|| assembling::refused(&before, words, number, r))
+        .or_else(|| reports::refused(&before, words, number, r));
     what.map_or(Ok(true), |what| Err(format!("{}: {what}", names(faults))))
 }
 

@@ -3,6 +3,7 @@
 use crate::assembling;
 use crate::pegs;
 use crate::plans;
+use crate::reports;
 use crate::stitching::Held;
 use driver::sheet::Sheet;
 use std::io::IsTerminal;
@@ -36,6 +37,7 @@ pub struct Tally {
     pub worst: u64,
     pub plans: plans::Tally,
     pub pegs: pegs::Tally,
+    pub reports: reports::Tally,
     shown: Option<Instant>,
 }
 
@@ -66,10 +68,11 @@ impl Tally {
         if shown.elapsed() > pause {
             self.shown = Some(Instant::now());
             let (start, end) = if terminal { ("\r\x1b[K", "") } else { ("", "\n") };
-            let Tally { bodies, refusals, plans, pegs, .. } = self;
-            let (plans, lookups) = (plans.plans, pegs.lookups);
+            let Tally { bodies, refusals, plans, pegs, reports, .. } = self;
+            let (plans, lookups, reports) = (plans.plans, pegs.lookups, reports.reports);
             eprint!(
-                "{start}compare: {bodies} bodies, {refusals} refusals, {plans} plans, {lookups} lookups, now {kind} of seed {seed}{end}"
+                "{start}compare: {bodies} bodies, {refusals} refusals, {plans} plans, {lookups} lookups, {reports} reports, \
+                 now {kind} of seed {seed}{end}"
             );
         }
     }
@@ -86,10 +89,11 @@ impl Tally {
         let assembled = self.assembled.said();
         let plans = if self.plans.read == 0 { String::new() } else { format!("; {}", self.plans.said()) };
         let pegs = if self.pegs.lookups == 0 { String::new() } else { format!("; {}", self.pegs.said()) };
+        let reports = if self.reports.reports == 0 { String::new() } else { format!("; {}", self.reports.said()) };
         format!(
             "{worst} bodies made by hand, {bodies} of up to {triangles} triangles, {rows} rows; {stitched} stitched with their own sag, {split} of them split, \
              {splits} splits ({outside} more outside the condition, {open} too open); {assembled}; {refusals} refusals, {steps} float steps, \
-             {keys} keys{plans}{pegs}"
+             {keys} keys{plans}{pegs}{reports}"
         )
     }
 }

@@ -1,7 +1,9 @@
-//! A body finished by the library's three calls, each on what the one before left, with one work area; beside the whole Rust.
+//! A body finished by the library's three calls, each on what the one before left, with one work area; beside the whole Rust. Then it is
+//! added to a page with the same area, beside the model.
 
 use crate::assembling::{answer_of, laid_over, mesh_of, mesh_room, mesh_unlike};
 use crate::lent;
+use crate::reports;
 use crate::stitching::{Held, outputs};
 use crate::work::Work;
 use compare::library::{Assembled, Setting, Stitched, Turned};
@@ -49,7 +51,9 @@ fn finished(sheet: &Sheet, done: &Finished, r: &mut Random) -> Result<(), String
     let mut mesh = room.clone();
     let assembled: Assembled = lent::assemble(&body, &setting(sheet), &mut mesh, &mut work)?;
     same(answer_of(done), assembled)?;
-    mesh_unlike(&laid_over(&mesh_of(done), &room), &mesh).or_else(|| work.wrong(needed)).map_or(Ok(()), Err)
+    mesh_unlike(&laid_over(&mesh_of(done), &room), &mesh).or_else(|| work.wrong(needed)).map_or(Ok(()), Err)?;
+    reports::of_finished(body, box_of(sheet), &mut work, r)?;
+    work.wrong(needed).map_or(Ok(()), Err)
 }
 
 /// Where a body is finished in another way than by the whole Rust. A body that isn't stitched with its own sag, for being outside 01's

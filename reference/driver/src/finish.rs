@@ -47,6 +47,14 @@ pub struct Finished {
     pub stitched_indices: usize,
 }
 
+/// What the source's winding audit prints of a finished body: how many face numbers are wound against a neighbour, and twelve of them at
+/// most, each with its count. Which ones of equal counts, and in which order, hangs on map order.
+#[derive(Debug, Clone, PartialEq, Default)]
+pub struct Wound {
+    pub faces: usize,
+    pub printed: Vec<(u32, u64)>,
+}
+
 impl Finished {
     /// Added by document 01 and amended by 02: the two zeros being one point, no edge is open and none is over.
     pub fn closed(&self) -> bool {
@@ -108,6 +116,16 @@ fn numbers(lines: &[String], start: &str, word: &str) -> Vec<usize> {
     line[start.len()..].split(|c: char| !c.is_ascii_digit()).filter_map(|n| n.parse().ok()).collect()
 }
 
+/// What the source's winding audit prints.
+fn wound(lines: &[String]) -> Wound {
+    let face = |line: &String| {
+        let words: Vec<&str> = line.strip_prefix("[wind] body face ")?.split_whitespace().collect();
+        let count = words.iter().skip_while(|word| **word != "conflicts").nth(1);
+        Some((words[0].parse().expect("a face number"), count.expect("a count").parse().expect("a count")))
+    };
+    Wound { faces: numbers(lines, "[wind] body: ", "wound against")[0], printed: lines.iter().filter_map(face).collect() }
+}
+
 /// Why a row fails that the source does not accept. Its report has the reach and the span only as words.
 fn failure(result: &Result<Patch, String>, reference: &Aabb) -> Option<Failure> {
     match result {
@@ -166,21 +184,30 @@ pub fn ranges_with_bins(
     accepted.into_iter().zip(ranges).map(of_row).collect()
 }
 
+/// The vertices and indices of a stitched body, or refusal 33 where it passes the limits.
+fn stitched_sizes(faces: &[(usize, FaceId, Result<Patch, String>)]) -> Result<(usize, usize), Refusal> {
+    let patches = || faces.iter().filter_map(|(_, _, r)| r.as_ref().ok());
+    let (vertices, indices) = (patches().map(|p| p.positions.len()).sum(), patches().map(|p| p.indices.len()).sum());
+    if vertices > MOST_VERTICES || indices > MOST_INDICES {
+        return Err(Refusal::new(33, "the stitched body has more than 262,144 vertices or 786,432 indices"));
+    }
+    Ok((vertices, indices))
+}
+
 /// The body finished, or refusal 33 where the stitched body passes the limits.
 pub fn finish(sheet: &Sheet) -> Result<Finished, Refusal> {
+    finish_and_audit(sheet).map(|(done, _)| done)
+}
+
+/// The same, with what the winding audit prints.
+pub fn finish_and_audit(sheet: &Sheet) -> Result<(Finished, Wound), Refusal> {
     watch();
     let reference = box_of(sheet);
     let sag = f64::from_bits(sheet.sag);
     let mut faces = faces_of(sheet);
     let (turned, against) = probe::orient_shell(&mut faces);
     let splits = probe::stitch_t_junctions(&mut faces, sag);
-    let patches = || faces.iter().filter_map(|(_, _, r)| r.as_ref().ok());
-    let stitched_vertices = patches().map(|p| p.positions.len()).sum();
-    let stitched_indices = patches().map(|p| p.indices.len()).sum();
-    if stitched_vertices > MOST_VERTICES || stitched_indices > MOST_INDICES {
-        return Err(Refusal::new(33, "the stitched body has more than 262,144 vertices or 786,432 indices"));
-    }
-
+    let (stitched_vertices, stitched_indices) = stitched_sizes(&faces)?;
     let solid = Solid::new(sheet.rows.iter().map(|r| (r.shell, r.face, outcome_of(r))).collect(), reference);
     let default = sheet.default.map(MaterialId);
     record::take_ranges();
@@ -194,7 +221,7 @@ pub fn finish(sheet: &Sheet) -> Result<Finished, Refusal> {
     let failures = reported_failures(&faces, &sheet.rows, &reference, &report);
     assert_eq!(ranges.len(), report.faces_ok, "a range for each accepted row");
 
-    Ok(Finished {
+    let done = Finished {
         positions: mesh.positions,
         normals: mesh.normals,
         parts: mesh.parts.iter().map(|p| (p.material, p.start, p.count)).collect(),
@@ -210,5 +237,6 @@ pub fn finish(sheet: &Sheet) -> Result<Finished, Refusal> {
         over: cracks[1],
         stitched_vertices,
         stitched_indices,
-    })
+    };
+    Ok((done, wound(&printed)))
 }

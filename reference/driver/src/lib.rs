@@ -1,5 +1,6 @@
 //! The bench sheet (document 01) read, checked, finished by the unchanged Rust, and printed; and sheets made up at random.
 
+pub mod audit;
 pub mod check;
 pub mod closed;
 pub mod command;
@@ -7,6 +8,7 @@ pub mod condition;
 pub mod finish;
 pub mod flat;
 pub mod generate;
+pub mod page;
 pub mod print;
 pub mod random;
 pub mod sheet;

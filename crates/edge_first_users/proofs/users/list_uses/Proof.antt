@@ -1,9 +1,9 @@
 -- `list_uses` meets its contract. Assumes nothing.
-use Rattle.turn_pairs.proofs.StageLaws.{rows-room, runs-room, uses-listed}
+use Rattle.edge_first_users.proofs.ListLaws.{rows-room, runs-room, uses-listed}
 use native.Mathlib.Omega.{arith}
 use borrow.Author.Needs.{needs}
-use Rattle.turn_pairs.proofs.uses.list_uses.Statement.{statement}
-use Rattle.turn_pairs.proofs.uses.list_uses.Tie as tie
+use Rattle.edge_first_users.proofs.users.list_uses.Statement.{statement}
+use Rattle.edge_first_users.proofs.users.list_uses.Tie as tie
 
 first-users-requires : tie.Need-first-users-requires
 first-users-requires c κs = search needs

@@ -1,0 +1,3 @@
+-- The laws that the proofs of this crate cite, by subject.
+pub mod ListLaws
+pub mod ReportLaws

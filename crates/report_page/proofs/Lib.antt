@@ -1,0 +1,4 @@
+-- The laws that the proofs of this crate cite, by subject.
+pub mod ShareLaws
+pub mod PageLaws
+pub mod CountLaws
