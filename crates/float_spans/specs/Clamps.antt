@@ -8,7 +8,7 @@ use lib.Ieee.{Float, nan, inf, fin, Format, up, down, unlike, round, sum, neg, a
 use lib.Ieee.Scale.{finite}
 use Rattle.float_spans.specs.Rounds.{number, upper, upper-round}
 use Rattle.float_spans.specs.Monotone.{add-number}
-use Rattle.float_spans.specs.Orders.{NotBelow, refuted, le-of-lt, below-of-le}
+use Rattle.float_spans.specs.Orders.{NotBelow, refuted, above-of-lt}
 use Rattle.float_spans.specs.Everywhere.{top, bottom, tail}
 use Rattle.float_spans.specs.declared.Span.{Span}
 use Rattle.float_spans.specs.Spans.{Holds, Finite}
@@ -27,10 +27,6 @@ finite-inside n (fin s i g) m h k = tt
 either : (b : Bool) (P : Bool → Type 0) → (T b → P true) → P false → P b
 either true P h k = h tt
 either false P h k = k
-
--- x < y gives that y is not below x
-above-of-lt : (x y : Float) → T (lt x y) → NotBelow y x
-above-of-lt x y h = below-of-le y x (le-of-lt x y h)
 
 -- t is still in the span
 pub clamp-holds : (n m : Float) {X : Span} {t : Float} → T (lt n t) → T (lt t m) → Holds X t → Holds (clamp n m X) t

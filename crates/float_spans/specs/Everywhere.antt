@@ -1,8 +1,9 @@
 -- Sum, difference and quotient keep `NotBelow` of all floats, infinities and NaN included: no premise on the operands or the results. Assumes nothing.
+use mathlib.Core.Path.{_≡_, refl}
 use mathlib.Core.Logic.{_⊎_, inl, inr}
 use mathlib.Core.Bool.{Bool, true, false}
 use lib.Dec.{T}
-use lib.Ieee.{Float, nan, inf, fin, Format, neg, add, sub, div, lt}
+use lib.Ieee.{Float, nan, inf, fin, Format, neg, add, sub, mul, div, lt}
 use lib.Ieee.Positive.{above}
 use lib.Ieee.Scale.{finite}
 use Rattle.float_spans.specs.Rounds.{number, neg-le}
@@ -30,6 +31,11 @@ unfolding lt
 tail nan h = h
 tail (inf t) h = h
 tail (fin t n d) h = h
+
+-- a product by a NaN is one
+pub nan-mul : (f : Format) (c : Float) → mul f nan c ≡ nan
+unfolding mul
+nan-mul f c = refl
 
 -- a finite float is a number
 pub finite-number : (x : Float) → T (finite x) → T (number x)

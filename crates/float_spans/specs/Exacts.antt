@@ -9,7 +9,8 @@ use lib.Ieee.{Float, nan, inf, fin, Format, up, down, unlike, round, sum, neg, a
 use lib.Ieee.Fits.{up-pos, down-pos}
 use lib.Ieee.Positive.{num, den, positive}
 use lib.Ieee.Scale.{finite}
-use Rattle.float_spans.specs.Signs.{plus, less, over, under, plus-mul, less-mul}
+use Rattle.float_rounding.specs.Near.{plus, less}
+use Rattle.float_spans.specs.Signs.{over, under, plus-mul, less-mul}
 use Rattle.float_spans.specs.Rounds.{Rounded}
 
 -- ---- the sum

@@ -9,7 +9,7 @@ use lib.Ieee.Scale.{finite}
 use Rattle.float_spans.specs.Rounds.{number, round-neg}
 use Rattle.float_spans.specs.Monotone.{nought, mul-le}
 use Rattle.float_spans.specs.Orders.{NotBelow, not-below, refuted, lt-le, le-of-not, below-of-le, le-of-below}
-use Rattle.float_spans.specs.Everywhere.{top, bottom, tail, passes, add-keeps, sub-keeps, div-keeps}
+use Rattle.float_spans.specs.Everywhere.{top, bottom, tail, nan-mul, passes, add-keeps, sub-keeps, div-keeps}
 use Rattle.float_spans.specs.Squares.{nought-le}
 
 -- x ≤ x' and y ≤ y' give x + y ≤ x' + y'
@@ -36,10 +36,6 @@ scaled f s (fin false (suc n) d) p = ap (λ (b : Bool). cond b nan (inf (unlike 
     same : (s : Bool) → unlike s false ≡ s
     same true = refl
     same false = refl
-
-nan-mul : (f : Format) (c : Float) → mul f nan c ≡ nan
-unfolding mul
-nan-mul f c = refl
 
 nan-lt : (z : Float) → T (lt nan z) → ⊥
 unfolding lt

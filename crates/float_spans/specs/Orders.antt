@@ -152,6 +152,10 @@ pub le-of-lt : (x y : Float) → T (lt x y) → T (le x y)
 unfolding le
 le-of-lt x y h = or-l (lt x y) (eq x y) h
 
+-- x < y gives that y is not below x
+pub above-of-lt : (x y : Float) → T (lt x y) → NotBelow y x
+above-of-lt x y h = below-of-le y x (le-of-lt x y h)
+
 -- a number is not above itself
 pub le-self : (x : Float) → T (number x) → T (le x x)
 le-self x p = le-of-below x x p p (not-self x)

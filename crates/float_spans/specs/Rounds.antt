@@ -10,7 +10,8 @@ use lib.Ieee.{Float, nan, inf, fin, Format, prec, emax, low, up, down, odd, unit
 use lib.Ieee.Fits.{round-is}
 use lib.Ieee.Exact.{HasValue, round-exact}
 use lib.Ieee.Order.{round-mono}
-use Rattle.float_spans.specs.Signs.{plus, less, le→Le, Le→le}
+use Rattle.float_rounding.specs.Near.{plus, less}
+use Rattle.float_spans.specs.Signs.{le→Le, Le→le}
 
 -- ---- the other sign
 odd-neg : (d q k l : ℕ) → odd d true q k l ≡ neg (odd d false q k l)

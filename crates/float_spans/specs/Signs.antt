@@ -1,24 +1,16 @@
 -- The order of finite floats as one of signed fractions: ±a is `plus s a - less s a`. Assumes nothing.
-use mathlib.Core.Path.{_≡_, refl, subst}
+use mathlib.Core.Path.{_≡_, refl}
 use mathlib.Core.Logic.{_⊎_, inl, inr}
-use mathlib.Core.Bool.{Bool, true, false, _&&_, _||_}
+use mathlib.Core.Bool.{Bool, true, false, _||_}
 use Prim.Native.Nat.{ℕ, _+_, _*_, _≤_, _<_}
 use native.Mathlib.Nat.{eq-or-lt-of-le}
 use native.Mathlib.Omega.{arith}
-use lib.Dec.{T, eqb, eqb-refl, eqb→eq, ltb→lt, lt→ltb}
+use lib.Dec.{T, eqb, eqb→eq, ltb→lt, lt→ltb}
 use lib.Ieee.{Float, nan, inf, fin, up, down, below, level, lt, le}
+use lib.Ieee.Fits.{and-i, and-l, and-r, eq→eqb}
 use lib.Ieee.Positive.{den}
 use lib.Ieee.Scale.{finite}
-
--- what a signed number has above zero
-abbrev pub plus : Bool → ℕ → ℕ
-plus false a = a
-plus true a = 0
-
--- what it has below zero
-abbrev pub less : Bool → ℕ → ℕ
-less false a = 0
-less true a = a
+use Rattle.float_rounding.specs.Near.{plus, less}
 
 -- the first test passes
 pub or-l : (a b : Bool) → T a → T (a || b)
@@ -34,21 +26,6 @@ or-r false b t = t
 pub or-split : (a b : Bool) → T (a || b) → T a ⊎ T b
 or-split true b t = inl tt
 or-split false b t = inr t
-
-and-i : (a b : Bool) → T a → T b → T (a && b)
-and-i true b s t = t
-and-i false b s t = s
-
-and-l : (a b : Bool) → T (a && b) → T a
-and-l true b t = tt
-and-l false b t = t
-
-and-r : (a b : Bool) → T (a && b) → T b
-and-r true b t = t
-and-r false b t = absurd t
-
-eq→eqb : (a b : ℕ) → a ≡ b → T (eqb a b)
-eq→eqb a b h = subst (λ (x : ℕ). T (eqb a x)) h (eqb-refl a)
 
 -- ---- ±a < ±b
 below→ : (s t : Bool) (a b : ℕ) → T (below s a t b) → plus s a + less t b < plus t b + less s a
@@ -71,10 +48,10 @@ level→ true false a b h = omega (arith, eqb→eq a b (and-l (eqb a b) (eqb a 0
 level→ true true a b h = omega (arith, eqb→eq a b (and-l (eqb a b) true h))
 
 →level : (s t : Bool) (a b : ℕ) → plus s a + less t b ≡ plus t b + less s a → T (level s a t b)
-→level false false a b h = and-i (eqb a b) true (eq→eqb a b (omega arith)) tt
-→level false true a b h = and-i (eqb a b) (eqb a 0) (eq→eqb a b (omega arith)) (eq→eqb a 0 (omega arith))
-→level true false a b h = and-i (eqb a b) (eqb a 0) (eq→eqb a b (omega arith)) (eq→eqb a 0 (omega arith))
-→level true true a b h = and-i (eqb a b) true (eq→eqb a b (omega arith)) tt
+→level false false a b h = and-i (eqb a b) true (eq→eqb {a = a} {b = b} (omega arith)) tt
+→level false true a b h = and-i (eqb a b) (eqb a 0) (eq→eqb {a = a} {b = b} (omega arith)) (eq→eqb {a = a} {b = 0} (omega arith))
+→level true false a b h = and-i (eqb a b) (eqb a 0) (eq→eqb {a = a} {b = b} (omega arith)) (eq→eqb {a = a} {b = 0} (omega arith))
+→level true true a b h = and-i (eqb a b) true (eq→eqb {a = a} {b = b} (omega arith)) tt
 
 -- ---- ±a ≤ ±b
 order→ : (s t : Bool) (a b : ℕ) → T (below s a t b || level s a t b) → plus s a + less t b ≤ plus t b + less s a

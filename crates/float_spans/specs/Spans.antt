@@ -10,7 +10,7 @@ use Rattle.float_spans.specs.declared.Span.{Span}
 use Rattle.float_spans.specs.Rounds.{number}
 use Rattle.float_spans.specs.Monotone.{nought, mul-le, mul-ge}
 use Rattle.float_spans.specs.Orders.{NotBelow, not-below, le-of-not, below-of-le, le-of-below, le-trans, le-of-lt, le-self, not-self, number-le}
-use Rattle.float_spans.specs.Everywhere.{finite-number, tail, add-keeps, sub-keeps, div-keeps}
+use Rattle.float_spans.specs.Everywhere.{finite-number, tail, nan-mul, add-keeps, sub-keeps, div-keeps}
 use Rattle.float_spans.specs.Squares.{nought-le, upper-square, square-above, square-under, finite-between}
 
 -- x lies in X: it is not below the low end and not above the high one. An end that is a NaN says nothing, and a NaN lies in every span.
@@ -130,10 +130,6 @@ cases : (x : Float) → (x ≡ nan) ⊎ T (number x)
 cases nan = inl refl
 cases (inf s) = inr tt
 cases (fin s m e) = inr tt
-
-nan-mul : (f : Format) (c : Float) → mul f nan c ≡ nan
-unfolding mul
-nan-mul f c = refl
 
 -- x * c lies in X times c, for finite ends and a finite c
 pub times-holds : (f : Format) {X : Span} {x : Float} (c : Float) → Finite X → T (finite c) → Holds X x → Holds (times f X c) (mul f x c)

@@ -7,7 +7,7 @@ use lib.Ieee.Positive.{above}
 use lib.Ieee.Scale.{finite}
 use Rattle.float_spans.specs.Rounds.{number, upper, number-upper}
 use Rattle.float_spans.specs.Monotone.{mul-number}
-use Rattle.float_spans.specs.Orders.{NotBelow, below-of-le, le-of-lt}
+use Rattle.float_spans.specs.Orders.{NotBelow, above-of-lt}
 use Rattle.float_spans.specs.Everywhere.{add-keeps}
 use Rattle.float_spans.specs.Squares.{upper-square}
 use Rattle.float_spans.specs.declared.Span.{Span}
@@ -63,10 +63,7 @@ module _ (s : Edge) {W : Bounds} {w : Vec3} (g : FiniteBox W) (k : FiniteVec (s 
 
 -- t that counts lies among what counts
 pub counting-holds : {t : Float} → T (lt near-end t) → T (lt t far-end) → Holds counting t
-counting-holds {t} p q = record { least = below near-end t p; most = below t far-end q }
-  where
-    below : (x y : Float) → T (lt x y) → NotBelow y x
-    below x y h = below-of-le y x (le-of-lt x y h)
+counting-holds {t} p q = record { least = above-of-lt near-end t p; most = above-of-lt t far-end q }
 
 -- ---- (ii) the way from the projection, for a t in u
 off-at : {X u : Span} {x t : Float} (c : Float) → Finite u → T (finite c) → Holds X x → Holds u t → Holds (minus binary64 X (times binary64 u c)) (sub x (mul c t))

@@ -9,9 +9,11 @@ use native.Mathlib.Omega.{arith}
 use lib.Dec.{T, eqb, eqb-refl, lt→ltb}
 use lib.Ieee as Ieee
 use lib.Ieee.{Float, nan, inf, fin, binary64, up, down, lt, eq}
+use lib.Ieee.Bits.{is-true}
 use lib.Ieee.Fits.{add-fits}
 use lib.Ieee.Positive.{above}
 use lib.Ieee.Scale.{finite}
+use Rattle.float_steps.specs.Patterns.{test-holds}
 use Rattle.float_spans.specs.Signs.{or-split}
 use Rattle.float_spans.specs.Rounds.{number, upper}
 use Rattle.float_spans.specs.Orders.{refuted, lt-of-lt-of-not}
@@ -45,13 +47,6 @@ above-of-upper (fin false m e) p h = elim (eq-zero-or-pos m) [ inl z ↦ absurd 
         no : (t : Bool) → T t → T (not (t && true)) → ⊥
         no true p q = q
         no false p q = p
-
-holds : (b : Bool) → T b → b ≡ true
-holds true h = refl
-holds false h = absurd h
-
-passed : {b : Bool} → b ≡ true → T b
-passed h = subst T (sym h) tt
 
 -- An edge of its squared length, finite ways along it and to r, and a box whose ways have finite ends: if the box is far from the edge, none of its points is within the sag.
 module _ (s : Edge) (r : Vec3) (B : Bounds) (e : s .squared ≡ dot (s .along) (s .along)) (d : FiniteVec (s .along))
@@ -102,7 +97,7 @@ module _ (s : Edge) (r : Vec3) (B : Bounds) (e : s .squared ≡ dot (s .along) (
   -- no point of a far box is within the sag
   pub far-rule : (sag b : Float) → Beyond sag b → far B s b ≡ true → withinSag sag s r ≡ false
   unfolding withinSag project lengthV
-  far-rule sag b y f = go (not (eq (s .squared) zero64)) (lt near-end t) (lt t far-end) (λ z p q. y .far (dot off off) (add-fits binary64 _ _) (holds (lt b (dot off off)) (beyond z p q b (passed f))))
+  far-rule sag b y f = go (not (eq (s .squared) zero64)) (lt near-end t) (lt t far-end) (λ z p q. y .far (dot off off) (add-fits binary64 _ _) (is-true (lt b (dot off off)) (beyond z p q b (test-holds (far B s b) f))))
     where
       go : (x y z : Bool) → (T x → T y → T z → lt sag (lengthV off) ≡ true)
           → elim (cond {A = Option Hit} (x && y && z) (some (record { t = t; distance = lengthV off })) none) [ none ↦ false | some h ↦ not (lt sag (h .distance)) ] ≡ false
