@@ -11,15 +11,15 @@ use Rattle.float_spans.specs.declared.Span.{Span}
 use Rattle.float_spans.specs.Spans.{Holds, lower, higher, lower-le, le-higher, low-le, le-high, holds-of-le}
 use Rattle.float_spans.specs.Small.{Single}
 
--- the span of nothing, of one float, and of two spans
+-- the span of nothing
 abbrev pub empty : Span
 empty = record { low = inf false; high = inf true }
 
--- of one float
+-- the span of one float
 abbrev pub one : Float → Span
 one x = record { low = x; high = x }
 
--- of two spans
+-- the least span that holds two spans
 abbrev pub hull : Span → Span → Span
 hull X Y = record { low = lower (X .low) (Y .low); high = higher (X .high) (Y .high) }
 

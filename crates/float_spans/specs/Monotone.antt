@@ -1,5 +1,5 @@
 -- Sum, difference, product and quotient keep or turn the order of finite operands. The results may be infinite; they are no NaN. Assumes nothing.
-use mathlib.Core.Path.{_≡_, refl, subst}
+use mathlib.Core.Path.{_≡_, subst}
 use mathlib.Core.Bool.{false}
 use Prim.Native.Nat.{ℕ, _+_, _-_, _*_, _≤_}
 use native.Mathlib.Nat.{mul-le-mul-right, mul-add, add-mul, mul-assoc, mul-comm, mul-left-comm}
@@ -16,11 +16,6 @@ use Rattle.float_spans.specs.Exacts.{add-rounded, mul-rounded, div-round
 -- +0
 abbrev pub nought : Float
 nought = fin false 0 (pos 0)
-
--- x - y is x + -y
-sub-is : (f : Format) (x y : Float) → sub f x y ≡ add f x (neg y)
-unfolding sub
-sub-is f x y = refl
 
 -- ---- sums
 -- a sum grows with each part

@@ -1,7 +1,7 @@
 -- Rounding keeps the order of signed values: the unsigned law of the library at both signs, and zeros. Assumes nothing.
 use mathlib.Core.Path.{_≡_, refl, sym, ap, _∙_, subst}
 use mathlib.Core.Bool.{Bool, true, false, not, cond}
-use Prim.Native.Nat.{ℕ, zero, suc, _+_, _-_, _*_, _^_, _≤_, _<_}
+use Prim.Native.Nat.{ℕ, zero, suc, _+_, _*_, _^_, _≤_, _<_}
 use native.Mathlib.Nat.{eq-of-mul-eq-mul-right}
 use native.Mathlib.Omega.{arith}
 use lib.Dec.{T, ltb}
@@ -167,7 +167,7 @@ rounded-le {f} {x} {y} {p} {n} {c} {q} {m} {d} r t h =
     both : (a a' b b' : ℕ) → a + n ≡ a' + p → b + m ≡ b' + q → a * d + b' * c ≤ b * c + a' * d
     both a a' b b' u v = omega (arith, ap (λ (z : ℕ). z * d) u, ap (λ (z : ℕ). z * c) v)
 
--- a rounded value is a number
+-- whether a float is a number: no NaN
 abbrev pub number : Float → Bool
 number nan = false
 number (inf s) = true

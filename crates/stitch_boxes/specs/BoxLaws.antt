@@ -43,7 +43,7 @@ pub dot-within : {W : Bounds} {w : Vec3} (d : Vec3) → FiniteBox W → FiniteVe
 dot-within d g k h =
     plus-holds binary64 (plus-holds binary64 (times-holds binary64 (d .x) (g .x) (k .x) (h .x)) (times-holds binary64 (d .y) (g .y) (k .y) (h .y))) (times-holds binary64 (d .z) (g .z) (k .z) (h .z))
 
--- ---- (i) the parameter t, where it counts: it lies in the span of the box, cut to what counts
+-- ---- the parameter t, where it counts: it lies in the span of the box, cut to what counts
 module _ (s : Edge) {W : Bounds} {w : Vec3} (g : FiniteBox W) (k : FiniteVec (s .along)) (a : T (above (s .squared))) (h : Within W w) where
   -- the parameter
   abbrev pub parameter : Float
@@ -65,7 +65,7 @@ module _ (s : Edge) {W : Bounds} {w : Vec3} (g : FiniteBox W) (k : FiniteVec (s 
 pub counting-holds : {t : Float} → T (lt near-end t) → T (lt t far-end) → Holds counting t
 counting-holds {t} p q = record { least = above-of-lt near-end t p; most = above-of-lt t far-end q }
 
--- ---- (ii) the way from the projection, for a t in u
+-- ---- the way from the projection, for a t in u
 off-at : {X u : Span} {x t : Float} (c : Float) → Finite u → T (finite c) → Holds X x → Holds u t → Holds (minus binary64 X (times binary64 u c)) (sub x (mul c t))
 off-at {X} {u} {x} {t} c g k h l = subst (λ (z : Float). Holds (minus binary64 X (times binary64 u c)) (sub x z)) (mul-swap binary64 t c) (minus-holds binary64 h (times-holds binary64 c g k l))
 
@@ -73,7 +73,7 @@ off-at {X} {u} {x} {t} c g k h l = subst (λ (z : Float). Holds (minus binary64 
 pub off-within : {W : Bounds} {w : Vec3} {u : Span} {t : Float} (d : Vec3) → Finite u → FiniteVec d → Within W w → Holds u t → Within (offs W d u) (subV w (scale d t))
 off-within d g k h l = record { x = off-at (d .x) g (k .x) (h .x) l; y = off-at (d .y) g (k .y) (h .y) l; z = off-at (d .z) g (k .z) (h .z) l }
 
--- ---- (iii) the square of the distance is not below the least one
+-- ---- the square of the distance is not below the least one
 pub square-within : {O : Bounds} {o : Vec3} → Within O o → NotBelow (dot o o) (leastSum O)
 square-within {O} {o} h =
     add-keeps binary64 (add-keeps binary64 (square-holds binary64 (O .x) (o .x) (h .x)) (square-holds binary64 (O .y) (o .y) (h .y))) (square-holds binary64 (O .z) (o .z) (h .z))

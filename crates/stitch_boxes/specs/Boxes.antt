@@ -31,15 +31,15 @@ pub record FiniteVec (p : Vec3) : Type 0 where
   pub y : T (finite (p .y))
   pub z : T (finite (p .z))
 
--- the box of nothing, of one point, and of two boxes
+-- the box of nothing
 abbrev pub emptyBox : Bounds
 emptyBox = record { x = empty; y = empty; z = empty }
 
--- of one point
+-- the box of one point
 abbrev pub pointBox : Vec3 → Bounds
 pointBox p = record { x = one (p .x); y = one (p .y); z = one (p .z) }
 
--- of two boxes
+-- the least box that holds two boxes
 abbrev pub hullV : Bounds → Bounds → Bounds
 hullV A B = record { x = hull (A .x) (B .x); y = hull (A .y) (B .y); z = hull (A .z) (B .z) }
 
@@ -55,15 +55,15 @@ dotV W d = plus binary64 (plus binary64 (times binary64 (W .x) (d .x)) (times bi
 abbrev pub counting : Span
 counting = record { low = near-end; high = far-end }
 
--- the low end of what counts, and the high one
+-- the low end of a span cut to what counts
 abbrev pub startOf : Float → Float
 startOf l = cond (lt near-end l) l near-end
 
--- the high end of what counts
+-- the high end of a span cut to what counts
 abbrev pub endOf : Float → Float
 endOf h = cond (lt h far-end) h far-end
 
--- what a span has of them
+-- what a span has of the parameters that count
 abbrev pub inside : Span → Span
 inside u = clamp near-end far-end u
 
