@@ -97,7 +97,9 @@ module _ (s : Edge) (r : Vec3) (B : Bounds) (e : s .squared ≡ dot (s .along) (
   -- no point of a far box is within the sag
   pub far-rule : (sag b : Float) → Beyond sag b → far B s b ≡ true → withinSag sag s r ≡ false
   unfolding withinSag project lengthV
-  far-rule sag b y f = go (not (eq (s .squared) zero64)) (lt near-end t) (lt t far-end) (λ z p q. y .far (dot off off) (add-fits binary64 _ _) (is-true (lt b (dot off off)) (beyond z p q b (test-holds (far B s b) f))))
+  far-rule sag b y f =
+      go (not (eq (s .squared) zero64)) (lt near-end t) (lt t far-end)
+      (λ z p q. y .far (dot off off) (add-fits binary64 _ _) (is-true (lt b (dot off off)) (beyond z p q b (test-holds (far B s b) f))))
     where
       go : (x y z : Bool) → (T x → T y → T z → lt sag (lengthV off) ≡ true)
           → elim (cond {A = Option Hit} (x && y && z) (some (record { t = t; distance = lengthV off })) none) [ none ↦ false | some h ↦ not (lt sag (h .distance)) ] ≡ false
