@@ -43,12 +43,12 @@ withNan : List Float
 withNan = nan ∷ drop 1 nine
 
 -- nine numbers, the first of them of these bits
-beginning : ℕ → List Float
-beginning b = f32 b ∷ drop 1 nine
+leading : ℕ → List Float
+leading b = f32 b ∷ drop 1 nine
 
 -- nine numbers, the first of them the first whose cell is clamped
 withFar : List Float
-withFar = beginning 0x550637BE
+withFar = leading 0x550637BE
 
 -- its indices
 corners : List ℕ
@@ -129,7 +129,7 @@ refusals =
     ∷ case 22 (turnWith one nine nine (0 ∷ 1 ∷ 3 ∷ []) 99 ∷ turnWith one nine nine (0 ∷ 1 ∷ 2 ∷ []) 99
     ∷ turnWith (0 ∷ 5 ∷ 0 ∷ 3 ∷ 3 ∷ 0 ∷ 0 ∷ 6 ∷ 0 ∷ 0 ∷ 3 ∷ 0 ∷ []) nine nine (0 ∷ 1 ∷ 2 ∷ 0 ∷ 0 ∷ 0 ∷ []) 99 ∷ []) (22 ∷ 0 ∷ 22 ∷ [])
     ∷ case 23 (turnWith one nine withNan corners 99 ∷ turnWith one (inf true ∷ drop 1 nine) nine corners 99 ∷ turnWith (0 ∷ 0 ∷ 0 ∷ 3 ∷ 0 ∷ 0 ∷ []) withNan nine [] 99 ∷ []) (23 ∷ 23 ∷ 23 ∷ [])
-    ∷ case 24 (map (λ b. turnWith one (beginning b) nine corners 99) (0x550637BD ∷ 0xD50637BD ∷ 0x550637BE ∷ 0xD50637BE ∷ 0x7F7FFFFF ∷ [])) (0 ∷ 0 ∷ 24 ∷ 24 ∷ 24 ∷ [])
+    ∷ case 24 (map (λ b. turnWith one (leading b) nine corners 99) (0x550637BD ∷ 0xD50637BD ∷ 0x550637BE ∷ 0xD50637BE ∷ 0x7F7FFFFF ∷ [])) (0 ∷ 0 ∷ 24 ∷ 24 ∷ 24 ∷ [])
     ∷ case 24 (turnWith one nine withFar corners 99 ∷ turnWith (0 ∷ 0 ∷ 0 ∷ 3 ∷ 0 ∷ 0 ∷ []) withFar nine [] 99 ∷ stitchRefuses one withFar corners (out rowWidth 9 9 3 76)
     ∷ assembleRefuses one withFar corners [] (meshOfOne 9 3 76) ∷ volumeAlone withFar nine corners false .refusal ∷ []) (0 ∷ 24 ∷ 24 ∷ 24 ∷ 24 ∷ [])
     ∷ case 31 (turnWith one nine nine corners 75 ∷ turnWith one nine nine corners 76 ∷ turnWith [] [] [] [] 0 ∷ turnWith (0 ∷ 0 ∷ 9 ∷ 0 ∷ 0 ∷ 0 ∷ []) [] [] [] 15
@@ -156,7 +156,7 @@ refusals =
 
 -- The definitions give each of these numbers.
 pub refusals-agree : T (all agrees refusals)
-unfolding evaluation Lone.evaluation one inBin nine withNan beginning withFar corners turnWith leaves out stitchWith stitchRefuses mesh meshOfOne noBox assembleWith assembleRefuses stitchedSize refusals
+unfolding evaluation Lone.evaluation one inBin nine withNan leading withFar corners turnWith leaves out stitchWith stitchRefuses mesh meshOfOne noBox assembleWith assembleRefuses stitchedSize refusals
 refusals-agree = tt
 
 -- ---- two checks at once
@@ -200,7 +200,7 @@ pairs =
     ∷ case 1524 (turnWith (inBin 65536) withFar nine corners 99 ∷ []) (15 ∷ [])
     ∷ case 2124 (turnWith (0 ∷ 5 ∷ 0 ∷ 3 ∷ 4 ∷ 0 ∷ []) withFar nine (0 ∷ 1 ∷ 2 ∷ 0 ∷ []) 99 ∷ []) (21 ∷ [])
     ∷ case 2224 (turnWith one withFar nine (0 ∷ 1 ∷ 3 ∷ []) 99 ∷ []) (22 ∷ [])
-    ∷ case 2324 (turnWith one withFar withNan corners 99 ∷ turnWith one (beginning 0x7F800000) nine corners 99 ∷ []) (23 ∷ 23 ∷ [])
+    ∷ case 2324 (turnWith one withFar withNan corners 99 ∷ turnWith one (leading 0x7F800000) nine corners 99 ∷ []) (23 ∷ 23 ∷ [])
     ∷ case 2431 (turnWith one withFar nine corners 0 ∷ []) (24 ∷ [])
     ∷ case 2331 (turnWith one nine withNan corners 0 ∷ []) (23 ∷ [])
     ∷ case 1132 (stitchRefuses (0 ∷ []) [] [] (out 0 0 0 0 99) ∷ []) (11 ∷ [])
@@ -223,5 +223,5 @@ pairs =
 
 -- The first in table order is given.
 pub pairs-agree : T (all agrees pairs)
-unfolding evaluation Lone.evaluation one inBin nine withNan beginning withFar corners turnWith leaves out stitchWith stitchRefuses mesh meshOfOne noBox assembleWith assembleRefuses stitchedSize pairs
+unfolding evaluation Lone.evaluation one inBin nine withNan leading withFar corners turnWith leaves out stitchWith stitchRefuses mesh meshOfOne noBox assembleWith assembleRefuses stitchedSize pairs
 pairs-agree = tt

@@ -52,8 +52,10 @@ claims =
     ∷ case 21 (refusalOf (0 ∷ 1 ∷ 2 ∷ 3 ∷ []) 99 ∷ refusalOf (0 ∷ 1 ∷ 2 ∷ []) 99 ∷ []) (21 ∷ 0 ∷ [])
     ∷ case 22 (refusalOf (0 ∷ 1 ∷ 3 ∷ []) 99 ∷ refusal (givenTable one) (givenPositions one) (replicate 9 nan) (0 ∷ 1 ∷ 3 ∷ []) 99 ∷ []) (22 ∷ 22 ∷ [])
     ∷ case 23 (refusal (givenTable one) (givenPositions one) (replicate 9 nan) (givenIndices one) 0 ∷ []) (23 ∷ [])
-    ∷ case 24 (refusal (givenTable one) (far 0x550637BE) (givenPositions one) (givenIndices one) 0 ∷ refusal (givenTable one) (far 0xD50637BE) (givenPositions one) (givenIndices one) 0 ∷ []) (24 ∷ 24 ∷ [])
-    ∷ case 24 (refusal (givenTable one) (far 0x550637BD) (givenPositions one) (givenIndices one) 0 ∷ refusal (givenTable one) (givenPositions one) (far 0x550637BE) (givenIndices one) 99 ∷ []) (31 ∷ 0 ∷ [])
+    ∷ case 24 (refusal (givenTable one) (far 0x550637BE) (givenPositions one) (givenIndices one) 0 ∷ refusal (givenTable one) (far 0xD50637BE) (givenPositions one) (givenIndices one) 0 ∷ [])
+    (24 ∷ 24 ∷ [])
+    ∷ case 24 (refusal (givenTable one) (far 0x550637BD) (givenPositions one) (givenIndices one) 0 ∷ refusal (givenTable one) (givenPositions one) (far 0x550637BE) (givenIndices one) 99 ∷ [])
+    (31 ∷ 0 ∷ [])
     ∷ case 24 (refusal (givenTable one) (far 0x550637BE) (replicate 9 nan) (givenIndices one) 0 ∷ refusal unused (far 0xD50637BE) (givenPositions one) [] 99 ∷ []) (23 ∷ 24 ∷ [])
     ∷ case 31 (refusalOf (0 ∷ 1 ∷ 2 ∷ []) 75 ∷ refusalOf (0 ∷ 1 ∷ 2 ∷ []) 76 ∷ []) (31 ∷ 0 ∷ [])
     ∷ []
