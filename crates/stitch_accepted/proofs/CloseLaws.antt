@@ -1,10 +1,16 @@
 -- Laws of closing: the result of a body is refused, written or copied. Assumes nothing.
 use mathlib.Core.Path.{_≡_, refl, sym, ap, _∙_}
+use mathlib.Core.Bool.{true, false}
 use mathlib.Core.List.{List}
-use Prim.Native.Nat.{ℕ, _+_, _*_, _≤_}
+use Prim.Native.Nat.{ℕ, _+_, _*_, _<_, _≤_}
 use native.Mathlib.Omega.{arith}
-use lib.ListN.{length}
-use lib.Ieee.{Float}
+use lib.Dec.{T}
+use lib.ListN.{length, getD}
+use lib.Ieee.{Float, nan, inf, fin, fits, binary32}
+use lib.Ieee.Scale as Scale
+use Rattle.float_steps.specs.Floats as Floats
+use Rattle.float_steps.specs.Patterns.{test-holds}
+use Rattle.float_spans.specs.Small.{Single}
 use Rattle.lists.specs.Lists.{written}
 use Rattle.point_rules.specs.Rule.{names}
 use Rattle.point_rules.specs.Points.{key}
@@ -15,7 +21,7 @@ use Rattle.stitch_definition.specs.declared.Stitched.the-variants.{Done, Refuse
 use Rattle.stitch_definition.specs.StitchedBody.{stitchedBody}
 use Rattle.stitch_copy.specs.Copied.{BodyRoom, BodyCopied, flat-rows, flat-positions, flat-normals, flat-indices, flat-table}
 use Rattle.stitch_count.specs.Counting.{BodyCounted}
-use Rattle.stitch_count.specs.Prepared.{Prepared}
+use Rattle.stitch_count.specs.Prepared.{Preparable, Prepared}
 use Rattle.stitch_result_checks.specs.Results.{resultChecks, ResultFits, result-fits}
 use Rattle.stitch_result_checks.specs.Stitched.{StitchReady, BodyStitched, result-refused, result-written, words-needed}
 use Rattle.stitch_write.specs.Writing.{BodyWritable, BodyWritten}
@@ -35,11 +41,17 @@ use Rattle.stitch_accepted.proofs.OpenLaws.{
   rest-counted,
   kept-there,
 }
-use Rattle.edge_uses.specs.Area.{AreaReady}
 
 -- a result that passed its checks fits
 pub sizes-fit : {vertices indices m r p n i refusal : ℕ} → refusal ≡ firstFailing (resultChecks vertices indices m r p n i) → refusal ≡ 0 → ResultFits vertices indices m r p n i
 sizes-fit {vertices} {indices} {m} {r} {p} {n} {i} e z = result-fits vertices indices m r p n i (sym e ∙ z)
+
+-- the kit's test of a finite value says the same
+finite-is : (x : Float) → Floats.finite x ≡ true → T (Scale.finite x)
+unfolding Floats.finite
+finite-is nan h = test-holds false h
+finite-is (inf s) h = test-holds false h
+finite-is (fin s m e) h = tt
 
 module _ {table : List ℕ} {ps ns : List Float} {is W : List ℕ} {v m : ℕ} (g : StitchReady table ps ns is W v m) where
   all-positions : length ps ≡ 3 * v
@@ -52,24 +64,33 @@ module _ {table : List ℕ} {ps ns : List Float} {is W : List ℕ} {v m : ℕ} (
   pub rows-few : m ≤ 4096
   rows-few = omega (arith, g .rows, g .passed .rows)
 
-  -- the work area can be made ready
-  pub preparable : AreaReady table ps is W v m
-  preparable =
+  -- a coordinate is finite by check 23
+  coordinate : ((k : ℕ) → T (fits binary32 (getD ps k nan))) → (k : ℕ) → k < 3 * v → Single (getD ps k nan)
+  coordinate fit k l = record { fit = fit k; real = finite-is (getD ps k nan) (g .passed .finite-positions k (omega (arith, all-positions))) }
+
+  -- the work area can be made ready: of a slice of f32 the language knows that each value is one
+  pub preparable : ((k : ℕ) → T (fits binary32 (getD ps k nan))) → Preparable table ps is W v m
+  preparable fit =
       record {
-        body =
+        area =
             record {
-              rows = passed-rows (g .passed);
-              count = sym (g .rows);
-              vertices = sym (g .vertices);
-              few-vertices = omega (arith, g .vertices, g .passed .vertices);
-              all-positions = all-positions;
-              all-indices = g .passed .all-indices;
-              few-indices = g .passed .indices;
-              threes = g .passed .threes;
-              inside = g .passed .inside;
-              room = omega (arith, words-needed g, g .passed .enough);
+              body =
+                  record {
+                    rows = passed-rows (g .passed);
+                    count = sym (g .rows);
+                    vertices = sym (g .vertices);
+                    few-vertices = omega (arith, g .vertices, g .passed .vertices);
+                    all-positions = all-positions;
+                    all-indices = g .passed .all-indices;
+                    few-indices = g .passed .indices;
+                    threes = g .passed .threes;
+                    inside = g .passed .inside;
+                    room = omega (arith, words-needed g, g .passed .enough);
+                  };
+              enough = omega (arith, words-needed g, g .passed .enough);
             };
-        enough = omega (arith, words-needed g, g .passed .enough);
+        points = λ i l.
+            record { x = coordinate fit (3 * i) (omega arith); y = coordinate fit (3 * i + 1) (omega arith); z = coordinate fit (3 * i + 2) (omega arith) };
       }
 
   module _ {sag : Float} {E X : List ℕ} {f : Finder} {found kept refusal : ℕ} (p : Prepared table ps is sag v m W E f)
@@ -90,7 +111,8 @@ module _ {table : List ℕ} {ps ns : List Float} {is W : List ℕ} {v m : ℕ} (
     open-fits z = result-fits (v + kept) (length is + 3 * kept) m (length R) (length P) (length N) (length I) (sym e ∙ z)
 
     -- the result can be written
-    pub open-writable : length X ≡ length E → refusal ≡ 0 → BodyWritable table ps ns is (f .sag) (f .beyond) (f .v) (f .list) (f .count) (f .at) (f .ts) (f .flags) X R P N I
+    pub open-writable : length X ≡ length E → refusal ≡ 0
+        → BodyWritable table ps ns is (f .sag) (f .beyond) (f .v) (f .list) (f .count) (f .at) (f .ts) (f .flags) (f .order) (f .boxes) (f .top) X R P N I
     open-writable l z =
         let r = open-fits z in
         writable ns p c l all-normals
@@ -105,7 +127,8 @@ module _ {table : List ℕ} {ps ns : List Float} {is W : List ℕ} {v m : ℕ} (
         })
 
     -- or copied, if there is no new vertex
-    pub open-puttable : length X ≡ length E → refusal ≡ 0 → Puttable table ps ns is (f .sag) (f .beyond) (f .v) (f .list) (f .count) (f .at) (f .ts) (f .flags) kept X R P N I
+    pub open-puttable : length X ≡ length E → refusal ≡ 0
+        → Puttable table ps ns is (f .sag) (f .beyond) (f .v) (f .list) (f .count) (f .at) (f .ts) (f .flags) (f .order) (f .boxes) (f .top) kept X R P N I
     open-puttable l z = record { writable = open-writable l z; kept-is = sym (kept-there ns p c) }
 
     -- it was

@@ -38,17 +38,17 @@ uses-any : (f : Row → ℕ) (P : List ℕ) (rows : List Row) (ps ns : List Floa
 uses-any f P rows ps ns is = sym (rows-uses f 0 P rows ps [] is) ∙ rows-uses f 0 P rows ps ns is
 
 -- a body that is ready stays so
-ready-kept : {table : List ℕ} {ps : List Float} {is : List ℕ} {sag beyond : Float} {v list count at ts flags : ℕ} {W E : List ℕ} → BodyReady table ps is sag beyond v list count at ts flags W
-    → take at E ≡ take at W → length E ≡ length W
-    → BodyReady table ps is sag beyond v list count at ts flags E
-ready-kept b e l =
-    record { stands = stands-kept (b .stands) e l; rows = b .rows; vertices = b .vertices; all = b .all; few = b .few; threes = b .threes; inside = b .inside }
+ready-kept : {table : List ℕ} {ps : List Float} {is : List ℕ} {sag beyond : Float} {v list count at ts flags order boxes top : ℕ} {W E : List ℕ}
+    → BodyReady table ps is sag beyond v list count at ts flags order boxes top W → take at E ≡ take at W → drop (ts + 3 * count) E ≡ drop (ts + 3 * count) W → length E ≡ length W
+    → BodyReady table ps is sag beyond v list count at ts flags order boxes top E
+ready-kept b e r l =
+    record { stands = stands-kept (b .stands) e r l; rows = b .rows; vertices = b .vertices; all = b .all; few = b .few; threes = b .threes; inside = b .inside }
 
 -- so do the views of its triangles
-views-kept : {table : List ℕ} {ps : List Float} {is : List ℕ} {sag beyond : Float} {v list count at ts flags : ℕ} {W : List ℕ} (E : List ℕ)
-    → BodyReady table ps is sag beyond v list count at ts flags W → take at E ≡ take at W
+views-kept : {table : List ℕ} {ps : List Float} {is : List ℕ} {sag beyond : Float} {v list count at ts flags order boxes top : ℕ} {W : List ℕ} (E : List ℕ)
+    → BodyReady table ps is sag beyond v list count at ts flags order boxes top W → take at E ≡ take at W
     → viewsOf table ps is sag v list count flags E ≡ viewsOf table ps is sag v list count flags W
-views-kept {table} {ps} {is} {sag} {beyond} {v} {list} {count} {at} {ts} {flags} {W} E b e =
+views-kept {table} {ps} {is} {sag} {beyond} {v} {list} {count} {at} {ts} {flags} {order} {boxes} {top} {W} E b e =
     let n : take v E ≡ take v W = front-less v at W E e (omega (arith, b .stands .listed .behind, b .stands .flags-behind, b .stands .behind)) in
     let l : take count (drop list E) ≡ take count (drop list W) = stretch-kept list count at W E e (omega (arith, b .stands .flags-behind, b .stands .behind)) in
     let f : take (length is) (drop flags E) ≡ take (length is) (drop flags W) = stretch-kept flags (length is) at W E e (b .stands .behind) in
@@ -111,7 +111,7 @@ module _ {table : List ℕ} {ps : List Float} (ns : List Float) {is : List ℕ} 
   views-are = λ i. bodyViews (p .sag-is i) ps (p .names-are i) gs 0 flags (rowsOf table) is
 
   flags-long : length flags ≡ length is
-  flags-long = length-take-le (length is) (drop (f .flags) E) (omega (arith, length-drop (f .flags) E, p .ready .stands .behind, p .ready .stands .apart, p .ready .stands .room))
+  flags-long = length-take-le (length is) (drop (f .flags) E) (omega (arith, length-drop (f .flags) E, p .ready .stands .behind, p .ready .stands .apart, p .ready .stands .long))
 
   threes : (k : ℕ) → k < length (rowsOf table) → getD (rowsOf table) k noRow .indices % 3 ≡ 0
   unfolding rowAt
@@ -150,10 +150,10 @@ module _ {table : List ℕ} {ps : List Float} (ns : List Float) {is : List ℕ} 
     module _ (long : length X ≡ length E) (all : length ns ≡ 3 * v) {R : List ℕ} {P N : List Float} {I : List ℕ} where
       -- the body can be written
       pub writable : ResultFits (v + kept) (length is + 3 * kept) (length (rowsOf table)) (length R) (length P) (length N) (length I)
-          → BodyWritable table ps ns is (f .sag) (f .beyond) (f .v) (f .list) (f .count) (f .at) (f .ts) (f .flags) X R P N I
+          → BodyWritable table ps ns is (f .sag) (f .beyond) (f .v) (f .list) (f .count) (f .at) (f .ts) (f .flags) (f .order) (f .boxes) (f .top) X R P N I
       writable r =
           record {
-            body = ready-kept (p .ready) (c .front) long;
+            body = ready-kept (p .ready) (c .front) (c .rest) long;
             all = omega (arith, all, p .v-is);
             small = omega (arith, kept-there, r .vertices, p .v-is);
             small-indices = omega (arith, kept-there, r .indices);

@@ -16,8 +16,8 @@ use Rattle.stitch_copy.specs.Copied.{BodyRoom, BodyCopied, flat-table}
 use Rattle.stitch_copy.specs.Put.{Puttable}
 use Rattle.stitch_copy.proofs.UnsplitLaws.{positions-none, normals-none, indices-none, rows-none}
 
-module _ {table : List ℕ} {ps ns : List Float} {is : List ℕ} {sag beyond : Float} {v list count at ts flags kept : ℕ} {W R : List ℕ} {P N : List Float} {I : List ℕ}
-    (g : Puttable table ps ns is sag beyond v list count at ts flags kept W R P N I) where
+module _ {table : List ℕ} {ps ns : List Float} {is : List ℕ} {sag beyond : Float} {v list count at ts flags order boxes top kept : ℕ} {W R : List ℕ} {P N : List Float} {I : List ℕ}
+    (g : Puttable table ps ns is sag beyond v list count at ts flags order boxes top kept W R P N I) where
   -- there is room for a copy
   pub put-room : BodyRoom table ps ns is R P N I
   put-room =
@@ -33,7 +33,7 @@ module _ {table : List ℕ} {ps ns : List Float} {is : List ℕ} {sag beyond : F
     none = sym (g .kept-is) ∙ z
 
     marked : length (take (length is) (drop flags W)) ≡ length is
-    marked = length-take-le (length is) (drop flags W) (omega (arith, length-drop flags W, g .writable .body .stands .behind, g .writable .body .stands .apart, g .writable .body .stands .room))
+    marked = length-take-le (length is) (drop flags W) (omega (arith, length-drop flags W, g .writable .body .stands .behind, g .writable .body .stands .apart, g .writable .body .stands .long))
 
     threes : (k : ℕ) → k < length (rowsOf table) → getD (rowsOf table) k noRow .indices % 3 ≡ 0
     unfolding rowAt

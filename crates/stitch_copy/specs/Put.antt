@@ -8,6 +8,7 @@ use Rattle.stitch_count.specs.Views.{keptIn}
 use Rattle.stitch_write.specs.Writing.{BodyWritable, viewsOf}
 
 -- a body that can be written, and how many new vertices it has
-pub record Puttable (table : List ℕ) (ps ns : List Float) (is : List ℕ) (sag beyond : Float) (v list count at ts flags kept : ℕ) (W R : List ℕ) (P N : List Float) (I : List ℕ) : Type 0 where
-  pub writable : BodyWritable table ps ns is sag beyond v list count at ts flags W R P N I
+pub record Puttable (table : List ℕ) (ps ns : List Float) (is : List ℕ) (sag beyond : Float) (v list count at ts flags order boxes top kept : ℕ) (W R : List ℕ) (P N : List Float)
+    (I : List ℕ) : Type 0 where
+  pub writable : BodyWritable table ps ns is sag beyond v list count at ts flags order boxes top W R P N I
   pub kept-is : kept ≡ sumOf keptIn (viewsOf table ps is sag v list count flags W)

@@ -21,7 +21,7 @@ pub fn put_body(
     out_indices: &mut [u32],
 )
     requires { ⌜ Puttable (now rows) (now positions) (now normals) (now indices) (f .sag) (f .beyond) (f .v) (f .list) (f .count) (f .at) (f .ts)
-        (f .flags) kept
+        (f .flags) (f .order) (f .boxes) (f .top) kept
         (now w) (now «out_rows») (now «out_positions») (now «out_normals») (now «out_indices») ⌝ }
     ensures { λ _. ⌜ BodyWritten (now (rows .entry)) (now (positions .entry)) (now (normals .entry)) (now (indices .entry)) (f .sag) (f .v) (f .list) (f .count)
         (f .at) (f .ts) (f .flags)

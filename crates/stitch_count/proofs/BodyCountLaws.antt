@@ -28,7 +28,8 @@ pub record CountingRows (table : List ℕ) (ps : List Float) (is : List ℕ) (sa
   pub rest : drop (ts + 3 * count) E ≡ drop (ts + 3 * count) W
   pub long : length E ≡ length W
 
-module _ {table : List ℕ} {ps : List Float} {is : List ℕ} {sag beyond : Float} {v list count at ts flags : ℕ} {W : List ℕ} (g : BodyReady table ps is sag beyond v list count at ts flags W) where
+module _ {table : List ℕ} {ps : List Float} {is : List ℕ} {sag beyond : Float} {v list count at ts flags order boxes top : ℕ} {W : List ℕ}
+    (g : BodyReady table ps is sag beyond v list count at ts flags order boxes top W) where
   -- none is counted yet
   pub rows-none : CountingRows table ps is sag v list count at ts flags W 0 0 0 0 0 W
   rows-none =
@@ -58,11 +59,11 @@ module _ {table : List ℕ} {ps : List Float} {is : List ℕ} {sag beyond : Floa
     base-low = vertices-within g k more ev (c .at-v)
 
     -- the row can be counted
-    pub row-ready : RowReady ps is sag beyond n v list count at ts flags base vertices i end total new E
+    pub row-ready : RowReady ps is sag beyond n v list count at ts flags order boxes top base vertices i end total new E
     unfolding rowAt
     row-ready =
         record {
-          stands = subst (λ (x : ℕ). Stands ps sag beyond x v list count at ts flags E) (sym en) (stands-kept (g .stands) (c .front) (c .long));
+          stands = subst (λ (x : ℕ). Stands ps sag beyond x v list count at ts flags order boxes top E) (sym en) (stands-kept (g .stands) (c .front) (c .rest) (c .long));
           ordered = omega arith;
           whole = ap (λ (x : ℕ). x % 3) size ∙ g .threes k more;
           inside = omega (arith, end-low);

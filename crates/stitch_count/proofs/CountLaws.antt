@@ -18,7 +18,7 @@ use Rattle.stitch_splits.specs.declared.sides.TriangleEdge.{TriangleEdge}
 use Rattle.stitch_splits.specs.declared.sides.Sides.{Sides}
 use Rattle.stitch_splits.specs.Entries.{Entry, entriesOf, keptEntries}
 use Rattle.stitch_splits.specs.Found.{counts, countsOn, foundOnly, spotOf, withSpot, withVertex, entriesOn, foundCount, triangleFound, triangleKept}
-use Rattle.stitch_triangle.specs.Triangle.{Split}
+use Rattle.stitch_triangle.specs.Triangle.{PointEdge, Splittable, Split}
 use Rattle.stitch_count.specs.Views.{edgeAt}
 use Rattle.stitch_count.specs.Counting.{EdgeReady, SidesReady, sidesIn, TriangleReady, TriangleDone}
 
@@ -108,7 +108,38 @@ none-set o p q = go (not (eqb o 0)) (not (eqb p 0)) (not (eqb q 0))
     go false true c e = absurd (let z : _≡_ {A = ℕ} 0 1 = cc in omega arith)
     go true b c e = absurd (let z : _≡_ {A = ℕ} 0 1 = cc in omega arith)
 
-module _ {ps : List Float} {is : List ℕ} {sag beyond : Float} {n v list count at ts flags base k : ℕ} {W : List ℕ} (g : TriangleReady ps is sag beyond n v list count at ts flags base k W) where
+module _ {ps : List Float} {is : List ℕ} {sag beyond : Float} {n v list count at ts flags order boxes top base k : ℕ} {W : List ℕ}
+    (g : TriangleReady ps is sag beyond n v list count at ts flags order boxes top base k W) where
+  -- an edge of its sides runs between two points
+  edge-pointed : (x y : ℕ) {e : Edge} → x < v → y < v → e ≡ edgeOf (pointAt ps x) (pointAt ps y) → PointEdge e
+  edge-pointed x y a b h = record { p = pointAt ps x; q = pointAt ps y; is = h; start = g .stands .points x a; end = g .stands .points y b }
+
+  -- it can be split
+  pub triangle-splittable : {s : Sides} → s ≡ sidesIn ps is v flags base k W → Splittable ps sag beyond s v list count at ts order boxes top W
+  triangle-splittable {s} e =
+      let t = g .stands in
+      record {
+        listed = t .listed;
+        few = t .few;
+        all = t .all;
+        points = t .points;
+        list-behind = omega (arith, t .flags-behind, t .behind);
+        order-names = t .order-names;
+        behind = omega (arith, t .order-behind, t .behind);
+        apart = t .apart;
+        room = t .room;
+        long = t .long;
+        boxes-room = t .boxes-room;
+        small = t .small;
+        ranked = t .ranked;
+        boxed = t .boxed;
+        low = t .low;
+        first = edge-pointed (base + getD is k 0) (base + getD is (k + 1) 0) (g .in-a .low) (g .in-b .low) (ap (λ (x : Sides). x .first .edge) e);
+        second = edge-pointed (base + getD is (k + 1) 0) (base + getD is (k + 2) 0) (g .in-b .low) (g .in-c .low) (ap (λ (x : Sides). x .second .edge) e);
+        third = edge-pointed (base + getD is (k + 2) 0) (base + getD is k 0) (g .in-c .low) (g .in-a .low) (ap (λ (x : Sides). x .third .edge) e);
+        far = t .far;
+      }
+
   -- it was split
   pub triangle-done : {s : Sides} {E : List ℕ} {found kept : ℕ} → s ≡ sidesIn ps is v flags base k W → Split ps sag s v list count at ts W E found kept
       → TriangleDone ps is sag v list count at ts flags base k W E found kept

@@ -1,20 +1,25 @@
 -- The splits of a triangle, of a row and of the body, counted in the work area. Assumes nothing.
 --
--- The names of v vertices are the first words, `count` loose vertices stand at `list`, the uses' flags at `flags`; the entries of one triangle at a time
--- stand at `at` and their parameters at `ts`, behind all of these.
+-- The names of v vertices are the first words, `count` loose vertices stand at `list`, their words in the order of the search at `order`, the uses' flags at
+-- `flags`; the entries of one triangle at a time stand at `at` and their parameters at `ts`, behind all of these, and behind both the boxes at `boxes`.
 use mathlib.Core.Path.{_≡_}
 use mathlib.Core.List.{List}
-use Prim.Native.Nat.{ℕ, _+_, _-_, _*_, _%_, _<_, _≤_}
+use Prim.Native.Nat.{ℕ, _+_, _-_, _*_, _%_, _^_, _<_, _≤_}
 use lib.ListN.{length, getD, take, drop}
 use lib.Ieee.{Float}
 use Rattle.lists.specs.Lists.{sumOf}
 use Rattle.body_rows.specs.Body.{trianglesOf, rowsOf, allVertices, allIndices}
 use Rattle.body_rows.specs.Rows.{WholeRows, rowAt, indicesBefore}
+use Rattle.patch_geometry.specs.Geometry.{pointAt}
+use Rattle.slice_pairs.specs.Rearranged.{Rearranged}
 use Rattle.stitch_sag.specs.Beyond.{Beyond}
+use Rattle.stitch_boxes.specs.Points.{Point}
+use Rattle.stitch_tree.specs.Trees.{Boxed}
 use Rattle.stitch_loose_points.specs.Listed.{Listed, CornerAt}
 use Rattle.stitch_splits.specs.declared.sides.Sides.{Sides}
 use Rattle.stitch_splits.specs.Entries.{entriesIn}
 use Rattle.stitch_splits.specs.Found.{triangleFound, triangleKept}
+use Rattle.stitch_pairs.specs.FoundPairs.{rankedFrom}
 use Rattle.stitch_count.specs.Views.{View, sidesAt, rowViews, bodyViews, foundIn, keptIn}
 
 -- what an edge between the vertices g and h asks
@@ -38,21 +43,30 @@ abbrev pub sidesIn : List Float → List ℕ → ℕ → ℕ → ℕ → ℕ →
 sidesIn ps is v flags base k W =
     sidesAt ps (take v W) (base + getD is k 0) (base + getD is (k + 1) 0) (base + getD is (k + 2) 0) (getD W (flags + k) 0) (getD W (flags + k + 1) 0) (getD W (flags + k + 2) 0)
 
--- where things stand: the loose vertices and the flags behind the names, and the entries behind both, with three words of each kind for a loose vertex
-pub record Stands (ps : List Float) (sag beyond : Float) (n v list count at ts flags : ℕ) (W : List ℕ) : Type 0 where
+-- where things stand: the loose vertices, their words in order and the flags behind the names, behind these the entries, with three words of each kind for a
+-- loose vertex, and then the boxes; the vertices are points of finite f32 coordinates
+pub record Stands (ps : List Float) (sag beyond : Float) (n v list count at ts flags order boxes top : ℕ) (W : List ℕ) : Type 0 where
   pub listed : Listed v list count W
   pub few : v ≤ 262144
   pub all : length ps ≡ 3 * v
+  pub points : (g : ℕ) → g < v → Point (pointAt ps g)
   pub flags-behind : list + count ≤ flags
+  pub order-names : v ≤ order
+  pub order-behind : order + count ≤ flags
   pub behind : flags + n ≤ at
   pub apart : at + 3 * count ≤ ts
-  pub room : ts + 3 * count ≤ length W
+  pub room : ts + 3 * count ≤ boxes
+  pub long : ts + 3 * count ≤ length W
+  pub boxes-room : 0 < count → boxes + 12 * 2 ^ top ≤ length W
   pub small : count ≤ 786432
+  pub ranked : Rearranged (take count (drop order W)) (rankedFrom 0 (take count (drop list W)))
+  pub boxed : 0 < count → Boxed ps order count boxes top W
+  pub low : top ≤ 17
   pub far : Beyond sag beyond
 
 -- what the splits of the triangle at index k ask
-pub record TriangleReady (ps : List Float) (is : List ℕ) (sag beyond : Float) (n v list count at ts flags base k : ℕ) (W : List ℕ) : Type 0 where
-  pub stands : Stands ps sag beyond n v list count at ts flags W
+pub record TriangleReady (ps : List Float) (is : List ℕ) (sag beyond : Float) (n v list count at ts flags order boxes top base k : ℕ) (W : List ℕ) : Type 0 where
+  pub stands : Stands ps sag beyond n v list count at ts flags order boxes top W
   pub inside : k + 3 ≤ n
   pub in-a : CornerAt is base v k
   pub in-b : CornerAt is base v (k + 1)
@@ -74,8 +88,8 @@ viewsIn ps is sag v list count flags base from to W =
     rowViews sag ps (take v W) (take count (drop list W)) base (take (to - from) (drop (flags + from) W)) (trianglesOf (take (to - from) (drop from is)))
 
 -- what counting a row asks: whole triangles over the row's vertices, and counts that can grow
-pub record RowReady (ps : List Float) (is : List ℕ) (sag beyond : Float) (n v list count at ts flags base vertices from to found kept : ℕ) (W : List ℕ) : Type 0 where
-  pub stands : Stands ps sag beyond n v list count at ts flags W
+pub record RowReady (ps : List Float) (is : List ℕ) (sag beyond : Float) (n v list count at ts flags order boxes top base vertices from to found kept : ℕ) (W : List ℕ) : Type 0 where
+  pub stands : Stands ps sag beyond n v list count at ts flags order boxes top W
   pub ordered : from ≤ to
   pub whole : (to - from) % 3 ≡ 0
   pub inside : to ≤ n
@@ -96,8 +110,8 @@ pub record RowCounted (ps : List Float) (is : List ℕ) (sag : Float) (v list co
   pub rest : drop (ts + 3 * count) E ≡ drop (ts + 3 * count) W
 
 -- what counting the body asks
-pub record BodyReady (table : List ℕ) (ps : List Float) (is : List ℕ) (sag beyond : Float) (v list count at ts flags : ℕ) (W : List ℕ) : Type 0 where
-  pub stands : Stands ps sag beyond (length is) v list count at ts flags W
+pub record BodyReady (table : List ℕ) (ps : List Float) (is : List ℕ) (sag beyond : Float) (v list count at ts flags order boxes top : ℕ) (W : List ℕ) : Type 0 where
+  pub stands : Stands ps sag beyond (length is) v list count at ts flags order boxes top W
   pub rows : WholeRows table
   pub vertices : allVertices (rowsOf table) ≡ v
   pub all : length is ≡ allIndices (rowsOf table)

@@ -3,4 +3,5 @@ pub mod Views
 pub mod Counting
 pub mod RowLaws
 pub mod RowByRow
+pub mod SearchOrder
 pub mod Prepared

@@ -17,8 +17,8 @@ use Rattle.stitch_count.specs.Counting.{viewsIn, BodyReady}
 abbrev pub viewsFrom : List Float → List ℕ → Float → ℕ → ℕ → ℕ → ℕ → ℕ → ℕ → List Row → List ℕ → List (List View)
 viewsFrom ps is sag v list count flags base i rows W = bodyViews sag ps (take v W) (take count (drop list W)) base (drop i (take (length is) (drop flags W))) rows (drop i is)
 
-module _ {table : List ℕ} {ps : List Float} {is : List ℕ} {sag beyond : Float} {v list count at ts flags : ℕ} {W : List ℕ} (g : BodyReady table ps is sag beyond v list count at ts flags W)
-    (k : ℕ) (more : k < length (rowsOf table)) {vertices : ℕ} (ev : vertices ≡ rowAt table k .vertices) where
+module _ {table : List ℕ} {ps : List Float} {is : List ℕ} {sag beyond : Float} {v list count at ts flags order boxes top : ℕ} {W : List ℕ}
+    (g : BodyReady table ps is sag beyond v list count at ts flags order boxes top W) (k : ℕ) (more : k < length (rowsOf table)) {vertices : ℕ} (ev : vertices ≡ rowAt table k .vertices) where
   -- row k's vertices end within all
   pub vertices-within : {base : ℕ} → base ≡ verticesBefore (rowsOf table) k → base + vertices ≤ v
   unfolding rowAt

@@ -1,5 +1,5 @@
 -- Laws of the triangles of one row: their views, and what stands in front of the entries is kept. Assumes nothing.
-use mathlib.Core.Path.{_≡_, refl, sym, ap, _∙_}
+use mathlib.Core.Path.{_≡_, refl, sym, ap, _∙_, subst}
 use mathlib.Core.List.{List, [], _∷_}
 use Prim.Native.Nat.{ℕ, suc, _+_, _-_, _*_, _%_, _<_, _≤_}
 use native.Mathlib.Omega.{arith}
@@ -7,11 +7,14 @@ use lib.ListN.{length, getD, take, drop, length-drop}
 use lib.Seq.{length-take-le}
 use lib.Ieee.{Float}
 use Rattle.lists.specs.Lists.{sumOf}
-use Rattle.lists.specs.Stretches.{stretch-three, stretch-kept, front-at, front-less, stretch-three-at}
+use Rattle.lists.specs.Stretches.{stretch-three, stretch-kept, front-at, front-less, rest-at, stretch-three-at}
+use Rattle.slice_pairs.specs.Rearranged.{Rearranged}
 use Rattle.body_rows.specs.Body.{trianglesOf}
 use Rattle.stitch_loose_points.specs.Listed.{CornerAt, listed-kept}
 use Rattle.stitch_splits.specs.Entries.{entriesOf, entriesIn}
 use Rattle.stitch_splits.specs.Found.{triangleFound, triangleKept}
+use Rattle.stitch_pairs.specs.FoundPairs.{rankedFrom}
+use Rattle.stitch_tree.specs.Kept.{boxed-kept}
 use Rattle.stitch_count.specs.Views.{View, sidesAt, viewOf, rowViews, foundIn, keptIn}
 use Rattle.stitch_count.specs.Counting.{sidesIn, Stands, TriangleReady, TriangleDone, viewsIn, RowReady, RowCounted}
 
@@ -28,20 +31,33 @@ entries-long W at ts kept a b =
     let y : length (take kept (drop ts W)) ≡ kept = length-take-le kept (drop ts W) (omega (arith, length-drop ts W)) in
     entries-many (take kept (drop at W)) (take kept (drop ts W)) (x ∙ sym y) ∙ x
 
--- what stands in front of the entries is kept
-pub stands-kept : {ps : List Float} {sag beyond : Float} {n v list count at ts flags : ℕ} {W E : List ℕ} → Stands ps sag beyond n v list count at ts flags W → take at E ≡ take at W
-    → length E ≡ length W
-    → Stands ps sag beyond n v list count at ts flags E
-stands-kept {ps} {sag} {beyond} {n} {v} {list} {count} {at} {ts} {flags} {W} {E} s e l =
+-- what stands in front of the entries and behind them is kept
+pub stands-kept : {ps : List Float} {sag beyond : Float} {n v list count at ts flags order boxes top : ℕ} {W E : List ℕ}
+    → Stands ps sag beyond n v list count at ts flags order boxes top W → take at E ≡ take at W → drop (ts + 3 * count) E ≡ drop (ts + 3 * count) W → length E ≡ length W
+    → Stands ps sag beyond n v list count at ts flags order boxes top E
+stands-kept {ps} {sag} {beyond} {n} {v} {list} {count} {at} {ts} {flags} {order} {boxes} {top} {W} {E} s e r l =
+    let listed : take count (drop list E) ≡ take count (drop list W) = stretch-kept list count at W E e (omega (arith, s .flags-behind, s .behind)) in
+    let ordered : take count (drop order E) ≡ take count (drop order W) = stretch-kept order count at W E e (omega (arith, s .order-behind, s .behind)) in
+    let word : (j : ℕ) → j < count → getD E (order + j) 0 ≡ getD W (order + j) 0 = λ j h. front-at at (order + j) W E 0 e (omega (arith, s .order-behind, s .behind)) in
+    let box : (k : ℕ) → boxes ≤ k → getD E k 0 ≡ getD W k 0 = λ k h. rest-at (ts + 3 * count) k W E 0 r (omega (arith, s .room)) in
     record {
       listed = listed-kept {at = at} (s .listed) (omega (arith, s .flags-behind, s .behind)) e l;
       few = s .few;
       all = s .all;
+      points = s .points;
       flags-behind = s .flags-behind;
+      order-names = s .order-names;
+      order-behind = s .order-behind;
       behind = s .behind;
       apart = s .apart;
-      room = omega (arith, s .room);
+      room = s .room;
+      long = omega (arith, s .long);
+      boxes-room = λ some. omega (arith, s .boxes-room some);
       small = s .small;
+      ranked = subst (λ (x : List ℕ). Rearranged x (rankedFrom 0 (take count (drop list E)))) (sym ordered)
+          (subst (λ (x : List ℕ). Rearranged (take count (drop order W)) (rankedFrom 0 x)) (sym listed) (s .ranked));
+      boxed = λ some. boxed-kept (s .boxed some) word box;
+      low = s .low;
       far = s .far;
     }
 
@@ -58,8 +74,8 @@ pub record Counting (ps : List Float) (is : List ℕ) (sag : Float) (v list coun
   pub rest : drop (ts + 3 * count) E ≡ drop (ts + 3 * count) W
   pub long : length E ≡ length W
 
-module _ {ps : List Float} {is : List ℕ} {sag beyond : Float} {n v list count at ts flags base vertices from to found kept : ℕ} {W : List ℕ}
-    (g : RowReady ps is sag beyond n v list count at ts flags base vertices from to found kept W) where
+module _ {ps : List Float} {is : List ℕ} {sag beyond : Float} {n v list count at ts flags order boxes top base vertices from to found kept : ℕ} {W : List ℕ}
+    (g : RowReady ps is sag beyond n v list count at ts flags order boxes top base vertices from to found kept W) where
   -- none is counted yet
   pub counting-none : Counting ps is sag v list count at ts flags base from to found kept W found kept from W
   counting-none =
@@ -73,10 +89,10 @@ module _ {ps : List Float} {is : List ℕ} {sag beyond : Float} {n v list count 
     corner-at j h = record { inside = omega (arith, three, g .inside, g .all); low = omega (arith, g .below (k + j) (omega (arith, c .low)) (omega (arith, three)), g .vertices-low) }
 
     -- the triangle can be split
-    pub triangle-ready : TriangleReady ps is sag beyond n v list count at ts flags base k E
+    pub triangle-ready : TriangleReady ps is sag beyond n v list count at ts flags order boxes top base k E
     triangle-ready =
         record {
-          stands = stands-kept (g .stands) (c .front) (c .long);
+          stands = stands-kept (g .stands) (c .front) (c .rest) (c .long);
           inside = omega (arith, three, g .inside);
           in-a = record { inside = omega (arith, g .inside, g .all); low = omega (arith, g .below k (c .low) l, g .vertices-low) };
           in-b = corner-at 1 (omega arith);
@@ -85,7 +101,7 @@ module _ {ps : List Float} {is : List ℕ} {sag beyond : Float} {n v list count 
 
     -- the flags from k on
     flags-three : take (to - k) (drop (flags + k) W) ≡ getD W (flags + k) 0 ∷ getD W (flags + k + 1) 0 ∷ getD W (flags + k + 2) 0 ∷ take (to - (k + 3)) (drop (flags + (k + 3)) W)
-    flags-three = stretch-three-at W flags k to 0 three (omega (arith, g .inside, g .stands .behind, g .stands .apart, g .stands .room))
+    flags-three = stretch-three-at W flags k to 0 three (omega (arith, g .inside, g .stands .behind, g .stands .apart, g .stands .long))
 
     -- the view of the triangle at k
     abbrev pub view : View
@@ -125,7 +141,7 @@ module _ {ps : List Float} {is : List ℕ} {sag beyond : Float} {n v list count 
     counting-more {x} {y} {F} d lf =
         let fx : x ≡ view .found = d .found-is ∙ (λ i. triangleFound sag ps (names-are i) (sides-are i) (list-is i)) in
         let ky : y ≡ length (view .kept) =
-        sym (entries-long F at ts y (omega (arith, d .held, g .stands .apart, g .stands .room, lf, c .long)) (omega (arith, d .held, g .stands .room, lf, c .long)))
+        sym (entries-long F at ts y (omega (arith, d .held, g .stands .apart, g .stands .long, lf, c .long)) (omega (arith, d .held, g .stands .long, lf, c .long)))
         ∙ ap length (d .kept-are ∙ (λ i. triangleKept sag ps (names-are i) (sides-are i) (list-is i))) in
         record {
           aligned = omega (arith, c .aligned);

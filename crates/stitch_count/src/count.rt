@@ -74,7 +74,8 @@ pub fn find_splits(
     base: usize,
     k: usize,
 ) -> Tally
-    requires { ⌜ TriangleReady (now positions) (now indices) (f .sag) (f .beyond) n (f .v) (f .list) (f .count) (f .at) (f .ts) (f .flags) base k (now w) ⌝ }
+    requires { ⌜ TriangleReady (now positions) (now indices) (f .sag) (f .beyond) n (f .v) (f .list) (f .count) (f .at) (f .ts)
+        (f .flags) (f .order) (f .boxes) (f .top) base k (now w) ⌝ }
     ensures { λ r. ⌜ TriangleDone (now (positions .entry)) (now (indices .entry)) (f .sag) (f .v) (f .list) (f .count) (f .at) (f .ts) (f .flags) base k
         (now (w .entry)) (now (w .exit)) (r .found) (r .placed) ⌝ }
 {
@@ -104,7 +105,7 @@ fn count_row(
     kept: usize,
 ) -> Tally
     requires { ⌜ RowReady (now positions) (now indices) (f .sag) (f .beyond) n (f .v) (f .list) (f .count) (f .at) (f .ts)
-        (f .flags) base vertices from to found kept (now w) ⌝ }
+        (f .flags) (f .order) (f .boxes) (f .top) base vertices from to found kept (now w) ⌝ }
     ensures { λ r. ⌜ RowCounted (now (positions .entry)) (now (indices .entry)) (f .sag) (f .v) (f .list) (f .count) (f .at) (f .ts)
         (f .flags) base from to found kept
         (now (w .entry)) (now (w .exit)) (r .found) (r .placed) ⌝ }
@@ -132,7 +133,8 @@ pub fn count_splits(
     w: &mut [u64],
     f: Finder,
 ) -> Tally
-    requires { ⌜ BodyReady (now rows) (now positions) (now indices) (f .sag) (f .beyond) (f .v) (f .list) (f .count) (f .at) (f .ts) (f .flags) (now w) ⌝ }
+    requires { ⌜ BodyReady (now rows) (now positions) (now indices) (f .sag) (f .beyond) (f .v) (f .list) (f .count) (f .at) (f .ts)
+        (f .flags) (f .order) (f .boxes) (f .top) (now w) ⌝ }
     ensures { λ r. ⌜ BodyCounted (now (rows .entry)) (now (positions .entry)) (now (indices .entry)) (f .sag) (f .v) (f .list) (f .count) (f .at) (f .ts)
         (f .flags)
         (now (w .entry)) (now (w .exit)) (r .found) (r .placed) ⌝ }

@@ -1,6 +1,7 @@
 // The splits of a body counted: the work area made ready, and every triangle's splits found.
 
 mod count;
+mod ordering;
 pub mod prepare;
 
 pub use count::count_splits;

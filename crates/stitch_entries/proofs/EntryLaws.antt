@@ -1,71 +1,65 @@
--- Entries compared in the work area, and the place of a new one among them. Assumes nothing.
+-- A pair compared with an entry in the work area, and the entry made of it. Assumes nothing.
 use mathlib.Core.Path.{_≡_, sym, ap, _∙_}
-use mathlib.Core.Bool.{Bool, true, false}
+use mathlib.Core.Bool.{Bool, false}
 use mathlib.Core.List.{List}
-use Prim.Native.Nat.{ℕ, _+_, _/_, _<_, _≤_}
+use Prim.Native.Nat.{ℕ, suc, _+_, _-_, _*_, _/_, _%_, _<_}
 use native.Mathlib.Omega.{arith}
-use native.Mathlib.Decide.{ℕ-discrete}
 use lib.ListN.{getD}
 use lib.Ieee.{Float, lt}
-use borrow.Author.Tests.{eq-eqb, ne-eqb, lt-ltb, le-ltb}
+use borrow.Author.Tests.{eq-eqb, ne-eqb}
 use Rattle.float_steps.specs.Floats.{f64, absolute}
 use Rattle.patch_geometry.specs.Geometry.{sub}
+use Rattle.slice_pairs.specs.Pairs.{pairOf}
 use Rattle.stitch_splits.specs.Splits.{near-last}
-use Rattle.stitch_splits.specs.Entries.{after, entryAt, closeTo, EntryPosition}
+use Rattle.stitch_splits.specs.Entries.{Entry, entryOf, entryAt, closeTo}
+use Rattle.stitch_pairs.specs.FoundPairs.{entryOfPair}
+use Rattle.stitch_entries.specs.PairEntries.{entryOfWords, pairEntryAt, closeToLast}
 
--- ---- whether an entry comes after
+-- ---- whether a pair is close to an entry
 
-module _ (W : List ℕ) (at ts j e : ℕ) (t : Float) {r : ℕ} (k : r ≡ getD W (at + j) 0 / 262144) where
-  -- it is on a later edge
-  pub after-edge : e < r → true ≡ after (record { e = e; t = t; vertex = 0 }) (entryAt W at ts j)
-  after-edge l = rw (lt-ltb e (getD W (at + j) 0 / 262144) (omega arith))
-
-  -- it is on the same edge
-  pub after-parameter : {q : Float} → r ≤ e → e ≡ r → q ≡ f64 (getD W (ts + j) 0) → lt t q ≡ after (record { e = e; t = t; vertex = 0 }) (entryAt W at ts j)
-  after-parameter l s f = rw (le-ltb e (getD W (at + j) 0 / 262144) (omega arith), eq-eqb e (getD W (at + j) 0 / 262144) (s ∙ k)) (ap (lt t) f)
-
-  -- it is on an edge before
-  pub after-none : r ≤ e → (e ≡ r → ⊥) → false ≡ after (record { e = e; t = t; vertex = 0 }) (entryAt W at ts j)
-  after-none l s = rw (le-ltb e (getD W (at + j) 0 / 262144) (omega arith), ne-eqb e (getD W (at + j) 0 / 262144) (λ z. s (omega arith)))
-
--- ---- whether two entries are close
-
-module _ (W : List ℕ) (at ts j k : ℕ) {a b : ℕ} (f : a ≡ getD W (at + j) 0 / 262144) (g : b ≡ getD W (at + k) 0 / 262144) where
+module _ (W : List ℕ) (at ts j k : ℕ) {a b : ℕ} (f : a ≡ getD W (ts + j) 0 / 4611686018427387904) (g : b ≡ getD W (at + k) 0 / 262144) where
   -- they are on one edge
-  pub close-same : {p q d : Float} → a ≡ b → p ≡ f64 (getD W (ts + j) 0) → q ≡ f64 (getD W (ts + k) 0) → d ≡ absolute (sub p q)
-      → lt d near-last ≡ closeTo (entryAt W at ts k) (entryAt W at ts j)
+  pub close-same : {p q d : Float} → a ≡ b → p ≡ f64 (getD W (ts + j) 0 % 4611686018427387904) → q ≡ f64 (getD W (ts + k) 0) → d ≡ absolute (sub p q)
+      → lt d near-last ≡ closeTo (entryAt W at ts k) (pairEntryAt W at ts j)
   close-same {p} {q} {d} e u v h =
-      rw (eq-eqb (getD W (at + j) 0 / 262144) (getD W (at + k) 0 / 262144) (sym f ∙ e ∙ g))
-      (ap (λ (x : Float). lt x near-last) (h ∙ ap (λ (x : Float). absolute (sub x q)) u ∙ ap (λ (x : Float). absolute (sub (f64 (getD W (ts + j) 0)) x)) v))
+      rw (eq-eqb (getD W (ts + j) 0 / 4611686018427387904) (getD W (at + k) 0 / 262144) (sym f ∙ e ∙ g))
+      (ap (λ (x : Float). lt x near-last) (h ∙ ap (λ (x : Float). absolute (sub x q)) u ∙ ap (λ (x : Float). absolute (sub (f64 (getD W (ts + j) 0 % 4611686018427387904)) x)) v))
 
   -- they are on two
-  pub close-other : (a ≡ b → ⊥) → false ≡ closeTo (entryAt W at ts k) (entryAt W at ts j)
-  close-other n = rw (ne-eqb (getD W (at + j) 0 / 262144) (getD W (at + k) 0 / 262144) (λ z. n (f ∙ z ∙ sym g)))
+  pub close-other : (a ≡ b → ⊥) → false ≡ closeTo (entryAt W at ts k) (pairEntryAt W at ts j)
+  close-other n = rw (ne-eqb (getD W (ts + j) 0 / 4611686018427387904) (getD W (at + k) 0 / 262144) (λ z. n (f ∙ z ∙ sym g)))
 
--- ---- the place of a new entry
+-- none is kept
+pub last-none : (W : List ℕ) (at ts kept : ℕ) (y : Entry) → kept ≡ 0 → false ≡ closeToLast W at ts kept y
+unfolding closeToLast
+last-none W at ts kept y e = ap (λ (k : ℕ). closeToLast W at ts k y) (sym e)
 
--- none of the p entries passed comes after it
-pub record Passed (at ts count e : ℕ) (t : Float) (W : List ℕ) (p : ℕ) : Type 0 where
-  pub low : p ≤ count
-  pub before : (j : ℕ) → j < p → after (record { e = e; t = t; vertex = 0 }) (entryAt W at ts j) ≡ false
+-- the last kept is in front of place `kept`
+pub last-is : (W : List ℕ) (at ts kept : ℕ) (y : Entry) {r : Bool} → (kept ≡ 0 → ⊥) → r ≡ closeTo (entryAt W at ts (kept - 1)) y → r ≡ closeToLast W at ts kept y
+unfolding closeToLast
+last-is W at ts kept y n k =
+    let e : suc (kept - 1) ≡ kept = omega arith in
+    k ∙ ap (λ (i : ℕ). closeToLast W at ts i y) e
 
--- none is passed yet
-pub passed-none : (at ts count e : ℕ) (t : Float) (W : List ℕ) → Passed at ts count e t W 0
-passed-none at ts count e t W = record { low = omega arith; before = λ j l. absurd (omega arith) }
+-- ---- the entry of a pair
 
-module _ {at ts count e p : ℕ} {t : Float} {W : List ℕ} (s : Passed at ts count e t W p) where
-  -- one more is passed
-  pub passed-more : {r : Bool} → p < count → r ≡ after (record { e = e; t = t; vertex = 0 }) (entryAt W at ts p) → r ≡ false → Passed at ts count e t W (p + 1)
-  passed-more {r} l k n = record { low = omega arith; before = λ j b. go j b (ℕ-discrete j p) }
-    where
-      go : (j : ℕ) → j < p + 1 → Dec (j ≡ p) → after (record { e = e; t = t; vertex = 0 }) (entryAt W at ts j) ≡ false
-      go j b (yes z) = ap (λ (i : ℕ). after (record { e = e; t = t; vertex = 0 }) (entryAt W at ts i)) z ∙ sym k ∙ n
-      go j b (no z) = s .before j (omega arith)
+-- an entry of its parts
+make : ℕ → Float → ℕ → Entry
+make e t g = record { e = e; t = t; vertex = g }
 
-  -- the next comes after it
-  pub passed-here : {r : Bool} → p < count → r ≡ after (record { e = e; t = t; vertex = 0 }) (entryAt W at ts p) → r ≡ true → EntryPosition at ts count e t W p
-  passed-here l k y = record { low = s .low; before = s .before; here = λ _. sym k ∙ y }
+-- the entry of a number is that of its two words
+pub words-pair : (x y : ℕ) → y < 18446744073709551616 → entryOfPair (pairOf x y) ≡ entryOfWords x y
+unfolding make
+words-pair x y l =
+    let h : (18446744073709551616 * x + y) / 18446744073709551616 ≡ x = omega arith in
+    let v : (18446744073709551616 * x + y) % 262144 ≡ y % 262144 = omega arith in
+    ap (λ (a : ℕ). make (a / 4611686018427387904) (f64 (a % 4611686018427387904)) (pairOf x y % 262144)) h ∙ ap (make (x / 4611686018427387904) (f64 (x % 4611686018427387904))) v
 
-  -- all are passed
-  pub passed-all : count ≤ p → EntryPosition at ts count e t W p
-  passed-all l = record { low = s .low; before = s .before; here = λ b. absurd (omega arith) }
+-- it is written as edge and vertex in one word and the parameter's bits in another
+pub words-entry : (x y : ℕ) → entryOf (x / 4611686018427387904 * 262144 + y % 262144) (x % 4611686018427387904) ≡ entryOfWords x y
+unfolding make
+words-entry x y =
+    let e : (x / 4611686018427387904 * 262144 + y % 262144) / 262144 ≡ x / 4611686018427387904 = omega arith in
+    let v : (x / 4611686018427387904 * 262144 + y % 262144) % 262144 ≡ y % 262144 = omega arith in
+    ap (λ (a : ℕ). make a (f64 (x % 4611686018427387904)) ((x / 4611686018427387904 * 262144 + y % 262144) % 262144)) e
+    ∙ ap (make (x / 4611686018427387904) (f64 (x % 4611686018427387904))) v

@@ -1,4 +1,4 @@
 -- The laws that the proofs of this crate cite, by subject.
 pub mod EntryLaws
-pub mod PutLaws
+pub mod AppendLaws
 pub mod DropLaws

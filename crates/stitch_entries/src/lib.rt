@@ -1,8 +1,8 @@
-// Entries of placed points in the work area, sorted by edge and parameter.
+// Found points in the work area: a pair appended, and entries made of the pairs that are not close to the one kept before.
 
 mod entries;
 
+pub use entries::append_pair;
 pub use entries::drop_close;
 pub use entries::entry_edge;
 pub use entries::entry_parameter;
-pub use entries::insert_entry;

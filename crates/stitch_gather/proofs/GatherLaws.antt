@@ -1,8 +1,8 @@
 -- Laws of gathering loose vertices: a triangle's corners, one row, all rows. Assumes nothing.
-use mathlib.Core.Path.{_≡_, refl, sym, ap, _∙_}
+use mathlib.Core.Path.{_≡_, refl, sym, ap, _∙_, subst}
 use mathlib.Core.Bool.{Bool, true, false, cond}
 use mathlib.Core.List.{List, [], _∷_}
-use Prim.Native.Nat.{ℕ, suc, _+_, _-_, _%_, _<_, _≤_}
+use Prim.Native.Nat.{ℕ, suc, _+_, _-_, _*_, _%_, _<_, _≤_}
 use native.Mathlib.Omega.{arith}
 use lib.ListN.{length, getD, take, drop, drop-of-length-le}
 use lib.Seq.{drop-drop, drop-cons}
@@ -11,45 +11,31 @@ use Rattle.body_rows.specs.Body.{Row, trianglesOf, rowsOf, allIndices}
 use Rattle.body_rows.specs.Rows.{noRow, rowAt, verticesBefore, indicesBefore}
 use Rattle.body_rows.specs.Patches.{before-none, indices-front, indices-next, indices-room, vertices-next, vertices-room}
 use Rattle.edge_uses.specs.RowUses.{row-inside}
-use Rattle.stitch_loose_points.specs.Listed.{
-  insertVertex,
-  insertTriangle,
-  anySet,
-  withTriangle,
-  rowVertices,
-  bodyVertices,
-  Listed,
-  Insertable,
-  Inserted,
-  TriangleInsertable,
-  TriangleInserted,
-  TriangleGatherable,
-  TriangleGathered,
-  RowGatherable,
-  RowGathered,
-  Gatherable,
-  Gathered,
-}
+use Rattle.stitch_loose_points.specs.Listed.{insertVertex, insertTriangle, anySet, withTriangle, rowVertices, bodyVertices}
+use Rattle.stitch_gather.specs.Standing.{Standing, Standable, Stood, TriangleStandable, TriangleStood}
+use Rattle.stitch_gather.specs.Gathering.{TriangleGatherable, TriangleGathered, RowGatherable, RowGathered, Gatherable, RowsGathered}
+use Rattle.stitch_gather.proofs.StandLaws.{pointed-kept}
 
 -- ---- the corners of a triangle
 
-module _ {v at count a b c : ℕ} {W : List ℕ} (t : TriangleInsertable v at count a b c W) where
-  module _ {one : ℕ} {X : List ℕ} (i : Inserted v at count a W X one) (ex : length X ≡ length W) where
-    module _ {two : ℕ} {Y : List ℕ} (j : Inserted v at one b X Y two) (ey : length Y ≡ length X) where
-      pub third-insertable : Insertable v at two c Y
-      third-insertable = record { listed = j .listed; room = omega (arith, t .room, i .few, j .few); vertex = t .in-c }
+module _ {v at count a b c : ℕ} {W : List ℕ} (t : TriangleStandable v at count a b c W) where
+  module _ {one : ℕ} {X : List ℕ} (i : Stood v at count a W X one) (ex : length X ≡ length W) where
+    pub second-standable : Standable v at one b X
+    second-standable = record { pointed = pointed-kept (t .pointed) (i .front); room = omega (arith, t .room, i .few); vertex = t .in-b }
 
-      pub triangle-inserted : {r : ℕ} {Z : List ℕ} → Inserted v at two c Y Z r → TriangleInserted v at count a b c W Z r
-      triangle-inserted {r} {Z} k =
-          let nx : take v X ≡ take v W = front-less v at W X (i .front) (t .listed .behind) in
-          let ny : take v Y ≡ take v W = front-less v at X Y (j .front) (t .listed .behind) ∙ nx in
+    module _ {two : ℕ} {Y : List ℕ} (j : Stood v at one b X Y two) (ey : length Y ≡ length X) where
+      pub third-standable : Standable v at two c Y
+      third-standable = record { pointed = pointed-kept (t .pointed) (j .front ∙ i .front); room = omega (arith, t .room, i .few, j .few); vertex = t .in-c }
+
+      pub triangle-stood : {r : ℕ} {Z : List ℕ} → Stood v at two c Y Z r → TriangleStood v at count a b c W Z r
+      triangle-stood {r} {Z} k =
+          let nx : take v X ≡ take v W = front-less v (2 * v) W X (i .front) (omega arith) in
+          let ny : take v Y ≡ take v W = front-less v (2 * v) X Y (j .front) (omega arith) ∙ nx in
           record {
-            list =
-                k .list
-                ∙ ap (λ (ns : List ℕ). insertVertex ns c (take two (drop at Y))) ny
-                ∙ ap (insertVertex (take v W) c)
-                (j .list ∙ ap (λ (ns : List ℕ). insertVertex ns b (take one (drop at X))) nx ∙ ap (insertVertex (take v W) b) (i .list));
-            listed = k .listed;
+            stands = λ R s.
+                subst (λ (l : List ℕ). Standing v at r Z l)
+                (λ h. insertVertex (ny h) c (insertVertex (nx h) b (insertVertex (take v W) a R)))
+                (k .stands (insertVertex (take v X) b (insertVertex (take v W) a R)) (j .stands (insertVertex (take v W) a R) (i .stands R s)));
             few = omega (arith, i .few, j .few, k .few);
             front = k .front ∙ j .front ∙ i .front;
             rest =
@@ -60,17 +46,16 @@ module _ {v at count a b c : ℕ} {W : List ℕ} (t : TriangleInsertable v at co
 
 module _ {is : List ℕ} {v at count base k flags : ℕ} {W : List ℕ} (g : TriangleGatherable is v at count base k flags W) {t : Bool}
     (e : t ≡ anySet (getD W (flags + k) 0) (getD W (flags + k + 1) 0) (getD W (flags + k + 2) 0)) where
-  -- a flag is set, and they were
+  -- a flag is set, and they stand
   pub triangle-gathered : {a b c r : ℕ} {E : List ℕ} → t ≡ true → a ≡ base + getD is k 0 → b ≡ base + getD is (k + 1) 0 → c ≡ base + getD is (k + 2) 0
-      → TriangleInserted v at count a b c W E r → TriangleGathered is v at count base k flags W E r
+      → TriangleStood v at count a b c W E r → TriangleGathered is v at count base k flags W E r
   triangle-gathered {a} {b} {c} {r} {E} f ea eb ec i =
       record {
-        list =
-            i .list
-            ∙ (λ j. insertTriangle (take v W) (ea j) (eb j) (ec j) (take count (drop at W)))
-            ∙ ap (λ (u : Bool). cond u (insertTriangle (take v W) (base + getD is k 0) (base + getD is (k + 1) 0) (base + getD is (k + 2) 0) (take count (drop at W))) (take count (drop at W)))
-            (sym f ∙ e);
-        listed = i .listed;
+        stands = λ R s.
+            subst (λ (l : List ℕ). Standing v at r E l)
+            ((λ j. insertTriangle (take v W) (ea j) (eb j) (ec j) R)
+            ∙ ap (λ (u : Bool). cond u (insertTriangle (take v W) (base + getD is k 0) (base + getD is (k + 1) 0) (base + getD is (k + 2) 0) R) R) (sym f ∙ e))
+            (i .stands R s);
         few = i .few;
         front = i .front;
         rest = i .rest;
@@ -80,13 +65,22 @@ module _ {is : List ℕ} {v at count base k flags : ℕ} {W : List ℕ} (g : Tri
   pub triangle-skipped : t ≡ false → TriangleGathered is v at count base k flags W W count
   triangle-skipped f =
       record {
-        list = ap (λ (u : Bool). cond u (insertTriangle (take v W) (base + getD is k 0) (base + getD is (k + 1) 0) (base + getD is (k + 2) 0) (take count (drop at W))) (take count (drop at W)))
-            (sym f ∙ e);
-        listed = g .listed;
+        stands = λ R s.
+            subst (λ (l : List ℕ). Standing v at count W l)
+            (ap (λ (u : Bool). cond u (insertTriangle (take v W) (base + getD is k 0) (base + getD is (k + 1) 0) (base + getD is (k + 2) 0) R) R) (sym f ∙ e))
+            s;
         few = omega arith;
         front = refl;
         rest = refl;
       }
+
+-- ---- what is still to come
+
+-- vertices stand for their points, with which what is still to come makes `all`
+pub record StandsOn (v at n : ℕ) (W : List ℕ) (coming : List ℕ → List ℕ) (all : List ℕ) : Type 0 where
+  pub now : List ℕ
+  pub stands : Standing v at n W now
+  pub goes-on : coming now ≡ all
 
 -- ---- one row
 
@@ -96,18 +90,18 @@ pub record Gathering (is : List ℕ) (v at count base from to flags : ℕ) (W : 
   pub low : from ≤ k
   pub high : k ≤ to
   pub few : found ≤ count + (k - from)
-  pub listed : Listed v at found E
-  pub front : take at E ≡ take at W
+  pub front : take (2 * v) E ≡ take (2 * v) W
   pub rest : drop (at + count + (to - from)) E ≡ drop (at + count + (to - from)) W
   pub long : length E ≡ length W
-  pub goes-on : rowVertices (take v W) base (take (to - k) (drop (flags + k) W)) (trianglesOf (take (to - k) (drop k is))) (take found (drop at E))
-      ≡ rowVertices (take v W) base (take (to - from) (drop (flags + from) W)) (trianglesOf (take (to - from) (drop from is))) (take count (drop at W))
+  pub stands : (R : List ℕ) → Standing v at count W R
+      → StandsOn v at found E (rowVertices (take v W) base (take (to - k) (drop (flags + k) W)) (trianglesOf (take (to - k) (drop k is))))
+      (rowVertices (take v W) base (take (to - from) (drop (flags + from) W)) (trianglesOf (take (to - from) (drop from is))) R)
 
 module _ {is : List ℕ} {v at count base vertices from to flags : ℕ} {W : List ℕ} (g : RowGatherable is v at count base vertices from to flags W) where
   -- no triangle is done yet
   pub gathering-none : Gathering is v at count base from to flags W count from W
   gathering-none =
-      record { aligned = g .whole; low = omega arith; high = g .ordered; few = omega arith; listed = g .listed; front = refl; rest = refl; long = refl; goes-on = refl }
+      record { aligned = g .whole; low = omega arith; high = g .ordered; few = omega arith; front = refl; rest = refl; long = refl; stands = λ R s. record { now = R; stands = s; goes-on = refl } }
 
   module _ {found k : ℕ} {E : List ℕ} (s : Gathering is v at count base from to flags W found k E) (l : k < to) where
     -- there is a whole triangle
@@ -138,7 +132,7 @@ module _ {is : List ℕ} {v at count base vertices from to flags : ℕ} {W : Lis
     pub row-triangle : TriangleGatherable is v at found base k flags E
     row-triangle =
         record {
-          listed = s .listed;
+          pointed = pointed-kept (g .pointed) (s .front);
           room = omega (arith, s .few, s .low, s .long, three, g .apart, g .room);
           flags-room = omega (arith, three, g .room, s .long);
           in-a = record { inside = omega (arith, g .inside); low = omega (arith, g .below k (s .low) l, g .vertices-low) };
@@ -149,7 +143,7 @@ module _ {is : List ℕ} {v at count base vertices from to flags : ℕ} {W : Lis
     -- the flags and names in E are those in W
     same-triangle : (R : List ℕ) → withTriangle (take v E) base is E flags k R ≡ withTriangle (take v W) base is W flags k R
     same-triangle R =
-        let ns : take v E ≡ take v W = front-less v at W E (s .front) (g .listed .behind) in
+        let ns : take v E ≡ take v W = front-less v (2 * v) W E (s .front) (omega arith) in
         let f0 : getD E (flags + k) 0 ≡ getD W (flags + k) 0 = rest-at (at + count + (to - from)) (flags + k) W E 0 (s .rest) (omega (arith, g .apart)) in
         λ i. cond (anySet (f0 i) (flag-is 1 i) (flag-is 2 i)) (insertTriangle (ns i) (base + getD is k 0) (base + getD is (k + 1) 0) (base + getD is (k + 2) 0) R) R
 
@@ -161,14 +155,19 @@ module _ {is : List ℕ} {v at count base vertices from to flags : ℕ} {W : Lis
           low = omega (arith, s .low);
           high = three;
           few = omega (arith, s .few, s .low, i .few);
-          listed = i .listed;
           front = i .front ∙ s .front;
           rest = rest-less (at + found + 3) (at + count + (to - from)) E F (i .rest) (omega (arith, s .few, s .low, three)) ∙ s .rest;
           long = lf ∙ s .long;
-          goes-on =
-              ap (rowVertices (take v W) base (take (to - (k + 3)) (drop (flags + (k + 3)) W)) (trianglesOf (take (to - (k + 3)) (drop (k + 3) is)))) (i .list ∙ same-triangle (take found (drop at E)))
-              ∙ step (take found (drop at E))
-              ∙ s .goes-on;
+          stands = λ R d.
+              let o = s .stands R d in
+              record {
+                now = withTriangle (take v E) base is E flags k (o .now);
+                stands = i .stands (o .now) (o .stands);
+                goes-on =
+                    ap (rowVertices (take v W) base (take (to - (k + 3)) (drop (flags + (k + 3)) W)) (trianglesOf (take (to - (k + 3)) (drop (k + 3) is)))) (same-triangle (o .now))
+                    ∙ step (o .now)
+                    ∙ o .goes-on;
+              };
         }
 
   -- all triangles are done
@@ -177,8 +176,11 @@ module _ {is : List ℕ} {v at count base vertices from to flags : ℕ} {W : Lis
   gathering-all {found} {k} {E} s l =
       let z : 0 ≡ to - k = omega arith in
       record {
-        list = ap (λ (n : ℕ). rowVertices (take v W) base (take n (drop (flags + k) W)) (trianglesOf (take n (drop k is))) (take found (drop at E))) z ∙ s .goes-on;
-        listed = s .listed;
+        stands = λ R d.
+            let o = s .stands R d in
+            subst (λ (l : List ℕ). Standing v at found E l)
+            (ap (λ (n : ℕ). rowVertices (take v W) base (take n (drop (flags + k) W)) (trianglesOf (take n (drop k is))) (o .now)) z ∙ o .goes-on)
+            (o .stands);
         few = omega (arith, s .few, s .high);
         front = s .front;
         rest = s .rest;
@@ -192,12 +194,12 @@ pub record GatheringRows (table is : List ℕ) (v at flags : ℕ) (W : List ℕ)
   pub at-v : base ≡ verticesBefore (rowsOf table) k
   pub at-i : i ≡ indicesBefore (rowsOf table) k
   pub few : found ≤ i
-  pub listed : Listed v at found E
-  pub front : take at E ≡ take at W
+  pub front : take (2 * v) E ≡ take (2 * v) W
   pub rest : drop (at + length is) E ≡ drop (at + length is) W
   pub long : length E ≡ length W
-  pub goes-on : bodyVertices (take v W) base (drop i (take (length is) (drop flags W))) (drop k (rowsOf table)) (drop i is) (take found (drop at E))
-      ≡ bodyVertices (take v W) 0 (take (length is) (drop flags W)) (rowsOf table) is []
+  pub stands : Standing v at 0 W []
+      → StandsOn v at found E (bodyVertices (take v W) base (drop i (take (length is) (drop flags W))) (drop k (rowsOf table)) (drop i is))
+      (bodyVertices (take v W) 0 (take (length is) (drop flags W)) (rowsOf table) is [])
 
 module _ {table is : List ℕ} {v at flags : ℕ} {W : List ℕ} (g : Gatherable table is v at flags W) where
   -- no row is done yet
@@ -208,11 +210,10 @@ module _ {table is : List ℕ} {v at flags : ℕ} {W : List ℕ} (g : Gatherable
         at-v = sym (before-none (rowsOf table) .0);
         at-i = sym (before-none (rowsOf table) .1);
         few = omega arith;
-        listed = record { behind = g .behind; room = omega (arith, g .apart, g .room); below = λ j l. absurd (omega arith); rising = λ j k a b. absurd (omega arith) };
         front = refl;
         rest = refl;
         long = refl;
-        goes-on = refl;
+        stands = λ s. record { now = []; stands = s; goes-on = refl };
       }
 
   module _ {found base i k m : ℕ} {E : List ℕ} (s : GatheringRows table is v at flags W found base i k E) (em : m ≡ length (rowsOf table)) (l : k < m) {vertices end : ℕ}
@@ -233,7 +234,7 @@ module _ {table is : List ℕ} {v at flags : ℕ} {W : List ℕ} (g : Gatherable
     unfolding rowAt
     row-gatherable =
         record {
-          listed = s .listed;
+          pointed = pointed-kept (record { points = g .points; behind = omega (arith, g .behind) }) (s .front);
           ordered = omega arith;
           whole = ap (λ (n : ℕ). n % 3) size ∙ g .threes k more;
           inside = end-low;
@@ -262,7 +263,7 @@ module _ {table is : List ℕ} {v at flags : ℕ} {W : List ℕ} (g : Gatherable
     row-step R =
         let FL = take (length is) (drop flags W) in
         let r = rowAt table k in
-        let ns : take v E ≡ take v W = front-less v at W E (s .front) (g .behind) in
+        let ns : take v E ≡ take v W = front-less v (2 * v) W E (s .front) (omega arith) in
         let size : end - i ≡ r .indices = omega arith in
         let f : suc k ≡ k + 1 = omega arith in
         (λ j. bodyVertices (take v W) (base + ev j) (drop (ee j) FL) (drop (k + 1) (rowsOf table)) (drop (ee j) is)
@@ -280,24 +281,29 @@ module _ {table is : List ℕ} {v at flags : ℕ} {W : List ℕ} (g : Gatherable
           at-v = omega (arith, s .at-v, ev, vertices-next table k more);
           at-i = omega (arith, s .at-i, ee, indices-next table k more);
           few = omega (arith, s .few, d .few, ee);
-          listed = d .listed;
           front = d .front ∙ s .front;
           rest = rest-less (at + found + (end - i)) (at + length is) E F (d .rest) (omega (arith, s .few, end-low)) ∙ s .rest;
           long = lf ∙ s .long;
-          goes-on =
-              ap (bodyVertices (take v W) (base + vertices) (drop end (take (length is) (drop flags W))) (drop (k + 1) (rowsOf table)) (drop end is)) (d .list)
-              ∙ row-step (take found (drop at E))
-              ∙ s .goes-on;
+          stands = λ n.
+              let o = s .stands n in
+              record {
+                now = rowVertices (take v E) base (take (end - i) (drop (flags + i) E)) (trianglesOf (take (end - i) (drop i is))) (o .now);
+                stands = d .stands (o .now) (o .stands);
+                goes-on = row-step (o .now) ∙ o .goes-on;
+              };
         }
 
   -- all rows are done
-  pub rows-all : {found base i k m : ℕ} {E : List ℕ} → GatheringRows table is v at flags W found base i k E → m ≡ length (rowsOf table) → m ≤ k → Gathered table is v at flags W E found
+  pub rows-all : {found base i k m : ℕ} {E : List ℕ} → GatheringRows table is v at flags W found base i k E → m ≡ length (rowsOf table) → m ≤ k → RowsGathered table is v at flags W E found
   unfolding bodyVertices
   rows-all {found} {base} {i} {k} {m} {E} s em l =
       record {
-        list = ap (λ (rows : List Row). bodyVertices (take v W) base (drop i (take (length is) (drop flags W))) rows (drop i is) (take found (drop at E)))
-            (sym (drop-of-length-le (rowsOf table) {i = k} (omega arith))) ∙ s .goes-on;
-        listed = s .listed;
+        stands = λ n.
+            let o = s .stands n in
+            subst (λ (l : List ℕ). Standing v at found E l)
+            (ap (λ (rows : List Row). bodyVertices (take v W) base (drop i (take (length is) (drop flags W))) rows (drop i is) (o .now))
+            (sym (drop-of-length-le (rowsOf table) {i = k} (omega arith))) ∙ o .goes-on)
+            (o .stands);
         few = omega (arith, s .few, s .at-i, g .all, front-of);
         front = s .front;
         rest = s .rest;

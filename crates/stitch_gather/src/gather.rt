@@ -1,20 +1,20 @@
-// The corners of all triangles with an open edge, gathered into the list row by row.
+// The corners of all triangles with an open edge, gathered row by row.
 
-use crate::list::insert_vertex;
+use crate::stand::STANDING;
+use crate::stand::list_standing;
+use crate::stand::stand;
 ghost use mathlib.Core.Path.{_≡_};
 ghost use Prim.Native.Nat.{_+_};
 ghost use lib.ListN.{getD};
-ghost use Rattle.stitch_loose_points.specs.Listed.{
-  anySet,
-  FlagsAt,
-  TriangleInsertable,
-  TriangleInserted,
-  CornerAt,
+ghost use Rattle.stitch_loose_points.specs.Listed.{anySet, FlagsAt, CornerAt};
+ghost use Rattle.stitch_gather.specs.Standing.{TriangleStandable, TriangleStood};
+ghost use Rattle.stitch_gather.specs.Gathering.{
   TriangleGatherable,
   TriangleGathered,
   RowGatherable,
   RowGathered,
   Gatherable,
+  RowsGathered,
   Gathered,
 };
 
@@ -26,8 +26,8 @@ pub fn any_set(w: &[u64], k: usize) -> bool
     (w[k] != 0) | (w[k + 1] != 0) | (w[k + 2] != 0)
 }
 
-// The corners a, b and c go into the list, in this order; the answer is how many vertices it has then.
-fn insert_triangle(
+// The corners a, b and c stand for their points, in this order; the answer is how many points are listed then.
+fn stand_triangle(
     w: &mut [u64],
     v: usize,
     at: usize,
@@ -36,12 +36,12 @@ fn insert_triangle(
     b: usize,
     c: usize,
 ) -> usize
-    requires { ⌜ TriangleInsertable v at count a b c (now w) ⌝ }
-    ensures { λ r. ⌜ TriangleInserted v at count a b c (now (w .entry)) (now (w .exit)) r ⌝ }
+    requires { ⌜ TriangleStandable v at count a b c (now w) ⌝ }
+    ensures { λ r. ⌜ TriangleStood v at count a b c (now (w .entry)) (now (w .exit)) r ⌝ }
 {
-    let one = insert_vertex(w, v, at, count, a);
-    let two = insert_vertex(w, v, at, one, b);
-    insert_vertex(w, v, at, two, c)
+    let one = stand(w, v, at, count, a);
+    let two = stand(w, v, at, one, b);
+    stand(w, v, at, two, c)
 }
 
 // The vertex that index k is of, counted over the body: the row's vertices start at `base`.
@@ -52,7 +52,7 @@ pub fn corner(indices: &[u32], base: usize, v: usize, k: usize) -> usize
     base + indices[k] as usize
 }
 
-// The corners of the triangle at index k, if one of its edges is open; the answer is how many vertices are listed then.
+// The corners of the triangle at index k, if one of its edges is open; the answer is how many points are listed then.
 fn gather_triangle(
     indices: &[u32],
     w: &mut [u64],
@@ -71,12 +71,13 @@ fn gather_triangle(
         let a = corner(indices, base, v, k);
         let b = corner(indices, base, v, k + 1);
         let c = corner(indices, base, v, k + 2);
-        return insert_triangle(w, v, at, count, a, b, c);
+        return stand_triangle(w, v, at, count, a, b, c);
     }
     count
 }
 
-// The vertices of one row: its triangles' indices stand from `from` up to `to`, its own vertices from `base` on; the answer is how many are listed then.
+// The vertices of one row: its triangles' indices stand from `from` up to `to`, its own vertices from `base` on; the answer is how many points are
+// listed then.
 fn gather_row(
     indices: &[u32],
     w: &mut [u64],
@@ -101,8 +102,8 @@ fn gather_row(
     found
 }
 
-// The loose vertices of all rows, listed from `at` on; the flags of the uses stand from `flags` on. The answer is how many there are.
-pub fn gather_loose(
+// The corners of the open triangles of all rows stand for their points; the flags of the uses stand from `flags` on. The answer is how many points are listed.
+fn gather_rows(
     rows: &[u32],
     indices: &[u32],
     w: &mut [u64],
@@ -111,7 +112,7 @@ pub fn gather_loose(
     flags: usize,
 ) -> usize
     requires { ⌜ Gatherable (now rows) (now indices) v at flags (now w) ⌝ }
-    ensures { λ r. ⌜ Gathered (now (rows .entry)) (now (indices .entry)) v at flags (now (w .entry)) (now (w .exit)) r ⌝ }
+    ensures { λ r. ⌜ RowsGathered (now (rows .entry)) (now (indices .entry)) v at flags (now (w .entry)) (now (w .exit)) r ⌝ }
 {
     let m = body_rows::row_count(rows);
     let mut found = 0usize;
@@ -127,4 +128,24 @@ pub fn gather_loose(
         k += 1;
     }
     found
+}
+
+// The loose vertices of all rows, listed from `at` on by name; the flags of the uses stand from `flags` on. The answer is how many there are.
+pub fn gather_loose(
+    rows: &[u32],
+    indices: &[u32],
+    w: &mut [u64],
+    v: usize,
+    at: usize,
+    flags: usize,
+) -> usize
+    requires { ⌜ Gatherable (now rows) (now indices) v at flags (now w) ⌝ }
+    ensures { λ r. ⌜ Gathered (now (rows .entry)) (now (indices .entry)) v at flags (now (w .entry)) (now (w .exit)) r ⌝ }
+{
+    let ts = at + indices.len();
+    slice_fill::fill(w, STANDING * v, STANDING * v + v, 0);
+    let count = gather_rows(rows, indices, w, v, at, flags);
+    list_standing(w, v, at, ts, count);
+    slice_pairs::sort_pairs(w, at, ts, count);
+    count
 }

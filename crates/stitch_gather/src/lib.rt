@@ -1,10 +1,8 @@
 // Loose points: the corners of triangles with an open edge, listed by key.
 
 mod gather;
-mod list;
+mod stand;
 
 pub use gather::any_set;
 pub use gather::corner;
 pub use gather::gather_loose;
-pub use list::insert_vertex;
-pub use list::move_up;

@@ -1,7 +1,6 @@
 -- The definitions of open edges and loose points, both in the work area, a word put into a list there, that the two are one, and the definitions computed.
 pub mod Loose
 pub mod Listed
-pub mod Put
 pub mod Open
 pub mod Insertions
 pub mod Based

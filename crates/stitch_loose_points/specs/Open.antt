@@ -28,8 +28,10 @@ bodyUses table ps is = usesFrom (λ r. 0) 0 (joined (names key ps)) (patchesOf (
 abbrev pub flagOf : List Use → Use → ℕ
 flagOf all u = cond (isOpen all u) 1 0
 
--- what marking the open edges leaves: the names of the vertices in front, a flag for each use, and all behind the flags as it was
+-- what marking the open edges leaves: the names of the vertices in front, behind them the first vertex of each one's point,
+-- a flag for each use, and all behind the flags as it was
 pub record Marked (table : List ℕ) (ps : List Float) (is : List ℕ) (v m : ℕ) (W E : List ℕ) : Type 0 where
+  pub points : take v (drop v E) ≡ joined (names key ps)
   pub names : take v E ≡ names key ps
   pub flags : take (length is) (drop (flagsAt v m (length is)) E) ≡ map (flagOf (bodyUses table ps is)) (bodyUses table ps is)
   pub rest : drop (usesEnd v m (length is)) E ≡ drop (usesEnd v m (length is)) W

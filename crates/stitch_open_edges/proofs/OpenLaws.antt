@@ -9,7 +9,7 @@ use lib.Dec.{eqb}
 use lib.Ieee.{Float}
 use Rattle.lists.specs.Lists.{countIf}
 use Rattle.lists.specs.Any.{each-copy}
-use Rattle.lists.specs.Stretches.{front-less, stretch-at, rest-less}
+use Rattle.lists.specs.Stretches.{front-less, stretch-at, stretch-kept, rest-less}
 use Rattle.point_rules.specs.Rule.{names}
 use Rattle.point_rules.specs.Points.{key}
 use Rattle.body_rows.specs.Body.{Row, rowsOf, patchesOf}
@@ -139,6 +139,10 @@ module _ {table : List ℕ} {ps : List Float} {is W : List ℕ} {v m : ℕ} (g :
         marked =
             record {
               names = front ∙ b .words;
+              points =
+                  stretch-kept v v (at + 2 * length is) Y E (f .front) (omega arith)
+                  ∙ stretch-kept v v (4 * v + 4 * m) X Y (u .front) (omega arith)
+                  ∙ b .points;
               flags = mapped-at (flagOf uses) uses (take (length is) (drop (flagsAt v m (length is)) E)) (flags-many ∙ sym uses-long) (λ i l. mark-at i (omega (arith, uses-long)));
               rest =
                   rest-less (at + 3 * length is) (usesEnd v m (length is)) Y E (f .rest) (omega arith)

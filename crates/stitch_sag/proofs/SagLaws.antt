@@ -22,8 +22,8 @@ use Rattle.stitch_feet.specs.Hits.{hitOf, hit-foot}
 use Rattle.stitch_sag.proofs.SignLaws.{between-plain}
 
 -- a product whose root is above the sag
-pub beyond-product : (sag p : Float) {q : Float} → q ≡ sqrt (mul p sag) → lt sag q ≡ true → Beyond sag (mul p sag)
-beyond-product sag p e h = record { far = λ x f l. below-root sag (mul p sag) x (mul-fits binary64 p sag) f (subst (λ (q : Float). lt sag q ≡ true) e h) l }
+pub beyond-product : (sag p s : Float) {q : Float} → q ≡ sqrt (mul p s) → lt sag q ≡ true → Beyond sag (mul p s)
+beyond-product sag p s e h = record { far = λ x f l. below-root sag (mul p s) x (mul-fits binary64 p s) f (subst (λ (q : Float). lt sag q ≡ true) e h) l }
 
 -- 1 / 0 is the infinity
 infinite : div one64 zero64 ≡ inf false

@@ -8,11 +8,23 @@ ghost use mathlib.Core.Path.{_≡_};
 ghost use Rattle.stitch_sag.specs.Beyond.{Beyond, Ruled};
 ghost use Rattle.stitch_projection.specs.Projection.{withinSag};
 
-// A squared distance beyond which a distance is above the sag: 4 times the sag's square, or, where that says nothing, the infinity.
+// The lowest sag that is squared: the square of a much lower one would vanish.
+const LEAST_SQUARED: f64 = 1e-100;
+
+// What is squared for a sag.
+fn squared_sag(sag: f64) -> f64 {
+    if sag < LEAST_SQUARED {
+        return LEAST_SQUARED;
+    }
+    sag
+}
+
+// A squared distance beyond which a distance is above the sag: a millionth more than the sag's square, or, where that says nothing, the infinity.
 pub fn beyond_of(sag: f64) -> f64
     ensures { λ b. ⌜ Beyond sag b ⌝ }
 {
-    let b = 4.0 * sag * sag;
+    let s = squared_sag(sag);
+    let b = 1.000001 * s * s;
     if float_sqrt::sqrt_f64(b) > sag {
         return b;
     }

@@ -11,7 +11,6 @@ use lib.Ieee.{Float, lt}
 use Rattle.lists.specs.Stretches.{stretch-more}
 use Rattle.float_steps.specs.Floats.{f64, absolute}
 use Rattle.patch_geometry.specs.Geometry.{sub}
-use Rattle.stitch_loose_points.specs.Put.{put}
 use Rattle.stitch_splits.specs.Splits.{near-last}
 
 -- a vertex placed on edge e of a triangle at parameter t
@@ -57,33 +56,6 @@ unfoldable pub keptEntries : List Entry → List Entry
 keptEntries [] = []
 keptEntries (x ∷ xs) = x ∷ dropAfter x xs
 
--- what inserting an entry asks: room for one more in both regions, of which the parameters' is the second
-pub record EntryRoom (at ts count e g : ℕ) (W : List ℕ) : Type 0 where
-  pub apart : at + count < ts
-  pub room : ts + count < length W
-  pub edge : e ≤ 2
-  pub vertex : g < 262144
-
--- what it leaves: the entry in its place; nothing in front of the entries and behind the parameters was written
-pub record EntryInserted (at ts count e g : ℕ) (t : Float) (W E : List ℕ) : Type 0 where
-  pub entries : entriesIn E at ts (count + 1) ≡ insertEntry (record { e = e; t = t; vertex = g }) (entriesIn W at ts count)
-  pub front : take at E ≡ take at W
-  pub rest : drop (ts + count + 1) E ≡ drop (ts + count + 1) W
-
--- what dropping close entries asks
-pub record EntriesHeld (at ts count : ℕ) (W : List ℕ) : Type 0 where
-  pub apart : at + count ≤ ts
-  pub room : ts + count ≤ length W
-
--- what it leaves: the kept entries, r of them; nothing in front of the entries and behind the parameters was written
-pub record EntriesKept (at ts count : ℕ) (W E : List ℕ) (r : ℕ) : Type 0 where
-  pub entries : entriesIn E at ts r ≡ keptEntries (entriesIn W at ts count)
-  pub few : r ≤ count
-  pub front : take at E ≡ take at W
-  pub rest : drop (ts + count) E ≡ drop (ts + count) W
-
--- ---- for the functions that these two call
-
 -- the entry at place j
 abbrev pub entryAt : List ℕ → ℕ → ℕ → ℕ → Entry
 entryAt W at ts j = entryOf (getD W (at + j) 0) (getD W (ts + j) 0)
@@ -93,31 +65,10 @@ pub record EntryPlace (at ts j : ℕ) (W : List ℕ) : Type 0 where
   pub words : at + j < length W
   pub parameters : ts + j < length W
 
--- place p is the first whose entry comes after edge e and parameter t, or behind them all
-pub record EntryPosition (at ts count e : ℕ) (t : Float) (W : List ℕ) (p : ℕ) : Type 0 where
-  pub low : p ≤ count
-  pub before : (j : ℕ) → j < p → after (record { e = e; t = t; vertex = 0 }) (entryAt W at ts j) ≡ false
-  pub here : p < count → after (record { e = e; t = t; vertex = 0 }) (entryAt W at ts p) ≡ true
-
--- what putting a word at place p of `count` words asks
-pub record WordRoom (at count p : ℕ) (W : List ℕ) : Type 0 where
-  pub low : p ≤ count
-  pub room : at + count < length W
-
--- what it leaves: the word between those before place p and the others; nothing else was written
-pub record WordInserted (at count p x : ℕ) (W E : List ℕ) : Type 0 where
-  pub words : take (count + 1) (drop at E) ≡ put p x (take count (drop at W))
-  pub front : take at E ≡ take at W
-  pub rest : drop (at + count + 1) E ≡ drop (at + count + 1) W
-
--- what comparing the entries at places j and k asks, and writing one over the other
+-- what looking at places j and k asks
 pub record EntryPlaces (at ts j k : ℕ) (W : List ℕ) : Type 0 where
   pub first : EntryPlace at ts j W
   pub second : EntryPlace at ts k W
-
--- the words with the entry of place j written to place k
-abbrev pub copied : List ℕ → ℕ → ℕ → ℕ → ℕ → List ℕ
-copied W at ts j k = set (set W (at + k) (getD W (at + j) 0)) (ts + k) (getD W (ts + j) 0)
 
 -- a word more in both lists is an entry more
 pub entries-append : (X Y : List ℕ) (x y : ℕ) → length X ≡ length Y → entriesOf (X ++ x ∷ []) (Y ++ y ∷ []) ≡ entriesOf X Y ++ entryOf x y ∷ []

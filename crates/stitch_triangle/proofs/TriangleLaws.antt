@@ -1,395 +1,245 @@
--- Laws of a triangle's splits: one vertex tried, all tried on an edge, and the three edges in turn. Assumes nothing.
+-- Laws of a triangle's splits: the three edges in turn, the pairs sorted, and the entries kept. Assumes nothing.
 use mathlib.Core.Path.{_≡_, refl, sym, ap, _∙_, subst}
-use mathlib.Core.Bool.{Bool, true, false, not, cond}
-use mathlib.Core.List.{List, [], _∷_}
-use mathlib.Core.Option.{Option, none, some}
-use Prim.Native.Nat.{ℕ, zero, suc, _+_, _*_, _<_, _≤_}
+use mathlib.Core.Bool.{true}
+use mathlib.Core.List.{List, [], _∷_, _++_, map}
+use Prim.Native.Nat.{ℕ, zero, suc, _+_, _*_, _/_, _%_, _^_, _<_, _≤_}
 use native.Mathlib.Omega.{arith}
-use lib.ListN.{length, getD, take, drop, length-drop, drop-of-length-le}
-use lib.Seq.{getD-take, drop-cons, length-take-le}
-use lib.Ieee.{Float, lt}
+use lib.Dec.{ltb}
+use lib.ListN.{length, getD, take, drop, length-drop}
+use lib.Seq.{length-take-le}
+use lib.Ieee.{Float}
+use borrow.Author.Tests.{lt-ltb, ltb-true}
 use Rattle.lists.specs.Lists.{countIf}
-use Rattle.lists.specs.Stretches.{stretch-at, stretch-kept, front-at, front-less, rest-less}
-use Rattle.patch_geometry.specs.declared.Vec3.{Vec3}
-use Rattle.patch_geometry.specs.Geometry.{vertexAt, pointAt}
-use Rattle.stitch_projection.specs.declared.Hit.{Hit}
-use Rattle.stitch_projection.specs.declared.Edge.{Edge}
-use Rattle.stitch_projection.specs.Projection.{project, withinSag}
-use Rattle.stitch_sag.specs.Beyond.{Ruled}
-use Rattle.stitch_loose_points.specs.Listed.{NameAt, listed-kept}
-use Rattle.stitch_triangle.specs.declared.placing.Placing.{Placing}
-use Rattle.stitch_triangle.specs.declared.placing.Place.{Place}
-use Rattle.stitch_triangle.specs.declared.placing.Place.the-variants.{Nowhere, On}
-use Rattle.stitch_splits.specs.declared.sides.TriangleEdge.{TriangleEdge}
+use Rattle.lists.specs.Stretches.{stretch-at, stretch-kept, front-at, front-less, rest-less, rest-at}
+use Rattle.patch_geometry.specs.Geometry.{pointAt}
+use Rattle.slice_pairs.specs.Rearranged.{Rearranged, same-self, same-then, same-append, same-each, same-length}
+use Rattle.slice_pairs.specs.Pairs.{pairsOf, pairsIn, PairsHeld, PairsSorted}
+use Rattle.stitch_tree.specs.Trees.{Boxed}
+use Rattle.stitch_tree.specs.Kept.{boxed-kept}
 use Rattle.stitch_splits.specs.declared.sides.Sides.{Sides}
-use Rattle.stitch_splits.specs.Entries.{entriesOf, entriesIn, insertEntry, keptEntries, EntryRoom, EntryInserted, EntriesHeld, EntriesKept}
-use Rattle.stitch_splits.specs.Found.{Spot, sideOf, foundOnly, nearerSpot, spotOf, withSpot, withVertex, entriesOn, foundCount, triangleFound, triangleKept}
-use Rattle.stitch_triangle.specs.Placing.{placeAs}
-use Rattle.stitch_triangle.specs.Triangle.{PointReady, TryReady, Tried, FindOn, FoundAll, Splittable, Split}
-use Rattle.stitch_splits.specs.SideLaws.{closed-finds-none, far-is-not-found}
+use Rattle.stitch_splits.specs.Entries.{entriesIn, keptEntries}
+use Rattle.stitch_splits.specs.Found.{sideOf, foundCount, triangleFound, triangleKept}
+use Rattle.stitch_pairs.specs.FoundPairs.{rankedFrom, foundPairs, entryOfPair}
+use Rattle.stitch_pairs.specs.Words.{KeptOfPairs}
+use Rattle.stitch_pairs.specs.SortedEntries.{sorted-entries}
+use Rattle.stitch_pairs.specs.RankedLaws.{found-same, pairs-same}
+use Rattle.stitch_triangle.specs.Triangle.{isFound, Ordered, FoundIn, FindOn, Splittable, Split}
+use Rattle.stitch_triangle.proofs.SearchLaws.{ordered-kept}
 
--- ---- where a point is placed
+-- ---- words of the list by name
 
--- no answer is made of no place alone
-no-spot : (o : Option Spot) → Nowhere ≡ placeAs o → o ≡ none
-no-spot none z = refl
-no-spot (some q) z = absurd (let n : _≡_ {A = ℕ} 0 1 = cc in omega arith)
+ranked-length : (k : ℕ) (gs : List ℕ) → length (rankedFrom k gs) ≡ length gs
+unfolding rankedFrom
+ranked-length k [] = refl
+ranked-length k (g ∷ gs) = ap suc (ranked-length (suc k) gs)
 
--- an answer is made of its place
-some-spot : (o : Option Spot) (p : Placing) → On p ≡ placeAs o → o ≡ some (record { e = p .e; t = p .t; distance = p .distance })
-some-spot none p z = absurd (let n : _≡_ {A = ℕ} 0 1 = cc in omega arith)
-some-spot (some q) p z = let same : record { e = q .e; t = q .t; distance = q .distance } ≡ p = cc in ap (λ (x : Placing). some (record { e = x .e; t = x .t; distance = x .distance })) same
+ranked-at : (k : ℕ) (gs : List ℕ) (j : ℕ) → j < length gs → getD (rankedFrom k gs) j 0 ≡ 262144 * (k + j) + getD gs j 0
+unfolding rankedFrom
+ranked-at k [] j b = absurd (omega arith)
+ranked-at k (g ∷ gs) zero b = omega arith
+ranked-at k (g ∷ gs) (suc j) b = ranked-at (suc k) gs j (omega arith) ∙ (let z : 262144 * (suc k + j) + getD gs j 0 ≡ 262144 * (k + suc j) + getD gs j 0 = omega arith in z)
 
--- a place is on one of the edges
-abbrev Low : Option Spot → Type 0
-Low o = (q : Spot) → o ≡ some q → q .e ≤ 2
+-- ---- the tree is kept
 
-low-some : (p : Spot) → p .e ≤ 2 → Low (some p)
-low-some p l q z = let same : p ≡ q = cc in subst (λ (x : Spot). x .e ≤ 2) same l
-
-low-nearer : (best : Option Spot) (e : ℕ) (o : Option Hit) → Low best → e ≤ 2 → Low (nearerSpot best e o)
-low-nearer best e none b l = b
-low-nearer none e (some h) b l = low-some (record { e = e; t = h .t; distance = h .distance }) l
-low-nearer (some p) e (some h) b l = go (lt (h .distance) (p .distance))
-  where
-    go : (t : Bool) → Low (cond t (some (record { e = e; t = h .t; distance = h .distance })) (some p))
-    go true = low-some (record { e = e; t = h .t; distance = h .distance }) l
-    go false = b
-
-low-none : Low none
-low-none q z = absurd (let n : _≡_ {A = ℕ} 0 1 = cc in omega arith)
-
-spot-low : (s : Sides) (r : Vec3) → Low (spotOf s r)
-unfolding spotOf
-spot-low s r =
-    low-nearer (nearerSpot (nearerSpot none 0 (project (s .first .edge) r)) 1 (project (s .second .edge) r)) 2 (project (s .third .edge) r)
-    (low-nearer (nearerSpot none 0 (project (s .first .edge) r)) 1 (project (s .second .edge) r) (low-nearer none 0 (project (s .first .edge) r) low-none (omega arith)) (omega arith)) (omega arith)
-
--- ---- a look at one vertex
-
-module _ {ps : List Float} {v list count j : ℕ} {W : List ℕ} (t : PointReady ps v list count j W) where
-  pub point-there : NameAt v list count j W
-  point-there = record { listed = t .listed; inside = t .inside }
-
-  module _ {g : ℕ} (eg : g ≡ getD W (list + j) 0) where
-    pub coordinates-there : 3 * g + 2 < length ps
-    coordinates-there = omega (arith, eg, t .listed .below j (t .inside), t .all)
-
-    -- what is ruled out is the point of the vertex
-    pub ruled-there : {b : Float} {s : Edge} {r : Vec3} {o : Bool} → r ≡ vertexAt ps (3 * g) → Ruled b s r o → Ruled b s (pointAt ps (getD W (list + j) 0)) o
-    ruled-there {b} {s} {r} {o} er d = subst (λ (r : Vec3). Ruled b s r o) (er ∙ ap (pointAt ps) eg) d
-
--- ---- one vertex
-
-module _ {ps : List Float} {sag beyond : Float} {v list count j e at ts found placed : ℕ} {W : List ℕ} (t : TryReady ps sag beyond v list count j e at ts found placed W) where
-  module _ {g : ℕ} (eg : g ≡ getD W (list + j) 0) where
-    -- the vertex is one of them
-    pub vertex-low : g < v
-    vertex-low = omega (arith, eg, t .listed .below j (t .inside))
-
-    -- its coordinates are there
-    pub point-inside : 3 * g + 2 < length ps
-    point-inside = omega (arith, vertex-low, t .all)
-
-    -- so is its name
-    pub name-inside : g < length W
-    name-inside = omega (arith, vertex-low, t .listed .behind, t .listed .room)
-
-    -- the point is found or not as the definition says
-    module _ (s : Sides) {b : Bool} {r : Vec3} (er : r ≡ vertexAt ps (3 * g)) (eb : b ≡ foundOnly sag s e (getD W g 0) r) where
-      test : b ≡ foundOnly sag s e (getD (take v W) (getD W (list + j) 0) 0) (pointAt ps (getD W (list + j) 0))
-      test =
-          eb
-          ∙ ap (λ (n : ℕ). foundOnly sag s e n r) (sym (getD-take v W g 0 vertex-low))
-          ∙ ap (foundOnly sag s e (getD (take v W) g 0)) er
-          ∙ ap (λ (k : ℕ). foundOnly sag s e (getD (take v W) k 0) (pointAt ps k)) eg
-
-      spot-there : spotOf s r ≡ spotOf s (pointAt ps (getD W (list + j) 0))
-      spot-there = ap (spotOf s) (er ∙ ap (pointAt ps) eg)
-
-      -- it is not found
-      pub tried-not : b ≡ false → Tried ps sag s v list j e at ts found placed W W found placed
-      unfolding withVertex
-      tried-not f =
-          record {
-            entries =
-                ap (λ (x : Bool). elim x [ true ↦ withSpot (getD W (list + j) 0) (spotOf s (pointAt ps (getD W (list + j) 0))) (entriesIn W at ts placed) | false ↦ entriesIn W at ts placed ])
-                (sym f ∙ test);
-            more = (let z : found ≡ found + 0 = omega arith in z) ∙ ap (λ (x : Bool). found + cond x 1 0) (sym f ∙ test);
-            few = omega arith;
-            front = refl;
-            rest = refl;
-          }
-
-      -- it is found, and projects into no edge
-      pub tried-nowhere : {p : Place} → b ≡ true → p ≡ placeAs (spotOf s r) → p ≡ Nowhere → Tried ps sag s v list j e at ts found placed W W (found + 1) placed
-      unfolding withVertex
-      tried-nowhere {p} f q n =
-          record {
-            entries =
-                ap (λ (o : Option Spot). withSpot (getD W (list + j) 0) o (entriesIn W at ts placed)) (sym (no-spot (spotOf s r) (sym n ∙ q)) ∙ spot-there)
-                ∙ ap (λ (x : Bool). elim x [ true ↦ withSpot (getD W (list + j) 0) (spotOf s (pointAt ps (getD W (list + j) 0))) (entriesIn W at ts placed) | false ↦ entriesIn W at ts placed ])
-                (sym f ∙ test);
-            more = ap (λ (x : Bool). found + cond x 1 0) (sym f ∙ test);
-            few = omega arith;
-            front = refl;
-            rest = refl;
-          }
-
-      -- it is found and placed
-      module _ {p : Place} {k : Placing} (f : b ≡ true) (q : p ≡ placeAs (spotOf s r)) (n : p ≡ On k) where
-        spot : spotOf s r ≡ some (record { e = k .e; t = k .t; distance = k .distance })
-        spot = some-spot (spotOf s r) k (sym n ∙ q)
-
-        -- it can go among the entries
-        pub entry-room : EntryRoom at ts placed (k .e) g W
-        entry-room =
-            record {
-              apart = t .apart;
-              room = t .room;
-              edge = spot-low s r (record { e = k .e; t = k .t; distance = k .distance }) spot;
-              vertex = omega (arith, vertex-low, t .few);
-            }
-
-        -- it does
-        pub tried-placed : {E : List ℕ} → EntryInserted at ts placed (k .e) g (k .t) W E → Tried ps sag s v list j e at ts found placed W E (found + 1) (placed + 1)
-        unfolding withVertex
-        tried-placed {E} i =
-            record {
-              entries =
-                  i .entries
-                  ∙ ap (λ (x : ℕ). insertEntry (record { e = k .e; t = k .t; vertex = x }) (entriesIn W at ts placed)) eg
-                  ∙ ap (λ (o : Option Spot). withSpot (getD W (list + j) 0) o (entriesIn W at ts placed)) (sym spot ∙ spot-there)
-                  ∙ ap (λ (x : Bool). elim x [ true ↦ withSpot (getD W (list + j) 0) (spotOf s (pointAt ps (getD W (list + j) 0))) (entriesIn W at ts placed) | false ↦ entriesIn W at ts placed ])
-                  (sym f ∙ test);
-              more = ap (λ (x : Bool). found + cond x 1 0) (sym f ∙ test);
-              few = omega arith;
-              front = i .front;
-              rest = i .rest;
-            }
-
--- ---- all vertices on one edge
-
--- the first j vertices have been tried: W became E
-pub record Finding (ps : List Float) (sag : Float) (s : Sides) (v list count e at ts found placed : ℕ) (W : List ℕ) (total entries j : ℕ) (E : List ℕ) : Type 0 where
-  pub low : j ≤ count
-  pub goes-on : entriesOn sag ps (take v W) s e (drop j (take count (drop list W))) (entriesIn E at ts entries) ≡ entriesOn sag ps (take v W) s e (take count (drop list W)) (entriesIn W at ts placed)
-  pub counted : total + foundCount sag ps (take v W) s e (drop j (take count (drop list W))) ≡ found + foundCount sag ps (take v W) s e (take count (drop list W))
-  pub bound : total ≤ found + j
-  pub few : entries ≤ placed + j
-  pub front : take at E ≡ take at W
-  pub rest : drop (ts + placed + count) E ≡ drop (ts + placed + count) W
-  pub long : length E ≡ length W
-
-module _ {ps : List Float} {sag beyond : Float} {v list count e at ts found placed : ℕ} {W : List ℕ} (g : FindOn ps sag beyond v list count e at ts found placed W) (s : Sides) where
-  -- none has been tried yet
-  pub finding-none : Finding ps sag s v list count e at ts found placed W found placed 0 W
-  finding-none = record { low = omega arith; goes-on = refl; counted = refl; bound = omega arith; few = omega arith; front = refl; rest = refl; long = refl }
-
-  module _ {total entries j : ℕ} {E : List ℕ} (f : Finding ps sag s v list count e at ts found placed W total entries j E) (l : j < count) where
-    -- the next can be
-    pub next-ready : TryReady ps sag beyond v list count j e at ts total entries E
-    next-ready =
-        record {
-          listed = listed-kept (g .listed) (g .behind) (f .front) (f .long);
-          inside = l;
-          few = g .few;
-          all = g .all;
-          behind = g .behind;
-          apart = omega (arith, f .few, g .apart);
-          room = omega (arith, f .few, f .long, g .room);
-          edge = g .edge;
-          countable = omega (arith, f .bound, g .countable);
-          far = g .far;
-        }
-
-    -- it is vertex j
-    vertex-is : getD E (list + j) 0 ≡ getD W (list + j) 0
-    vertex-is = front-at at (list + j) W E 0 (f .front) (omega (arith, g .behind))
-
-    names-are : take v E ≡ take v W
-    names-are = front-less v at W E (f .front) (omega (arith, g .listed .behind, g .behind))
-
-    here : drop j (take count (drop list W)) ≡ getD W (list + j) 0 ∷ drop (j + 1) (take count (drop list W))
-    here =
-        let k : suc j ≡ j + 1 = omega arith in
-        drop-cons (take count (drop list W)) j 0 (omega (arith, length-take-le count (drop list W) (omega (arith, length-drop list W, g .listed .room))))
-        ∙ (λ i. stretch-at list count W j 0 l i ∷ drop (k i) (take count (drop list W)))
-
-    -- the next can be looked at
-    pub point-ready : PointReady ps v list count j E
-    point-ready = record { listed = next-ready .listed; inside = l; few = g .few; all = g .all }
-
-    -- one more has been tried
-    pub finding-more : {total' entries' : ℕ} {F : List ℕ} → Tried ps sag s v list j e at ts total entries E F total' entries' → length F ≡ length E
-        → Finding ps sag s v list count e at ts found placed W total' entries' (j + 1) F
-    unfolding entriesOn foundCount countIf
-    finding-more {total'} {entries'} {F} d lf =
-        let x = getD W (list + j) 0 in
-        let rest = drop (j + 1) (take count (drop list W)) in
-        let b = foundOnly sag s e (getD (take v W) x 0) (pointAt ps x) in
-        let same : foundOnly sag s e (getD (take v E) (getD E (list + j) 0) 0) (pointAt ps (getD E (list + j) 0)) ≡ b =
-        (λ i. foundOnly sag s e (getD (names-are i) (vertex-is i) 0) (pointAt ps (vertex-is i))) in
-        record {
-          low = omega arith;
-          goes-on =
-              ap (entriesOn sag ps (take v W) s e rest) (d .entries ∙ (λ i. withVertex sag ps (names-are i) s e (vertex-is i) (entriesIn E at ts entries)))
-              ∙ ap (λ (gs : List ℕ). entriesOn sag ps (take v W) s e gs (entriesIn E at ts entries)) (sym here)
-              ∙ f .goes-on;
-          counted =
-              ap (λ (k : ℕ). k + foundCount sag ps (take v W) s e rest) (d .more ∙ ap (λ (y : Bool). total + cond y 1 0) same)
-              ∙ count-one total (foundCount sag ps (take v W) s e rest) b
-              ∙ ap (λ (gs : List ℕ). total + foundCount sag ps (take v W) s e gs) (sym here)
-              ∙ f .counted;
-          bound = omega (arith, d .more, one (foundOnly sag s e (getD (take v E) (getD E (list + j) 0) 0) (pointAt ps (getD E (list + j) 0))), f .bound);
-          few = omega (arith, d .few, f .few);
-          front = d .front ∙ f .front;
-          rest = rest-less (ts + entries + 1) (ts + placed + count) E F (d .rest) (omega (arith, f .few)) ∙ f .rest;
-          long = lf ∙ f .long;
-        }
-      where
-        count-one : (a n : ℕ) (b : Bool) → a + cond b 1 0 + n ≡ a + cond b (suc n) n
-        count-one a n true = omega arith
-        count-one a n false = omega arith
-
-        one : (b : Bool) → cond b 1 0 ≤ 1
-        one true = omega arith
-        one false = omega arith
-
-    -- one that is not found need not be tried
-    skip : foundOnly sag s e (getD (take v E) (getD E (list + j) 0) 0) (pointAt ps (getD E (list + j) 0)) ≡ false → Finding ps sag s v list count e at ts found placed W total entries (j + 1) E
-    skip h = finding-more (tried-not next-ready refl s refl (look h) refl) refl
-      where
-        look : foundOnly sag s e (getD (take v E) (getD E (list + j) 0) 0) (pointAt ps (getD E (list + j) 0)) ≡ false
-            → false ≡ foundOnly sag s e (getD E (getD E (list + j) 0) 0) (vertexAt ps (3 * getD E (list + j) 0))
-        look h = sym h ∙ ap (λ (n : ℕ). foundOnly sag s e n (pointAt ps (getD E (list + j) 0))) (getD-take v E (getD E (list + j) 0) 0 (next-ready .listed .below j l))
-
-    -- nor one that the edge rules out
-    pub finding-ruled : {x : TriangleEdge} {o : Bool} → x ≡ sideOf s e → Ruled beyond (x .edge) (pointAt ps (getD E (list + j) 0)) o → o ≡ false
-        → Finding ps sag s v list count e at ts found placed W total entries (j + 1) E
-    finding-ruled {x} {o} ex d z =
-        skip (far-is-not-found sag s e _ _ (subst (λ (x : TriangleEdge). withinSag sag (x .edge) (pointAt ps (getD E (list + j) 0)) ≡ false) ex (d .out sag (g .far) z)))
-
-    -- nor any on an edge that is not open
-    skip-closed : sideOf s e .«is_open» ≡ false → Finding ps sag s v list count e at ts found placed W total entries (j + 1) E
-    skip-closed h = skip (closed-finds-none sag s e _ _ h)
-
-  -- all have been tried
-  pub finding-all : {total entries j : ℕ} {E : List ℕ} → Finding ps sag s v list count e at ts found placed W total entries j E → count ≤ j
-      → FoundAll ps sag s v list count e at ts found placed W E total entries
-  unfolding entriesOn foundCount countIf
-  finding-all {total} {entries} {j} {E} f l =
-      let none : drop j (take count (drop list W)) ≡ [] =
-      drop-of-length-le (take count (drop list W)) {i = j} (omega (arith, length-take-le count (drop list W) (omega (arith, length-drop list W, g .listed .room)))) in
-      record {
-        entries = ap (λ (gs : List ℕ). entriesOn sag ps (take v W) s e gs (entriesIn E at ts entries)) (sym none) ∙ f .goes-on;
-        more = (let z : total ≡ total + 0 = omega arith in z) ∙ ap (λ (gs : List ℕ). total + foundCount sag ps (take v W) s e gs) (sym none) ∙ f .counted;
-        bound = omega (arith, f .bound, f .low);
-        few = omega (arith, f .few, f .low);
-        front = f .front;
-        rest = f .rest;
-      }
-
-  -- an edge that is not open finds nothing
-  pub finding-closed : {x : TriangleEdge} → x ≡ sideOf s e → not (x .«is_open») ≡ true → FoundAll ps sag s v list count e at ts found placed W W found placed
-  finding-closed {x} ex h = finding-all (all count (omega arith)) (omega arith)
-    where
-      shut : (b : Bool) → not b ≡ true → b ≡ false
-      shut true z = sym z
-      shut false z = refl
-
-      closed : sideOf s e .«is_open» ≡ false
-      closed = ap (λ (x : TriangleEdge). x .«is_open») (sym ex) ∙ shut (x .«is_open») h
-
-      all : (j : ℕ) → j ≤ count → Finding ps sag s v list count e at ts found placed W found placed j W
-      all zero l = finding-none
-      all (suc j) l = let k : j + 1 ≡ suc j = omega arith in subst (λ (n : ℕ). Finding ps sag s v list count e at ts found placed W found placed n W) k
-          (skip-closed (all j (omega arith)) (omega arith) closed)
+-- with what lies in front of the pairs and behind them
+pub tree-kept : {ps : List Float} {order count boxes top : ℕ} (at b : ℕ) {W E : List ℕ} → Boxed ps order count boxes top W → order + count ≤ at → take at E ≡ take at W
+    → b ≤ boxes → drop b E ≡ drop b W → Boxed ps order count boxes top E
+tree-kept {ps} {order} {count} {boxes} {top} at b {W} {E} t l front h rest =
+    boxed-kept t (λ j p. front-at at (order + j) W E 0 front (omega arith)) (λ k m. rest-at b k W E 0 rest (omega arith))
 
 -- ---- the three edges
 
--- no entry stands in no words
-none-there : (W : List ℕ) (at ts : ℕ) → entriesIn W at ts 0 ≡ []
-unfolding entriesOf
+-- no pair stands in no words
+none-there : (W : List ℕ) (at ts : ℕ) → pairsIn W at ts 0 ≡ []
+unfolding pairsOf
 none-there W at ts = refl
 
-module _ {ps : List Float} {sag beyond : Float} {v list count at ts : ℕ} {W : List ℕ} (g : Splittable ps sag beyond v list count at ts W) (s : Sides) where
-  module _ {f₁ p₁ : ℕ} {X : List ℕ} (a : FoundAll ps sag s v list count 0 at ts 0 0 W X f₁ p₁) (ex : length X ≡ length W) where
+module _ {ps : List Float} {sag beyond : Float} {s : Sides} {v list count at ts order boxes top : ℕ} {W : List ℕ}
+    (g : Splittable ps sag beyond s v list count at ts order boxes top W) where
+  abbrev gs : List ℕ
+  gs = take count (drop list W)
+
+  abbrev os : List ℕ
+  os = take count (drop order W)
+
+  gs-long : length gs ≡ count
+  gs-long = length-take-le count (drop list W) (omega (arith, length-drop list W, g .listed .room))
+
+  os-long : length os ≡ count
+  os-long = length-take-le count (drop order W) (omega (arith, length-drop order W, g .behind, g .apart, g .long))
+
+  gs-low : (j : ℕ) → j < length gs → getD gs j 0 < v
+  gs-low j b = subst (λ (x : ℕ). x < v) (sym (stretch-at list count W j 0 (omega (arith, gs-long)))) (g .listed .below j (omega (arith, gs-long)))
+
+  gs-small : (j : ℕ) → j < length gs → getD gs j 0 < 262144
+  gs-small j b = omega (arith, gs-low j b, g .few)
+
+  -- the words in order are of the list's vertices
+  word-low : (j : ℕ) → j < length (rankedFrom 0 gs) → ltb (getD (rankedFrom 0 gs) j 0 % 262144) v ≡ true
+  word-low j b =
+      let c : j < length gs = omega (arith, ranked-length 0 gs) in
+      lt-ltb (getD (rankedFrom 0 gs) j 0 % 262144) v (omega (arith, ranked-at 0 gs j c, gs-low j c, g .few))
+
+  word-small : (j : ℕ) → j < length (rankedFrom 0 gs) → ltb (getD (rankedFrom 0 gs) j 0) 274877906944 ≡ true
+  word-small j b =
+      let c : j < length gs = omega (arith, ranked-length 0 gs) in
+      lt-ltb (getD (rankedFrom 0 gs) j 0) 274877906944 (omega (arith, ranked-at 0 gs j c, gs-small j c, gs-long, g .small))
+
+  ordered : Ordered ps v order count W
+  ordered =
+      record {
+        few = g .few;
+        all = g .all;
+        behind = g .order-names;
+        room = omega (arith, g .behind, g .apart, g .long);
+        below = λ j b. subst (λ (o : ℕ). o % 262144 < v) (stretch-at order count W j 0 b)
+            (ltb-true (getD os j 0 % 262144) v (same-each (λ o. ltb (o % 262144) v) 0 (g .ranked) word-low j (omega (arith, os-long))));
+        small = λ j b. subst (λ (o : ℕ). o < 274877906944) (stretch-at order count W j 0 b)
+            (ltb-true (getD os j 0) 274877906944 (same-each (λ o. ltb o 274877906944) 0 (g .ranked) word-small j (omega (arith, os-long))));
+      }
+
+  -- the first can be looked at
+  pub first-ready : FindOn ps sag beyond s v order count boxes top 0 at ts 0 0 W
+  unfolding sideOf
+  first-ready =
+      record {
+        ordered = ordered;
+        points = g .points;
+        boxed = g .boxed;
+        low = g .low;
+        behind = g .behind;
+        apart = omega (arith, g .apart);
+        room = omega (arith, g .room);
+        long = omega (arith, g .long);
+        boxes-room = g .boxes-room;
+        edge = omega arith;
+        pointed = g .first;
+        countable = omega (arith, g .small);
+        far = g .far;
+      }
+
+  module _ {f₁ p₁ : ℕ} {X : List ℕ} (a : FoundIn ps sag s v 0 at ts 0 0 os W X f₁ p₁) (ex : length X ≡ length W) where
     -- the second
-    pub second-ready : FindOn ps sag beyond v list count 1 at ts f₁ p₁ X
+    pub second-ready : FindOn ps sag beyond s v order count boxes top 1 at ts f₁ p₁ X
+    unfolding sideOf
     second-ready =
         record {
-          listed = listed-kept (g .listed) (g .behind) (a .front) ex;
-          few = g .few;
-          all = g .all;
+          ordered = ordered-kept ordered (g .behind) (a .front) ex;
+          points = g .points;
+          boxed = λ z. tree-kept at (ts + 0 + length os) (g .boxed z) (g .behind) (a .front) (omega (arith, g .room, os-long)) (a .rest);
+          low = g .low;
           behind = g .behind;
-          apart = omega (arith, g .apart, a .few);
-          room = omega (arith, g .room, a .few);
+          apart = omega (arith, g .apart, a .few, os-long);
+          room = omega (arith, g .room, a .few, os-long);
+          long = omega (arith, g .long, a .few, os-long);
+          boxes-room = λ z. subst (λ (n : ℕ). boxes + 12 * 2 ^ top ≤ n) (sym ex) (g .boxes-room z);
           edge = omega arith;
-          countable = omega (arith, g .small, a .bound);
+          pointed = g .second;
+          countable = omega (arith, g .small, a .bound, os-long);
           far = g .far;
         }
 
-    module _ {f₂ p₂ : ℕ} {Y : List ℕ} (b : FoundAll ps sag s v list count 1 at ts f₁ p₁ X Y f₂ p₂) (ey : length Y ≡ length X) where
+    os-x : take count (drop order X) ≡ os
+    os-x = stretch-kept order count at W X (a .front) (g .behind)
+
+    module _ {f₂ p₂ : ℕ} {Y : List ℕ} (b : FoundIn ps sag s v 1 at ts f₁ p₁ (take count (drop order X)) X Y f₂ p₂) (ey : length Y ≡ length X) where
+      x-long : length (take count (drop order X)) ≡ count
+      x-long = ap length os-x ∙ os-long
+
       -- the third
-      pub third-ready : FindOn ps sag beyond v list count 2 at ts f₂ p₂ Y
+      pub third-ready : FindOn ps sag beyond s v order count boxes top 2 at ts f₂ p₂ Y
+      unfolding sideOf
       third-ready =
           record {
-            listed = listed-kept (second-ready .listed) (g .behind) (b .front) ey;
-            few = g .few;
-            all = g .all;
+            ordered = ordered-kept (second-ready .ordered) (g .behind) (b .front) ey;
+            points = g .points;
+            boxed = λ z. tree-kept at (ts + p₁ + length (take count (drop order X))) (second-ready .boxed z) (g .behind) (b .front) (omega (arith, g .room, a .few, os-long, x-long)) (b .rest);
+            low = g .low;
             behind = g .behind;
-            apart = omega (arith, g .apart, a .few, b .few);
-            room = omega (arith, g .room, a .few, b .few);
+            apart = omega (arith, g .apart, a .few, b .few, os-long, x-long);
+            room = omega (arith, g .room, a .few, b .few, os-long, x-long);
+            long = omega (arith, g .long, a .few, b .few, os-long, x-long);
+            boxes-room = λ z. subst (λ (n : ℕ). boxes + 12 * 2 ^ top ≤ n) (sym ey) (second-ready .boxes-room z);
             edge = omega arith;
-            countable = omega (arith, g .small, a .bound, b .bound);
+            pointed = g .third;
+            countable = omega (arith, g .small, a .bound, b .bound, os-long, x-long);
             far = g .far;
           }
 
-      module _ {f₃ p₃ : ℕ} {Z : List ℕ} (c : FoundAll ps sag s v list count 2 at ts f₂ p₂ Y Z f₃ p₃) (ez : length Z ≡ length Y) where
-        -- close entries can be dropped
-        pub entries-held : EntriesHeld at ts p₃ Z
-        entries-held = record { apart = omega (arith, g .apart, a .few, b .few, c .few); room = omega (arith, g .room, a .few, b .few, c .few) }
+      os-y : take count (drop order Y) ≡ os
+      os-y = stretch-kept order count at X Y (b .front) (g .behind) ∙ os-x
 
-        names-x : take v X ≡ take v W
-        names-x = front-less v at W X (a .front) (omega (arith, g .listed .behind, g .behind))
+      module _ {f₃ p₃ : ℕ} {Z : List ℕ} (c : FoundIn ps sag s v 2 at ts f₂ p₂ (take count (drop order Y)) Y Z f₃ p₃) (ez : length Z ≡ length Y) where
+        y-long : length (take count (drop order Y)) ≡ count
+        y-long = ap length os-y ∙ os-long
 
-        names-y : take v Y ≡ take v W
-        names-y = front-less v at X Y (b .front) (omega (arith, g .listed .behind, g .behind)) ∙ names-x
-
-        list-x : take count (drop list X) ≡ take count (drop list W)
-        list-x = stretch-kept list count at W X (a .front) (g .behind)
-
-        list-y : take count (drop list Y) ≡ take count (drop list W)
-        list-y = stretch-kept list count at X Y (b .front) (g .behind) ∙ list-x
-
-        -- the triangle is split
-        pub triangle-split : {k : ℕ} {E : List ℕ} → EntriesKept at ts p₃ Z E k → Split ps sag s v list count at ts W E f₃ k
-        unfolding triangleFound triangleKept
-        triangle-split {k} {E} d =
+        -- the pairs can be sorted
+        pub pairs-held : PairsHeld at ts p₃ Z
+        pairs-held =
             record {
-              found-is =
-                  c .more
-                  ∙ (λ i. f₂ + foundCount sag ps (names-y i) s 2 (list-y i))
-                  ∙ ap (λ (n : ℕ). n + foundCount sag ps (take v W) s 2 (take count (drop list W)))
-                  (b .more ∙ (λ i. f₁ + foundCount sag ps (names-x i) s 1 (list-x i)) ∙ ap (λ (n : ℕ). n + foundCount sag ps (take v W) s 1 (take count (drop list W))) (a .more ∙ first-sum));
-              kept-are =
-                  d .entries
-                  ∙ ap keptEntries
-                  (c .entries
-                  ∙ (λ i. entriesOn sag ps (names-y i) s 2 (list-y i) (entriesIn Y at ts p₂))
-                  ∙ ap (entriesOn sag ps (take v W) s 2 (take count (drop list W)))
-                  (b .entries ∙ (λ i. entriesOn sag ps (names-x i) s 1 (list-x i) (entriesIn X at ts p₁))
-                  ∙ ap (entriesOn sag ps (take v W) s 1 (take count (drop list W))) (a .entries ∙ ap (entriesOn sag ps (take v W) s 0 (take count (drop list W))) (none-there W at ts))));
-              few-found = omega (arith, a .bound, b .bound, c .bound);
-              few = omega (arith, d .few, a .few, b .few, c .few);
-              front = d .front ∙ c .front ∙ b .front ∙ a .front;
-              rest =
-                  rest-less (ts + p₃) (ts + 3 * count) Z E (d .rest) (omega (arith, a .few, b .few, c .few))
-                  ∙ rest-less (ts + p₂ + count) (ts + 3 * count) Y Z (c .rest) (omega (arith, a .few, b .few))
-                  ∙ rest-less (ts + p₁ + count) (ts + 3 * count) X Y (b .rest) (omega (arith, a .few))
-                  ∙ rest-less (ts + 0 + count) (ts + 3 * count) W X (a .rest) (omega arith);
+              apart = omega (arith, g .apart, a .few, b .few, c .few, os-long, x-long, y-long);
+              room = omega (arith, g .long, a .few, b .few, c .few, os-long, x-long, y-long);
             }
-          where
-            first-sum : 0 + foundCount sag ps (take v W) s 0 (take count (drop list W)) ≡ foundCount sag ps (take v W) s 0 (take count (drop list W))
-            first-sum = omega arith
+
+        module _ {S : List ℕ} (o : PairsSorted at ts p₃ Z S) (es : length S ≡ length Z) where
+          -- and close ones dropped
+          pub sorted-held : PairsHeld at ts p₃ S
+          sorted-held = record { apart = pairs-held .apart; room = omega (arith, pairs-held .room) }
+
+          abbrev ns : List ℕ
+          ns = take v W
+
+          names-x : take v X ≡ ns
+          names-x = front-less v at W X (a .front) (omega (arith, g .order-names, g .behind))
+
+          names-y : take v Y ≡ ns
+          names-y = front-less v at X Y (b .front) (omega (arith, g .order-names, g .behind)) ∙ names-x
+
+          -- all pairs that were found
+          pairs-are : pairsIn Z at ts p₃ ≡ foundPairs sag ps ns s 0 os ++ foundPairs sag ps ns s 1 os ++ foundPairs sag ps ns s 2 os
+          pairs-are =
+              c .pairs
+              ∙ (λ i. b .pairs i ++ foundPairs sag ps (names-y i) s 2 (os-y i))
+              ∙ (λ i. a .pairs i ++ foundPairs sag ps (names-x i) s 1 (os-x i) ++ foundPairs sag ps ns s 2 os)
+              ∙ (λ i. none-there W at ts i ++ foundPairs sag ps ns s 0 os ++ foundPairs sag ps ns s 1 os ++ foundPairs sag ps ns s 2 os)
+
+          -- are those of the list by name
+          ranked : Rearranged (pairsIn S at ts p₃)
+              (foundPairs sag ps ns s 0 (rankedFrom 0 gs) ++ foundPairs sag ps ns s 1 (rankedFrom 0 gs) ++ foundPairs sag ps ns s 2 (rankedFrom 0 gs))
+          ranked =
+              same-then (o .same)
+              (subst
+              (λ (xs : List ℕ). Rearranged xs (foundPairs sag ps ns s 0 (rankedFrom 0 gs) ++ foundPairs sag ps ns s 1 (rankedFrom 0 gs) ++ foundPairs sag ps ns s 2 (rankedFrom 0 gs)))
+              (sym pairs-are)
+              (same-append
+              (same-append (pairs-same sag ps ns s 0 os gs (g .ranked)) (pairs-same sag ps ns s 1 os gs (g .ranked)))
+              (pairs-same sag ps ns s 2 os gs (g .ranked))))
+
+          -- the triangle is split
+          pub triangle-split : {k : ℕ} {E : List ℕ} → KeptOfPairs at ts p₃ S E k → Split ps sag s v list count at ts W E f₃ k
+          unfolding triangleFound triangleKept
+          triangle-split {k} {E} d =
+              record {
+                found-is =
+                    c .more
+                    ∙ (λ i. b .more i + countIf (isFound sag ps (names-y i) s 2) (os-y i))
+                    ∙ (λ i. a .more i + countIf (isFound sag ps (names-x i) s 1) (os-x i) + countIf (isFound sag ps ns s 2) os)
+                    ∙ (λ i. 0 + found-same sag ps ns s 0 os gs (g .ranked) gs-small i + found-same sag ps ns s 1 os gs (g .ranked) gs-small i
+                    + found-same sag ps ns s 2 os gs (g .ranked) gs-small i)
+                    ∙ first-sum (foundCount sag ps ns s 0 gs) (foundCount sag ps ns s 1 gs) (foundCount sag ps ns s 2 gs);
+                kept-are =
+                    d .entries
+                    ∙ ap keptEntries (sorted-entries sag ps ns s gs (omega (arith, gs-long, g .small)) gs-small (pairsIn S at ts p₃) (o .rises) ranked);
+                few-found = omega (arith, a .bound, b .bound, c .bound, os-long, x-long, y-long);
+                few = omega (arith, d .few, a .few, b .few, c .few, os-long, x-long, y-long);
+                front = d .front ∙ o .front ∙ c .front ∙ b .front ∙ a .front;
+                rest =
+                    rest-less (ts + p₃) (ts + 3 * count) S E (d .rest) (omega (arith, a .few, b .few, c .few, os-long, x-long, y-long))
+                    ∙ rest-less (ts + p₃) (ts + 3 * count) Z S (o .rest) (omega (arith, a .few, b .few, c .few, os-long, x-long, y-long))
+                    ∙ rest-less (ts + p₂ + length (take count (drop order Y))) (ts + 3 * count) Y Z (c .rest) (omega (arith, a .few, b .few, os-long, x-long, y-long))
+                    ∙ rest-less (ts + p₁ + length (take count (drop order X))) (ts + 3 * count) X Y (b .rest) (omega (arith, a .few, os-long, x-long))
+                    ∙ rest-less (ts + 0 + length os) (ts + 3 * count) W X (a .rest) (omega (arith, os-long));
+              }
+            where
+              first-sum : (x y z : ℕ) → 0 + x + y + z ≡ x + y + z
+              first-sum x y z = omega arith

@@ -2,7 +2,8 @@
 
 mod finding;
 mod placing;
+mod search;
 mod triangle;
 
-pub use triangle::Tally;
+pub use search::Tally;
 pub use triangle::split_triangle;

@@ -60,8 +60,8 @@ table-none : tableOf [] ≡ []
 unfolding tableOf
 table-none = refl
 
-module _ {table : List ℕ} {ps ns : List Float} {is : List ℕ} {sag beyond : Float} {v list count at ts flags : ℕ} {W R : List ℕ} {P N : List Float} {I : List ℕ}
-    (g : BodyWritable table ps ns is sag beyond v list count at ts flags W R P N I) where
+module _ {table : List ℕ} {ps ns : List Float} {is : List ℕ} {sag beyond : Float} {v list count at ts flags order boxes top : ℕ} {W R : List ℕ} {P N : List Float} {I : List ℕ}
+    (g : BodyWritable table ps ns is sag beyond v list count at ts flags order boxes top W R P N I) where
   -- none is written yet
   pub writing-none : WritingRows table ps ns is sag v list count at ts flags W R P N I 0 0 0 0 0 W R P N I
   writing-none =
@@ -108,7 +108,7 @@ module _ {table : List ℕ} {ps ns : List Float} {is : List ℕ} {sag beyond : F
   unfolding rowAt
   indices-all =
       let marked : length (take (length is) (drop flags W)) ≡ length is =
-      length-take-le (length is) (drop flags W) (omega (arith, length-drop flags W, g .body .stands .behind, g .body .stands .apart, g .body .stands .room)) in
+      length-take-le (length is) (drop flags W) (omega (arith, length-drop flags W, g .body .stands .behind, g .body .stands .apart, g .body .stands .long)) in
       omega (
         arith,
         g .body .all,
@@ -221,11 +221,11 @@ module _ {table : List ℕ} {ps ns : List Float} {is : List ℕ} {sag beyond : F
         )
 
     -- the row can be written
-    pub row-writable : RowWritable ps ns is sag beyond n v list count at ts flags base vertices i end vo io E Q M J
+    pub row-writable : RowWritable ps ns is sag beyond n v list count at ts flags order boxes top base vertices i end vo io E Q M J
     unfolding rowAt
     row-writable =
         record {
-          stands = subst (λ (x : ℕ). Stands ps sag beyond x v list count at ts flags E) (sym en) (stands-kept (g .body .stands) (c .front) (c .long));
+          stands = subst (λ (x : ℕ). Stands ps sag beyond x v list count at ts flags order boxes top E) (sym en) (stands-kept (g .body .stands) (c .front) (c .rest) (c .long));
           ordered = omega arith;
           whole = ap (λ (x : ℕ). x % 3) size ∙ g .body .threes k more;
           inside = omega (arith, end-low);

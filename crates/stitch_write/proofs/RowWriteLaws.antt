@@ -102,8 +102,8 @@ pub record Writing (ps ns : List Float) (is : List ℕ) (sag : Float) (v list co
   pub long-normals : length N' ≡ length N
   pub long-indices : length I' ≡ length I
 
-module _ {ps ns : List Float} {is : List ℕ} {sag beyond : Float} {n v list count at ts flags base vertices from to vo io : ℕ} {W : List ℕ} {P N : List Float} {I : List ℕ}
-    (g : RowWritable ps ns is sag beyond n v list count at ts flags base vertices from to vo io W P N I) where
+module _ {ps ns : List Float} {is : List ℕ} {sag beyond : Float} {n v list count at ts flags order boxes top base vertices from to vo io : ℕ} {W : List ℕ} {P N : List Float} {I : List ℕ}
+    (g : RowWritable ps ns is sag beyond n v list count at ts flags order boxes top base vertices from to vo io W P N I) where
   -- ---- the row's own vertices
 
   -- the stretch of its positions
@@ -193,7 +193,7 @@ module _ {ps ns : List Float} {is : List ℕ} {sag beyond : Float} {n v list cou
   module _ {Q M : List Float} (lq : length Q ≡ length P) (lm : length M ≡ length N) {E : List ℕ} {P' N' : List Float} {I' : List ℕ} {vertices' indices' k : ℕ}
       (c : Writing ps ns is sag v list count at ts flags base vertices from to vo io W Q M I E P' N' I' vertices' indices' k) (l : k < to) where
     -- the rest of the row can be counted
-    row : RowReady ps is sag beyond n v list count at ts flags base vertices k to 0 0 W
+    row : RowReady ps is sag beyond n v list count at ts flags order boxes top base vertices k to 0 0 W
     row =
         record {
           stands = g .stands;
@@ -280,7 +280,7 @@ module _ {ps ns : List Float} {is : List ℕ} {sag beyond : Float} {n v list cou
     next-is = omega (arith, c .vertices-end)
 
     -- it can be written
-    pub triangle-writable : TriangleWritable ps ns is sag beyond n v list count at ts flags base k (vertices' - vo) vertices' indices' E P' N' I'
+    pub triangle-writable : TriangleWritable ps ns is sag beyond n v list count at ts flags order boxes top base k (vertices' - vo) vertices' indices' E P' N' I'
     triangle-writable =
         let e = ap length kept-here in
         record {

@@ -16,15 +16,15 @@ use Rattle.stitch_write.specs.KeptVertices.{AllBelow, kept-below, entry-
 use Rattle.stitch_write.specs.Writing.{keptAt, fanAt, TriangleWritable, TriangleWritten}
 use Rattle.stitch_count.specs.RowLaws.{entries-long}
 
-module _ {ps ns : List Float} {is : List ℕ} {sag beyond : Float} {n v list count at ts flags base k next vo io : ℕ} {W : List ℕ} {P N : List Float} {I : List ℕ}
-    (g : TriangleWritable ps ns is sag beyond n v list count at ts flags base k next vo io W P N I) where
+module _ {ps ns : List Float} {is : List ℕ} {sag beyond : Float} {n v list count at ts flags order boxes top base k next vo io : ℕ} {W : List ℕ} {P N : List Float} {I : List ℕ}
+    (g : TriangleWritable ps ns is sag beyond n v list count at ts flags order boxes top base k next vo io W P N I) where
   module _ {E : List ℕ} {found kept : ℕ} (d : TriangleDone ps is sag v list count at ts flags base k W E found kept) (long : length E ≡ length W) where
     -- the entries and their parameters stand in the work area
     words-room : at + kept ≤ length E
-    words-room = omega (arith, d .held, g .ready .stands .apart, g .ready .stands .room)
+    words-room = omega (arith, d .held, g .ready .stands .apart, g .ready .stands .long)
 
     parameters-room : ts + kept ≤ length E
-    parameters-room = omega (arith, d .held, g .ready .stands .room)
+    parameters-room = omega (arith, d .held, g .ready .stands .long)
 
     -- as many as the triangle keeps
     pub kept-many : kept ≡ length (keptAt ps is sag v list count flags base k W)

@@ -23,8 +23,9 @@ abbrev pub fanAt : List ℕ → ℕ → ℕ → List Entry → List ℕ
 fanAt is k next C = fanGo (getD is k 0) false 0 (ringAfter (getD is (k + 1) 0) (getD is (k + 2) 0) next C)
 
 -- what writing the triangle at index k asks: normals as many as positions, numbers that fit, and room for its vertices behind vo and its indices behind io
-pub record TriangleWritable (ps ns : List Float) (is : List ℕ) (sag beyond : Float) (n v list count at ts flags base k next vo io : ℕ) (W : List ℕ) (P N : List Float) (I : List ℕ) : Type 0 where
-  pub ready : TriangleReady ps is sag beyond n v list count at ts flags base k W
+pub record TriangleWritable (ps ns : List Float) (is : List ℕ) (sag beyond : Float) (n v list count at ts flags order boxes top base k next vo io : ℕ) (W : List ℕ) (P N : List Float)
+    (I : List ℕ) : Type 0 where
+  pub ready : TriangleReady ps is sag beyond n v list count at ts flags order boxes top base k W
   pub all : length ns ≡ 3 * v
   pub small : next + 2359296 < 4294967296
   pub room-positions : 3 * (vo + length (keptAt ps is sag v list count flags base k W)) ≤ length P
@@ -43,8 +44,9 @@ pub record TriangleWritten (ps ns : List Float) (is : List ℕ) (sag : Float) (v
   pub rest : drop (ts + 3 * count) E ≡ drop (ts + 3 * count) W
 
 -- what writing one row asks: whole triangles over the row's vertices, numbers that fit, and room for all that it has behind vo and io
-pub record RowWritable (ps ns : List Float) (is : List ℕ) (sag beyond : Float) (n v list count at ts flags base vertices from to vo io : ℕ) (W : List ℕ) (P N : List Float) (I : List ℕ) : Type 0 where
-  pub stands : Stands ps sag beyond n v list count at ts flags W
+pub record RowWritable (ps ns : List Float) (is : List ℕ) (sag beyond : Float) (n v list count at ts flags order boxes top base vertices from to vo io : ℕ) (W : List ℕ) (P N : List Float)
+    (I : List ℕ) : Type 0 where
+  pub stands : Stands ps sag beyond n v list count at ts flags order boxes top W
   pub ordered : from ≤ to
   pub whole : (to - from) % 3 ≡ 0
   pub inside : to ≤ n
@@ -74,8 +76,9 @@ abbrev pub viewsOf : List ℕ → List Float → List ℕ → Float → ℕ → 
 viewsOf table ps is sag v list count flags W = bodyViews sag ps (take v W) (take count (drop list W)) 0 (take (length is) (drop flags W)) (rowsOf table) is
 
 -- what writing the body asks: a body whose splits can be counted, within the limits, and room in the four slices
-pub record BodyWritable (table : List ℕ) (ps ns : List Float) (is : List ℕ) (sag beyond : Float) (v list count at ts flags : ℕ) (W R : List ℕ) (P N : List Float) (I : List ℕ) : Type 0 where
-  pub body : BodyReady table ps is sag beyond v list count at ts flags W
+pub record BodyWritable (table : List ℕ) (ps ns : List Float) (is : List ℕ) (sag beyond : Float) (v list count at ts flags order boxes top : ℕ) (W R : List ℕ) (P N : List Float)
+    (I : List ℕ) : Type 0 where
+  pub body : BodyReady table ps is sag beyond v list count at ts flags order boxes top W
   pub all : length ns ≡ 3 * v
   pub small : v + sumOf keptIn (viewsOf table ps is sag v list count flags W) ≤ 262144
   pub small-indices : length is + 3 * sumOf keptIn (viewsOf table ps is sag v list count flags W) ≤ 786432

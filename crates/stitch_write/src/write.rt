@@ -32,7 +32,7 @@ fn write_triangle(
     io: usize,
 ) -> Ends
     requires { ⌜ TriangleWritable (now positions) (now normals) (now indices) (f .sag) (f .beyond) n (f .v) (f .list) (f .count) (f .at) (f .ts)
-        (f .flags) base k next vo io
+        (f .flags) (f .order) (f .boxes) (f .top) base k next vo io
         (now w) (now «out_positions») (now «out_normals») (now «out_indices») ⌝ }
     ensures { λ r. ⌜ TriangleWritten (now (positions .entry)) (now (normals .entry)) (now (indices .entry)) (f .sag) (f .v) (f .list) (f .count) (f .at) (f .ts)
         (f .flags) base k next vo io
@@ -94,7 +94,7 @@ fn write_row(
     io: usize,
 ) -> Ends
     requires { ⌜ RowWritable (now positions) (now normals) (now indices) (f .sag) (f .beyond) n (f .v) (f .list) (f .count) (f .at) (f .ts)
-        (f .flags) base vertices from to vo io
+        (f .flags) (f .order) (f .boxes) (f .top) base vertices from to vo io
         (now w) (now «out_positions») (now «out_normals») (now «out_indices») ⌝ }
     ensures { λ r. ⌜ RowWritten (now (positions .entry)) (now (normals .entry)) (now (indices .entry)) (f .sag) (f .v) (f .list) (f .count) (f .at) (f .ts)
         (f .flags) base vertices from to vo io
@@ -146,7 +146,8 @@ pub fn write_body(
     out_normals: &mut [f32],
     out_indices: &mut [u32],
 )
-    requires { ⌜ BodyWritable (now rows) (now positions) (now normals) (now indices) (f .sag) (f .beyond) (f .v) (f .list) (f .count) (f .at) (f .ts) (f .flags)
+    requires { ⌜ BodyWritable (now rows) (now positions) (now normals) (now indices) (f .sag) (f .beyond) (f .v) (f .list) (f .count) (f .at) (f .ts)
+        (f .flags) (f .order) (f .boxes) (f .top)
         (now w) (now «out_rows») (now «out_positions») (now «out_normals») (now «out_indices») ⌝ }
     ensures { λ _. ⌜ BodyWritten (now (rows .entry)) (now (positions .entry)) (now (normals .entry)) (now (indices .entry)) (f .sag) (f .v) (f .list) (f .count)
         (f .at) (f .ts) (f .flags)

@@ -6,7 +6,9 @@ use Rattle.stitch_accepted.proofs.closing.stitch_open.Statement.{statem
 use Rattle.stitch_accepted.proofs.closing.stitch_open.Tie as tie
 
 prepare-requires : tie.Need-prepare-requires
-prepare-requires c κs = search preparable
+prepare-requires c κs =
+    let k = c .before .before .before .before .before .before .before .before in
+    preparable (k .before .before .pre) (k .shared-slice-known2 .given)
 
 count-splits-requires : tie.Need-count-splits-requires
 count-splits-requires c κs = search needs

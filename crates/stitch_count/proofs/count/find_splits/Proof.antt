@@ -1,5 +1,5 @@
 -- `find_splits` meets its contract. Assumes nothing.
-use Rattle.stitch_count.proofs.CountLaws.{triangle-done, triangle-closed}
+use Rattle.stitch_count.proofs.CountLaws.{triangle-splittable, triangle-done, triangle-closed}
 use borrow.Author.Needs.{needs}
 use Rattle.stitch_count.proofs.count.find_splits.Statement.{statement}
 use Rattle.stitch_count.proofs.count.find_splits.Tie as tie
@@ -14,7 +14,7 @@ sides-at-requires : tie.Need-sides-at-requires
 sides-at-requires c κs = search needs
 
 split-triangle-requires : tie.Need-split-triangle-requires
-split-triangle-requires c κs = search needs
+split-triangle-requires c κs = search triangle-splittable
 
 same-length : tie.Need-same-length
 same-length c = search needs

@@ -1,6 +1,6 @@
 -- `drop_close` meets its contract. Assumes nothing.
 use Prim.Native.Nat.{_-_}
-use Rattle.stitch_entries.proofs.DropLaws.{Keeping, kept-none, keeping-first, keeping-less, keeping-more, keeping-all}
+use Rattle.stitch_entries.proofs.DropLaws.{Keeping, keeping-none, keeping-less, keeping-more, keeping-all}
 use borrow.Author.Needs.{needs}
 use Rattle.stitch_entries.proofs.entries.drop_close.Statement.{statement}
 use Rattle.stitch_entries.proofs.entries.drop_close.Tie as tie
@@ -11,17 +11,11 @@ Inv-loop w₀ at ts count kept₀ j₀ w kept j = Keeping at ts count w₀ kept 
 abbrev μ-loop : tie.MeasureT-loop
 μ-loop w₀ at ts count kept₀ j₀ w kept j = count - j
 
-returns : tie.Need-returns Inv-loop μ-loop
-returns c = search kept-none
-
 loop-holds : tie.Need-loop-holds Inv-loop μ-loop
-loop-holds c = search keeping-first
+loop-holds c = search keeping-none
 
-sub-is-close : tie.Need-sub-is-close Inv-loop μ-loop
-sub-is-close c = search needs
-
-is-close-requires : tie.Need-is-close-requires Inv-loop μ-loop
-is-close-requires c κs = search needs
+close-to-last-requires : tie.Need-close-to-last-requires Inv-loop μ-loop
+close-to-last-requires c κs = search needs
 
 add-j : tie.Need-add-j Inv-loop μ-loop
 add-j c = search needs
@@ -30,10 +24,13 @@ loop-less : tie.Need-loop-less Inv-loop μ-loop
 loop-less c = search needs
 
 loop-again : tie.Need-loop-again Inv-loop μ-loop
-loop-again c = search keeping-less
+loop-again c =
+    let t = c .before .before .before in
+    let k = t .before .before in
+    keeping-less (k .before .pre) (t .before .loop .inv) (λ i. k .slice-known .given i .fits) (t .loop-test .taken) (c .before .close-to-last .ensures) (c .if1 .taken)
 
-copy-entry-requires : tie.Need-copy-entry-requires Inv-loop μ-loop
-copy-entry-requires c κs = search needs
+keep-pair-requires : tie.Need-keep-pair-requires Inv-loop μ-loop
+keep-pair-requires c κs = search needs
 
 add-kept : tie.Need-add-kept Inv-loop μ-loop
 add-kept c = search needs
@@ -46,17 +43,17 @@ loop-less-2 c = search needs
 
 loop-again-2 : tie.Need-loop-again-2 Inv-loop μ-loop
 loop-again-2 c =
-    let k = c .before .before in
-    let i = k .before .before in
+    let p = c .before .before in
+    let i = p .before .before in
     let t = i .before .before .before in
-    let l = t .before in
-    keeping-more (l .before .before .before .pre) (l .loop .inv) (t .loop-test .taken) (i .before .is-close .ensures) (i .if2 .left) (k .copy-entry .ensures)
+    let k = t .before .before in
+    keeping-more (k .before .pre) (t .before .loop .inv) (λ i. k .slice-known .given i .fits) (t .loop-test .taken) (i .before .close-to-last .ensures) (i .if1 .left) (p .keep-pair .ensures)
 
 same-length : tie.Need-same-length Inv-loop μ-loop
 same-length c = search needs
 
-returns-2 : tie.Need-returns-2 Inv-loop μ-loop
-returns-2 c = search keeping-all
+returns : tie.Need-returns Inv-loop μ-loop
+returns c = search keeping-all
 
 pub drop-close-spec : {M : Type 1} → statement M
 drop-close-spec =
@@ -64,17 +61,15 @@ drop-close-spec =
     (tie.spec
     Inv-loop
     μ-loop
-    returns
     loop-holds
-    sub-is-close
-    is-close-requires
+    close-to-last-requires
     add-j
     loop-less
     loop-again
-    copy-entry-requires
+    keep-pair-requires
     add-kept
     add-j-2
     loop-less-2
     loop-again-2
     same-length
-    returns-2)
+    returns)

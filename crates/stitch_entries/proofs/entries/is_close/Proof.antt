@@ -5,17 +5,17 @@ use borrow.Author.Needs.{needs}
 use Rattle.stitch_entries.proofs.entries.is_close.Statement.{statement}
 use Rattle.stitch_entries.proofs.entries.is_close.Tie as tie
 
+pair-edge-requires : tie.Need-pair-edge-requires
+pair-edge-requires c κs = search needs
+
 entry-edge-requires : tie.Need-entry-edge-requires
 entry-edge-requires c κs = search needs
 
-entry-edge-requires-2 : tie.Need-entry-edge-requires-2
-entry-edge-requires-2 c κs = search needs
+pair-parameter-requires : tie.Need-pair-parameter-requires
+pair-parameter-requires c κs = search needs
 
 entry-parameter-requires : tie.Need-entry-parameter-requires
 entry-parameter-requires c κs = search needs
-
-entry-parameter-requires-2 : tie.Need-entry-parameter-requires-2
-entry-parameter-requires-2 c κs = search needs
 
 absolute-f64-requires : tie.Need-absolute-f64-requires
 absolute-f64-requires c κs = search needs
@@ -31,10 +31,10 @@ pub is-close-spec : {M : Type 1} → statement M
 is-close-spec =
     tie.close
     (tie.spec
+    pair-edge-requires
     entry-edge-requires
-    entry-edge-requires-2
+    pair-parameter-requires
     entry-parameter-requires
-    entry-parameter-requires-2
     absolute-f64-requires
     returns
     returns-2)

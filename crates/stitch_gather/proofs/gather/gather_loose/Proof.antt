@@ -1,96 +1,59 @@
 -- `gather_loose` meets its contract. Assumes nothing.
-use Prim.Native.Nat.{_-_}
+use Rattle.stitch_gather.proofs.SortLaws.{clear-gatherable, loose-ready, all-gathered}
 use mathlib.Core.Path.{refl}
 use native.Mathlib.Omega.{arith}
-use Rattle.stitch_gather.proofs.GatherLaws.{end-low, base-low, GatheringRows, rows-none, rows-more, rows-all, row-gatherable}
 use borrow.Author.Needs.{needs}
 use Rattle.stitch_gather.proofs.gather.gather_loose.Statement.{statement}
 use Rattle.stitch_gather.proofs.gather.gather_loose.Tie as tie
 
-abbrev Inv-loop : tie.InvT-loop
-Inv-loop rows indices w₀ v at flags m found₀ base₀ i₀ k₀ w found base i k = GatheringRows rows indices v at flags w₀ found base i k w
+add-ts : tie.Need-add-ts
+add-ts c = search needs
 
-abbrev μ-loop : tie.MeasureT-loop
-μ-loop rows indices w₀ v at flags m found₀ base₀ i₀ k₀ w found base i k = m - k
+mul-fill : tie.Need-mul-fill
+mul-fill c = search needs
 
-row-count-requires : tie.Need-row-count-requires Inv-loop μ-loop
-row-count-requires c κs = search needs
+mul-fill-2 : tie.Need-mul-fill-2
+mul-fill-2 c = search needs
 
-loop-holds : tie.Need-loop-holds Inv-loop μ-loop
-loop-holds c = search rows-none
+add-fill : tie.Need-add-fill
+add-fill c = search needs
 
-vertices-requires : tie.Need-vertices-requires Inv-loop μ-loop
-vertices-requires c κs = search needs
+fill-requires : tie.Need-fill-requires
+fill-requires c κs = search needs
 
-cast-vertices : tie.Need-cast-vertices Inv-loop μ-loop
-cast-vertices c = search needs
+gather-rows-requires : tie.Need-gather-rows-requires
+gather-rows-requires c κs = search clear-gatherable
 
-indices-requires : tie.Need-indices-requires Inv-loop μ-loop
-indices-requires c κs = search needs
+list-standing-requires : tie.Need-list-standing-requires
+list-standing-requires c κs = search loose-ready
 
-cast-end : tie.Need-cast-end Inv-loop μ-loop
-cast-end c = search needs
+sort-pairs-requires : tie.Need-sort-pairs-requires
+sort-pairs-requires c κs = search needs
 
-add-end : tie.Need-add-end Inv-loop μ-loop
-add-end c =
-    let t = c .before .before in
-    let q = t .before in
-    let l = end-low (q .before .before .before .before .before .pre) (q .loop .inv) (q .before .row-count .ensures) (t .loop-test .taken) refl refl in
-    let p = q .before .before .before .before .before .pre in
-    omega (arith, l, c .indices .ensures, p .all, p .few)
-
-gather-row-requires : tie.Need-gather-row-requires Inv-loop μ-loop
-gather-row-requires c κs =
-    let i = c .before in
-    let t = i .before .before in
-    let q = t .before in
-    row-gatherable (q .before .before .before .before .before .pre) (q .loop .inv) (q .before .row-count .ensures) (t .loop-test .taken) (i .before .vertices .ensures) (omega (arith, i .indices .ensures))
-
-add-base : tie.Need-add-base Inv-loop μ-loop
-add-base c =
-    let i = c .before .before .before .before in
-    let t = i .before .before in
-    let q = t .before in
-    let l = base-low (q .before .before .before .before .before .pre) (q .loop .inv) (q .before .row-count .ensures) (t .loop-test .taken) refl refl in
-    omega (arith, l, i .before .vertices .ensures, q .before .before .before .before .before .pre .few-vertices)
-
-add-k : tie.Need-add-k Inv-loop μ-loop
-add-k c = search needs
-
-loop-less : tie.Need-loop-less Inv-loop μ-loop
-loop-less c = search needs
-
-loop-again : tie.Need-loop-again Inv-loop μ-loop
-loop-again c =
-    let g = c .before .before in
-    let i = g .before .before in
-    let t = i .before .before in
-    let q = t .before in
-    rows-more (q .before .before .before .before .before .pre) (q .loop .inv) (q .before .row-count .ensures) (t .loop-test .taken) (i .before .vertices .ensures) (omega (arith, i .indices .ensures)) (g .gather-row .ensures) (omega arith)
-
-same-length : tie.Need-same-length Inv-loop μ-loop
+same-length : tie.Need-same-length
 same-length c = search needs
 
-returns : tie.Need-returns Inv-loop μ-loop
-returns c = search rows-all
+returns : tie.Need-returns
+returns c =
+    let p = c .before .before in
+    let l = p .before .before .before .before in
+    let d = l .before .before .before .before in
+    let f = d .before .before .before .before in
+    let pre = f .before .before .before .before .before .pre in
+    all-gathered pre (f .fill .ensures) (d .gather-rows .ensures) refl (omega arith) (l .list-standing .ensures) (omega arith) (p .sort-pairs .ensures) (omega arith)
+    (λ k. omega (arith, c .slice-known5 .given k))
 
 pub gather-loose-spec : {M : Type 1} → statement M
 gather-loose-spec =
     tie.close
     (tie.spec
-    Inv-loop
-    μ-loop
-    row-count-requires
-    loop-holds
-    vertices-requires
-    cast-vertices
-    indices-requires
-    cast-end
-    add-end
-    gather-row-requires
-    add-base
-    add-k
-    loop-less
-    loop-again
+    add-ts
+    mul-fill
+    mul-fill-2
+    add-fill
+    fill-requires
+    gather-rows-requires
+    list-standing-requires
+    sort-pairs-requires
     same-length
     returns)

@@ -25,8 +25,8 @@ add-corner-2 c = search needs
 corner-requires-3 : tie.Need-corner-requires-3
 corner-requires-3 c κs = search needs
 
-insert-triangle-requires : tie.Need-insert-triangle-requires
-insert-triangle-requires c κs = search needs
+stand-triangle-requires : tie.Need-stand-triangle-requires
+stand-triangle-requires c κs = search needs
 
 same-length : tie.Need-same-length
 same-length c = search needs
@@ -51,7 +51,7 @@ gather-triangle-spec =
     corner-requires-2
     add-corner-2
     corner-requires-3
-    insert-triangle-requires
+    stand-triangle-requires
     same-length
     returns
     same-length-2

@@ -1,0 +1,2 @@
+-- Pairs of found points read as entries.
+pub mod PairEntries
