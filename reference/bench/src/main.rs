@@ -7,10 +7,12 @@ mod peg;
 mod plan;
 mod report;
 mod stitch;
+mod stitch_large;
 mod turn;
 mod whole;
 
 use bench::bodies::{Body, closed_and_open, with_open_edges, with_zeros, yard};
+use bench::open_bodies::open_throughout;
 use bench::race::Times;
 use bench::shown::{grouped, time};
 use driver::command::fail;
@@ -18,7 +20,8 @@ use driver::sheet::Sheet;
 
 const USAGE: &str = "usage: bench [STAGE]   a table of each stage, or of one: turn, turn-new-work, stitch, stitch-new-slices,
        assemble, assemble-new-slices, assemble-zeros, assemble-materials, assemble-materials-new-slices, whole, whole-new-slices, yard,
-       growth, growth-open, plan, peg, report";
+       growth, growth-open, plan, peg, report
+       bench stitch-large   bodies that the Rust takes many seconds to stitch, and bodies at the limits by the library alone: minutes";
 
 /// A stage's name, the bodies it is timed on, and how both sides are timed on a body, so many rounds.
 type Stage = (&'static str, fn() -> Vec<Body>, fn(&Sheet, usize) -> Times);
@@ -26,7 +29,7 @@ type Stage = (&'static str, fn() -> Vec<Body>, fn(&Sheet, usize) -> Times);
 const STAGES: &[Stage] = &[
     ("turn", closed_and_open, turn::times),
     ("turn-new-work", closed_and_open, turn::times_with_new_work),
-    ("stitch", with_open_edges, stitch::times),
+    ("stitch", to_stitch, stitch::times),
     ("stitch-new-slices", with_open_edges, stitch::times_with_new_slices),
     ("assemble", closed_and_open, assemble::times),
     ("assemble-new-slices", closed_and_open, assemble::times_with_new_slices),
@@ -47,7 +50,15 @@ const OTHERS: &[(&str, fn())] = &[
     ("report", report::table),
 ];
 
+/// Tables that take minutes and are printed by name only.
+const LONG: &[(&str, fn())] = &[("stitch-large", stitch_large::table)];
+
 const YARD_ROUNDS: usize = 101;
+
+/// Bodies with few open edges and with many.
+fn to_stitch() -> Vec<Body> {
+    with_open_edges().into_iter().chain(open_throughout()).collect()
+}
 
 fn row(stage: &Stage, body: Body) {
     let sheet = (body.make)();
@@ -86,7 +97,7 @@ fn main() {
             OTHERS.iter().for_each(|(_, print)| print());
         }
         ["--help"] => println!("{USAGE}"),
-        [name] => match (STAGES.iter().find(|stage| stage.0 == name), OTHERS.iter().find(|other| other.0 == name)) {
+        [name] => match (STAGES.iter().find(|stage| stage.0 == name), OTHERS.iter().chain(LONG).find(|other| other.0 == name)) {
             (Some(stage), _) => table(stage),
             (_, Some(other)) => other.1(),
             _ => fail(&format!("bench: no stage {name}; see --help")),

@@ -7,6 +7,7 @@ mod slices;
 mod tally;
 
 use crate::lent;
+use crate::open::most_open;
 use crate::work::Work;
 use cases::{Case, as_given, finished, outputs};
 use compare::library::{Assembled, Mesh, Setting};
@@ -22,9 +23,6 @@ pub use refusals::refused;
 pub use settings::varied;
 pub use slices::{unlike as mesh_unlike, written as laid_over};
 pub use tally::Tally;
-
-/// Triangles with an open edge, at most, of a body that is stitched with its own sag: the time goes with their square.
-const MOST_OPEN: usize = 1000;
 
 /// What is wrong with a call: its answer, the outputs it leaves, or the work area of which it should clear some words.
 fn wrong(body: &Flat, setting: &Setting, outputs: &Mesh, mut work: Work, want: Assembled, left: &Mesh, cleared: usize) -> Option<String> {
@@ -54,7 +52,7 @@ fn differs(case: &Case, r: &mut Random) -> Option<String> {
 
 /// The sheet, or one that splits nothing where stitching it would take long.
 pub fn stitchable(sheet: &Sheet) -> Sheet {
-    let long = f64::from_bits(sheet.sag) > 0.0 && open_triangles(sheet) > MOST_OPEN;
+    let long = f64::from_bits(sheet.sag) > 0.0 && open_triangles(sheet) > most_open();
     Sheet { sag: if long { 0 } else { sheet.sag }, ..sheet.clone() }
 }
 

@@ -5,6 +5,8 @@ use crate::pegs;
 use crate::plans::wrong;
 use crate::planted;
 use crate::reports;
+use crate::searches;
+use crate::searches::wrong::stitch::Out;
 use crate::work::Work;
 use crate::zeros;
 use cad_ir::math::Aabb;
@@ -39,9 +41,15 @@ pub fn stitch(body: &Flat, sag: f64, out: &mut Flat, work: &mut Work) -> Result<
     let (w, w_len) = (work.lent().as_mut_ptr(), work.lent().len());
     // Sound: each pointer has as many elements behind it as the length says, in a block of its own.
     #[rustfmt::skip]
-    let mut answer = unsafe {
-        raw::cad_stitch(rows.start(), rows.len(), p.start(), p.len(), n.start(), n.len(), i.start(), i.len(), sag,
-            or.start(), or.len(), op.start(), op.len(), on.start(), on.len(), oi.start(), oi.len(), w, w_len)
+    let mut answer = match searches::wrong::planted() {
+        Some(wrong) => {
+            let out = Out { rows: or.lent(), positions: op.lent(), normals: on.lent(), indices: oi.lent() };
+            searches::wrong::stitch::stitch(body, sag, out, work.lent(), wrong)
+        }
+        None => unsafe {
+            raw::cad_stitch(rows.start(), rows.len(), p.start(), p.len(), n.start(), n.len(), i.start(), i.len(), sag,
+                or.start(), or.len(), op.start(), op.len(), on.start(), on.len(), oi.start(), oi.len(), w, w_len)
+        },
     };
     let slices: &mut [&mut dyn Spoil] = &mut [&mut rows, &mut p, &mut n, &mut i, &mut or, &mut op, &mut on, &mut oi];
     planted::spoil("stitch", &mut answer, slices, Some(work));

@@ -9,6 +9,7 @@ mod faults;
 mod fences;
 mod keys;
 mod lent;
+mod open;
 mod patches;
 mod pegs;
 mod plans;
@@ -16,6 +17,7 @@ mod plantable;
 mod planted;
 mod refusals;
 mod reports;
+mod searches;
 mod smallest;
 mod source_bodies;
 mod steps;
@@ -29,7 +31,7 @@ mod zeros;
 
 use driver::check::{MOST_INDICES, MOST_ROWS, check};
 use driver::command::fail;
-use driver::generate::{KINDS, Kind, LARGE, SEAMS, ZEROS, body_of, kind};
+use driver::generate::{KINDS, Kind, LARGE, SEAMS, TIES, ZEROS, body_of, kind};
 use driver::print;
 use driver::random::Random;
 use driver::sheet::{BENCH, Sheet, parse};
@@ -47,13 +49,15 @@ const USAGE: &str = "usage: compare FIRST LAST [SIZE]
        compare --plans FIRST LAST
        compare --pegs FIRST LAST
        compare --zeros FIRST LAST
+       compare --ties FIRST LAST [SIZE]
        compare --reports FIRST LAST
        compare --plan-program PROGRAM FIRST LAST
        compare --planted FIRST LAST
        compare --keys
        compare --without-fences ...
+       compare --open TRIANGLES ...
 The bodies of every kind with the seeds FIRST to LAST, small ones and some of a size that goes with the seed, or only those of SIZE
-pieces on each shape, 4096 at most. In the end, one body of every large kind with 100000 triangles and one at every limit.
+pieces on each shape, 4096 at most. In the end, one body of every large kind with 5000 triangles, one with 100000 and one at every limit.
 With --small none of the large bodies and none of those made by hand.
 With --large only bodies of the large kinds, with TRIANGLES triangles, 262144 at most; 100000 if left out.
 With --worst the bodies that ask the most of stitching, one with POINTS loose points on one edge, and the time that this one takes.
@@ -63,12 +67,15 @@ that is one byte away from a small plan.
 With --pegs only lookups of a peg's bins, which every run has besides: about a thousand placed bodies of each seed and their damaged copies, and without
 --small those at the limits.
 With --zeros only bodies with 0.0 and -0.0 side by side, which every run has besides, and without --small those with answers by hand.
+With --ties only bodies in which points tie on an edge, which every run has besides, and those at the limits.
 With --reports only reports of bodies, which every run has besides: the bodies of every kind of each seed, as given, finished and damaged, alone and in a
 row, and without --small those at the limits and one of every large kind.
 With --plan-program a program reads the plans at the limits and some of each seed, and must print each one's listing or refusal.
 With --planted faults are planted behind the library's calls, and the seeds FIRST to LAST must find each of them.
 With --keys the keys and cells of 2^32 points in which each coordinate is every f32 once, in some minutes.
-With --without-fences before any of these each lent slice is a block of memory of its own, for a tool that watches memory.";
+With --without-fences before any of these each lent slice is a block of memory of its own, for a tool that watches memory.
+With --open before any of these, behind --without-fences, bodies are stitched of which up to TRIANGLES triangles have an open edge, 5000 if left
+out: the Rust's time goes with the square of it, and is seconds for 20000.";
 
 /// Pieces on each shape, one of these for each seed besides the small body.
 const SIZES: [usize; 9] = [1, 2, 3, 5, 8, 13, 21, 34, 60];
@@ -76,6 +83,9 @@ const SIZES: [usize; 9] = [1, 2, 3, 5, 8, 13, 21, 34, 60];
 /// Triangles of the bodies that enclose nothing, for which every rounding of V counts: all of these for each seed.
 const NOTHING: [usize; 4] = [18, 24, 32, 500];
 const MANY_TRIANGLES: usize = 100_000;
+
+/// Triangles of the large kinds' bodies that are stitched with their own sag however open they are.
+const OPEN_TRIANGLES: usize = 5_000;
 const MOST_TRIANGLES: usize = MOST_INDICES / 3;
 const STEPS_A_SEED: u64 = 1000;
 
@@ -250,6 +260,23 @@ fn compare_clamps_by_hand(tally: &mut Tally) {
     }
 }
 
+/// The bodies of ties at the limits.
+fn compare_ties_by_hand(tally: &mut Tally) {
+    match searches::at_the_limits(TIES) {
+        Ok(bodies) => tally.worst += bodies,
+        Err(what) => fail(&format!("compare: {what}")),
+    }
+}
+
+/// Bodies of ties and nothing else: small ones, and one of a size that goes with the seed for each kind, or only those of a size.
+fn compare_ties_alone((first, last, size): (u64, u64, Option<usize>), tally: &mut Tally) {
+    compare_ties_by_hand(tally);
+    for seed in first..=last {
+        let sizes = size.map_or(vec![0, size_of(seed)], |s| vec![s]);
+        sizes.iter().for_each(|size| compare_kinds(TIES, seed, *size, tally));
+    }
+}
+
 /// What a program prints of plans.
 fn compare_plan_program(program: &str, (first, last, _): (u64, u64, Option<usize>)) {
     match plans::program::compared(program, first, last) {
@@ -285,6 +312,7 @@ fn compare_seeds(first: u64, last: u64, size: Option<usize>, tally: &mut Tally) 
             compare_kinds(KINDS, seed, size, tally);
             compare_kinds(SEAMS, seed, size, tally);
             compare_kinds(ZEROS, seed, size, tally);
+            compare_kinds(TIES, seed, size, tally);
         }
         for size in NOTHING {
             compare_body(&Made { kind: named("large-nothing"), seed, size }, tally);
@@ -313,8 +341,10 @@ fn compare_all(first: u64, last: u64, size: Option<usize>, tally: &mut Tally) {
     compare_reports_by_hand(tally);
     compare_zeros_by_hand(tally);
     compare_clamps_by_hand(tally);
+    compare_ties_by_hand(tally);
     compare_worst(WORST_POINTS, tally);
     compare_seeds(first, last, size, tally);
+    compare_kinds(LARGE, first, OPEN_TRIANGLES, tally);
     compare_kinds(LARGE, first, MANY_TRIANGLES, tally);
     compare_body(&Made { kind: named("large-full"), seed: first, size: MOST_TRIANGLES }, tally);
     compare_large_reports(first, tally);
@@ -372,6 +402,10 @@ fn find_wrong_reports(first: u64, last: u64) -> usize {
     find_wrong("reports", &all, reports::wrong::Wrong::Nothing, reports::wrong::plant, || reports::shows(first, last))
 }
 
+fn find_wrong_searches(first: u64, last: u64) -> usize {
+    find_wrong("searches", searches::wrong::ALL, searches::wrong::Wrong::Nothing, searches::wrong::plant, || searches::shows(first, last))
+}
+
 /// Plant each fault, and say how many the comparison finds, and the three calls in a row alone of those where a body is finished.
 fn find_planted(first: u64, last: u64) {
     let all = planted::all();
@@ -384,11 +418,11 @@ fn find_planted(first: u64, last: u64) {
         fail(&format!("compare: planted and not found: {missed:?}"));
     }
     let (plans, lookups, closed) = (find_wrong_plans(first, last), find_wrong_lookups(first, last), find_wrong_closed(first, last));
-    let reports = find_wrong_reports(first, last);
+    let (reports, searches) = (find_wrong_reports(first, last), find_wrong_searches(first, last));
     println!(
         "compare: {} planted faults, all found; {in_a_row} of the {} behind a finished call also by the three calls in a row alone; \
-         {plans} wrong readers and writers of plans, {lookups} wrong lookups of a peg's bins, {closed} wrong answers of closed and {reports} wrong \
-         reports, all found",
+         {plans} wrong readers and writers of plans, {lookups} wrong lookups of a peg's bins, {closed} wrong answers of closed, {reports} wrong \
+         reports and {searches} wrong searches for the points that split a triangle, all found",
         all.len(),
         chained.len()
     );
@@ -412,12 +446,23 @@ fn numbers(words: &[String], most: usize) -> (u64, u64, Option<usize>) {
     }
 }
 
-fn main() {
+/// The words of the command line behind those that every comparison can have before it.
+fn words_behind_options() -> Vec<String> {
     let mut words: Vec<String> = std::env::args().skip(1).collect();
     if words.first().is_some_and(|word| word == "--without-fences") {
         words.remove(0);
         fences::without_fences();
     }
+    if words.first().is_some_and(|word| word == "--open") {
+        let Some(Ok(triangles)) = words.get(1).map(|word| word.parse()) else { fail(USAGE) };
+        words.drain(..2);
+        open::let_open(triangles);
+    }
+    words
+}
+
+fn main() {
+    let words = words_behind_options();
     let tally = &mut Tally::default();
     match words.split_first() {
         Some((word, _)) if word == "--help" => return println!("{USAGE}"),
@@ -437,6 +482,7 @@ fn main() {
         Some((word, rest)) if word == "--plans" => return compare_plans_alone(numbers(rest, MOST_ROWS), tally),
         Some((word, rest)) if word == "--pegs" => return compare_pegs_alone(numbers(rest, MOST_ROWS), tally),
         Some((word, rest)) if word == "--reports" => return compare_reports_alone(numbers(rest, MOST_ROWS), tally),
+        Some((word, rest)) if word == "--ties" => compare_ties_alone(numbers(rest, MOST_ROWS), tally),
         Some((word, rest)) if word == "--zeros" => compare_zeros_alone(numbers(rest, MOST_ROWS), tally),
         Some((word, [program, rest @ ..])) if word == "--plan-program" => return compare_plan_program(program, numbers(rest, MOST_ROWS)),
         Some((word, rest)) if word == "--planted" => {

@@ -2,6 +2,8 @@
 
 use crate::faces;
 use crate::lent;
+use crate::open::most_open;
+use crate::searches;
 use crate::source_bodies::{flat_of, unlike};
 use crate::work::Work;
 use cad_tess::face::probe;
@@ -15,9 +17,6 @@ use driver::sheet::Sheet;
 
 /// Sags that split nothing, besides a sheet's own.
 const NOT_ABOVE: [f64; 5] = [0.0, -0.0, -1.0, f64::NAN, f64::NEG_INFINITY];
-
-/// Triangles with an open edge, at most, of a body that is stitched with its own sag: the time goes with their square.
-const MOST_OPEN: usize = 1000;
 
 /// A body turned by the Rust, as it is stitched by it, and the splits.
 pub struct Case {
@@ -119,10 +118,12 @@ pub fn differs(case: &Case, sag: f64, r: &mut Random) -> Option<String> {
 pub enum Held {
     /// Its sag is not above 0.
     NoSag,
-    /// More triangles with an open edge than `MOST_OPEN`: not stitched.
+    /// More triangles with an open edge than `most_open` lets it have: not stitched.
     TooOpen,
-    /// It breaks document 01's condition for an exact match: not stitched.
+    /// It breaks document 01's condition for an exact match, and is too open for the model: not stitched.
     Outside,
+    /// It breaks that condition: stitched with its own sag, with so many splits by the model of 01.
+    Modelled(usize),
     /// Stitched with its own sag, with so many splits by the Rust.
     Stitched(usize),
 }
@@ -133,20 +134,30 @@ fn splits_with(sheet: &Sheet, sag: f64, r: &mut Random) -> Result<usize, String>
     differs(&case, sag, r).map_or(Ok(case.splits), Err)
 }
 
+/// The same for a body that is split, which the model and the search in a tree are held to the Rust on; or held to the model alone where
+/// the body breaks document 01's condition.
+fn held(sheet: &Sheet, sag: f64, open: usize, r: &mut Random) -> Result<Held, String> {
+    let (rust, found) = (case(sheet, sag), condition(sheet));
+    if found == Condition::Exact {
+        searches::agree(&rust, sag, open)?;
+        return differs(&rust, sag, r).map_or(Ok(Held::Stitched(rust.splits)), Err);
+    }
+    match searches::modelled(&rust, sag, open, found == Condition::Tie) {
+        None => Ok(Held::Outside),
+        Some(model) => model.and_then(|model| differs(&model, sag, r).map_or(Ok(Held::Modelled(model.splits)), Err)),
+    }
+}
+
 /// How a body was held against the Rust, or where it is stitched in another way. A sag that splits nothing is tried on every body.
 pub fn compared(sheet: &Sheet, r: &mut Random) -> Result<Held, String> {
     let none = *r.pick(&NOT_ABOVE);
     splits_with(sheet, none, r)?;
     let sag = f64::from_bits(sheet.sag);
     if !(sag > 0.0) {
-        splits_with(sheet, sag, r).map(|_| Held::NoSag)
-    } else if open_triangles(sheet) > MOST_OPEN {
-        Ok(Held::TooOpen)
-    } else if condition(sheet) != Condition::Exact {
-        Ok(Held::Outside)
-    } else {
-        splits_with(sheet, sag, r).map(Held::Stitched)
+        return splits_with(sheet, sag, r).map(|_| Held::NoSag);
     }
+    let open = open_triangles(sheet);
+    if open > most_open() { Ok(Held::TooOpen) } else { held(sheet, sag, open, r) }
 }
 
 /// What is wrong with the refusal of a body that a check up to 31 refuses.

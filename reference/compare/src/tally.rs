@@ -29,7 +29,10 @@ pub struct Tally {
     stitched: u64,
     split: u64,
     splits: u64,
-    /// Bodies with a sag that were only copied: too open, and outside document 01's condition.
+    /// Bodies outside document 01's condition, stitched as its model has it, and their splits.
+    modelled: u64,
+    ordered: u64,
+    /// Bodies with a sag that were only copied: too open, and outside the condition and too open for the model.
     open: u64,
     outside: u64,
     pub assembled: assembling::Tally,
@@ -52,6 +55,10 @@ impl Tally {
             Held::NoSag => {}
             Held::TooOpen => self.open += 1,
             Held::Outside => self.outside += 1,
+            Held::Modelled(splits) => {
+                self.modelled += 1;
+                self.ordered += splits as u64;
+            }
             Held::Stitched(splits) => {
                 self.stitched += 1;
                 self.split += (splits > 0) as u64;
@@ -85,14 +92,17 @@ impl Tally {
 
     /// All counts in one line.
     pub fn said(&self) -> String {
-        let Tally { bodies, rows, refusals, steps, keys, triangles, stitched, split, splits, open, outside, worst, .. } = self;
+        let Tally {
+            bodies, rows, refusals, steps, keys, triangles, stitched, split, splits, modelled, ordered, open, outside, worst, ..
+        } = self;
         let assembled = self.assembled.said();
         let plans = if self.plans.read == 0 { String::new() } else { format!("; {}", self.plans.said()) };
         let pegs = if self.pegs.lookups == 0 { String::new() } else { format!("; {}", self.pegs.said()) };
         let reports = if self.reports.reports == 0 { String::new() } else { format!("; {}", self.reports.said()) };
         format!(
             "{worst} bodies made by hand, {bodies} of up to {triangles} triangles, {rows} rows; {stitched} stitched with their own sag, {split} of them split, \
-             {splits} splits ({outside} more outside the condition, {open} too open); {assembled}; {refusals} refusals, {steps} float steps, \
+             {splits} splits; {modelled} outside the condition stitched as the model has them, {ordered} splits ({outside} more too open for \
+             the model, {open} too open for the Rust); {assembled}; {refusals} refusals, {steps} float steps, \
              {keys} keys{plans}{pegs}{reports}"
         )
     }

@@ -127,16 +127,14 @@ fn held(sheet: &Sheet) -> Result<(), String> {
 }
 
 /// A body whose result has the most vertices or indices that there may be, or passes the limit: then 33 comes before 32.
-fn limit(sheet: &Sheet, passes: bool, r: &mut Random) -> Result<(), String> {
-    let sag = f64::from_bits(sheet.sag);
-    let case = case(sheet, sag);
+pub fn limit(case: &Case, sag: f64, passes: bool, r: &mut Random) -> Result<(), String> {
     let (vertices, indices) = (case.after.positions.len() / 3, case.after.indices.len());
     assert_eq!(vertices > MOST_VERTICES || indices > MOST_INDICES, passes, "the limit is passed or not");
     assert!(passes || vertices == MOST_VERTICES || indices == MOST_INDICES, "the limit is reached");
     let (none, needed) = (Flat::default(), case.before.words());
     let number = if passes { 33 } else { 32 };
     let short = || wrong(&case.before, sag, &none, &mut Work::new(needed, 1), refusal(number), &none, needed);
-    differs(&case, sag, r).or_else(short).map_or(Ok(()), Err)
+    differs(case, sag, r).or_else(short).map_or(Ok(()), Err)
 }
 
 /// How many bodies were held, or what is wrong with one.
@@ -154,10 +152,10 @@ pub fn compared(points: usize) -> Result<u64, String> {
         named("a smallest body", exact(&case, 0.25).map_or(Ok(()), Err))?;
     }
     for (more, name) in [(0, "the most vertices"), (1, "one vertex too many")] {
-        named(name, limit(&padded(vertices + more, 0), more > 0, r))?;
+        named(name, limit(&case(&padded(vertices + more, 0), 0.25), 0.25, more > 0, r))?;
     }
     for (more, name) in [(0, "the most indices"), (1, "one triangle too many")] {
-        named(name, limit(&padded(0, triangles + more), more > 0, r))?;
+        named(name, limit(&case(&padded(0, triangles + more), 0.25), 0.25, more > 0, r))?;
     }
     Ok(11)
 }

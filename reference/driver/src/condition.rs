@@ -80,33 +80,62 @@ fn open_facets<'a>(patches: impl Iterator<Item = &'a Patch>) -> Vec<Facet> {
     facets.filter(|f| f.open.contains(&true)).collect()
 }
 
+/// Loose points with their keys, ordered by x, so that those beside a triangle are found among the others.
+struct Loose {
+    points: Vec<(u64, Point)>,
+    /// How far beside a triangle a point may be that splits it: the sag, and more than all rounding.
+    reach: f64,
+}
+
+/// What rounding adds to a distance at most, as a part of the largest coordinate.
+const ROUNDING: f64 = 1e-9;
+
+impl Loose {
+    fn of(by_key: &BTreeMap<u64, [f32; 3]>, sag: f64) -> Loose {
+        let mut points: Vec<(u64, Point)> = by_key.iter().map(|(key, p)| (*key, widened(*p))).collect();
+        points.sort_by(|(_, a), (_, b)| a[0].total_cmp(&b[0]));
+        let largest = points.iter().flat_map(|(_, p)| p).fold(0.0, |most: f64, v| most.max(v.abs()));
+        Loose { points, reach: sag + ROUNDING * largest }
+    }
+
+    /// The points that are not too far beside a triangle along x.
+    fn beside(&self, corners: &[Point; 3]) -> &[(u64, Point)] {
+        let xs = corners.map(|corner| corner[0]);
+        let (low, high) = (xs[0].min(xs[1]).min(xs[2]) - self.reach, xs[0].max(xs[1]).max(xs[2]) + self.reach);
+        let first = self.points.partition_point(|(_, p)| p[0] < low);
+        let past = self.points.partition_point(|(_, p)| p[0] <= high);
+        &self.points[first..past]
+    }
+}
+
+/// The edge that a point is placed on, and its parameter there.
+fn place(at: &[Point; 3], r: Point) -> Option<(usize, f64)> {
+    let mut best: Option<(usize, f64, f64)> = None;
+    for e in 0..3 {
+        if let Some((t, distance)) = project(at[e], at[(e + 1) % 3], r)
+            && best.is_none_or(|(_, _, b)| distance < b)
+        {
+            best = Some((e, t, distance));
+        }
+    }
+    best.map(|(e, t, _)| (e, t))
+}
+
 /// Whether two points that split a triangle are placed on one edge with one parameter.
-fn ties(facet: &Facet, loose: &BTreeMap<u64, [f32; 3]>, sag: f64) -> bool {
+fn ties(facet: &Facet, loose: &Loose, sag: f64) -> bool {
     let at = facet.corners.map(widened);
     let ends = facet.corners.map(|c| key(&c));
     let mut placed = HashSet::new();
-    for (k, r) in loose {
-        let r = widened(*r);
+    loose.beside(&at).iter().any(|(k, r)| {
         let splits = (0..3).any(|e| {
             let next = (e + 1) % 3;
-            facet.open[e] && *k != ends[e] && *k != ends[next] && project(at[e], at[next], r).is_some_and(|(_, distance)| !(distance > sag))
+            facet.open[e]
+                && *k != ends[e]
+                && *k != ends[next]
+                && project(at[e], at[next], *r).is_some_and(|(_, distance)| !(distance > sag))
         });
-        let mut best: Option<(usize, f64, f64)> = None;
-        for e in 0..3 {
-            if let Some((t, distance)) = project(at[e], at[(e + 1) % 3], r)
-                && best.is_none_or(|(_, _, b)| distance < b)
-            {
-                best = Some((e, t, distance));
-            }
-        }
-        if let Some((e, t, _)) = best
-            && splits
-            && !placed.insert((e, t.to_bits()))
-        {
-            return true;
-        }
-    }
-    false
+        splits && place(&at, *r).is_some_and(|(e, t)| !placed.insert((e, t.to_bits())))
+    })
 }
 
 /// The triangles with an open edge of a body that the Rust turned.
@@ -135,5 +164,6 @@ pub fn condition(sheet: &Sheet) -> Condition {
             return Condition::SharedKey;
         }
     }
+    let loose = Loose::of(&loose, sag);
     if facets.iter().any(|f| ties(f, &loose, sag)) { Condition::Tie } else { Condition::Exact }
 }

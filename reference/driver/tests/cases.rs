@@ -4,9 +4,10 @@ use cad_tess::face::{patch_of, probe};
 use driver::check::{LAST_UNCLAMPED, check, clamps, refusal};
 use driver::closed::{NEGATIVE_ZERO, uses};
 use driver::command::answer;
+use driver::condition::{Condition, condition};
 use driver::finish::{faces_of, finish, outcome_of};
 use driver::flat::{Flat, ROW};
-use driver::generate::{KINDS, LARGE, SEAMS, ZEROS, body_of, generate, kind};
+use driver::generate::{KINDS, LARGE, SEAMS, TIES, ZEROS, body_of, generate, kind};
 use driver::print;
 use driver::sheet::{BENCH, parse};
 use driver::source::{cell, key};
@@ -160,7 +161,7 @@ fn cells_clamp_where_their_digits_pass_64_bits() {
 #[test]
 fn generated_bodies_do_not_clamp() {
     let mut last = 0;
-    for (k, seed) in KINDS.iter().chain(SEAMS).chain(ZEROS).flat_map(|k| (0..60).map(move |seed| (k, seed))) {
+    for (k, seed) in KINDS.iter().chain(SEAMS).chain(ZEROS).chain(TIES).flat_map(|k| (0..60).map(move |seed| (k, seed))) {
         for sheet in [0, 5].into_iter().filter_map(|size| body_of(k, seed, size)) {
             assert!(check(&sheet).is_ok(), "{} {seed}", k.name);
             let mut bits = sheet.rows.iter().flat_map(|row| &row.positions).flatten();
@@ -170,9 +171,19 @@ fn generated_bodies_do_not_clamp() {
     assert!(last > 60);
 }
 
+/// Most bodies made for it have points that tie on an edge, and no other reason for the Rust to differ.
+#[test]
+fn points_tie_in_bodies_of_ties() {
+    for k in TIES {
+        let bodies = [0, 5].into_iter().flat_map(|size| (0..30).filter_map(move |seed| body_of(k, seed, size)));
+        let tied = bodies.filter(|sheet| condition(sheet) == Condition::Tie).count();
+        assert!(tied > 30, "{}: {tied} of 60", k.name);
+    }
+}
+
 #[test]
 fn what_is_generated_reads_back_and_is_the_same_every_time() {
-    for k in KINDS.iter().chain(SEAMS).chain(ZEROS) {
+    for k in KINDS.iter().chain(SEAMS).chain(ZEROS).chain(TIES) {
         for seed in 0..20 {
             let text = generate(k, seed, 0);
             assert_eq!(text, generate(k, seed, 0), "{} {seed}", k.name);

@@ -3,11 +3,11 @@
 
 use driver::command::{accepted, answer};
 use driver::condition::{Condition, condition};
-use driver::generate::{KINDS, SEAMS, ZEROS, generate};
+use driver::generate::{KINDS, SEAMS, TIES, ZEROS, generate};
 
 #[test]
 fn an_exact_match_does_not_hang_on_map_order() {
-    for k in KINDS.iter().chain(SEAMS).chain(ZEROS) {
+    for k in KINDS.iter().chain(SEAMS).chain(ZEROS).chain(TIES) {
         for seed in 100..130 {
             let text = generate(k, seed, 0);
             let Ok(sheet) = accepted(&text, None) else { continue };

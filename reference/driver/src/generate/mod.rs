@@ -4,9 +4,11 @@ mod bins;
 mod bodies;
 mod edges;
 pub mod large;
+pub mod patches;
 mod seams;
 mod shapes;
 mod texts;
+mod ties;
 mod zeros;
 
 use crate::print;
@@ -91,11 +93,19 @@ pub const ZEROS: &[Kind] = &[
     body("zero-lattice", "triangles on a small lattice, each laid some times with zeros of any sign", zeros::lattice),
 ];
 
+/// Kinds in which loose points tie on an edge, so that document 01's order decides and the Rust's answer hangs on its maps.
+pub const TIES: &[Kind] = &[
+    body("tie-grid", "triangles on a small lattice, with a sag that lattice points are exactly as far as", ties::grid),
+    body("tie-line", "long edges past points that share a few parameters", ties::line),
+    body("tie-finders", "points with one parameter on an edge that isn't open, found by the other two", ties::finders),
+];
+
 /// Kinds whose size is a number of triangles, for bodies up to the limits of document 01.
 pub const LARGE: &[Kind] = &[
     body("large-torus", "a closed torus in up to 4,096 rows, wound at random", large::closed),
     body("large-open", "a torus with every fifth row left out", large::open),
     body("large-far", "a closed torus four kilometres from the origin", large::far),
+    body("large-seams", "patches on a torus or a plane, whose neighbours cut their seams differently", patches::seams),
     body("large-flat", "a plane grid, through the origin or beside it", large::flat),
     body("large-nothing", "a closed torus flattened onto a plane, so that rounding decides the sign of V", large::flattened),
     body("large-twisted", "a band closed with a half twist, whose rows cannot all agree", large::twisted),
@@ -124,7 +134,7 @@ pub fn body_of(kind: &Kind, seed: u64, size: usize) -> Option<Sheet> {
 }
 
 pub fn kind(name: &str) -> Option<&'static Kind> {
-    KINDS.iter().chain(SEAMS).chain(ZEROS).chain(LARGE).find(|k| k.name == name)
+    KINDS.iter().chain(SEAMS).chain(ZEROS).chain(TIES).chain(LARGE).find(|k| k.name == name)
 }
 
 /// Each kind has random numbers of its own.
