@@ -39,7 +39,9 @@ use Rattle.stitch_accepted.proofs.OpenLaws.{
   indices-is,
   rest-written,
   rest-counted,
+  kept-is,
   kept-there,
+  failing-same,
 }
 
 -- a result that passed its checks fits
@@ -102,8 +104,8 @@ module _ {table : List ℕ} {ps ns : List Float} {is W : List ℕ} {v m : ℕ} (
     open-refused n =
         record {
           same = λ work.
-              result-refused (stitchedBody sag (names key ps) (patchesOf (rowsOf table) ps ns is)) (rows-there ns p c) R P N I work (vertices-are ns p c) (indices-many ns p c)
-              (g .rows ∙ rows-many ns p c) e n;
+              result-refused (stitchedBody sag (names key ps) (patchesOf (rowsOf table) ps ns is)) (rows-there ns p) R P N I work (vertices-are ns p) (indices-many ns p)
+              (g .rows ∙ rows-many ns p) (e ∙ failing-same ns p c m (length R) (length P) (length N) (length I)) n;
           rest = rest-counted ns p c;
         }
 
@@ -129,7 +131,7 @@ module _ {table : List ℕ} {ps ns : List Float} {is W : List ℕ} {v m : ℕ} (
     -- or copied, if there is no new vertex
     pub open-puttable : length X ≡ length E → refusal ≡ 0
         → Puttable table ps ns is (f .sag) (f .beyond) (f .v) (f .list) (f .count) (f .at) (f .ts) (f .flags) (f .order) (f .boxes) (f .top) kept X R P N I
-    open-puttable l z = record { writable = open-writable l z; kept-is = sym (kept-there ns p c) }
+    open-puttable l z = let r = open-fits z in record { writable = open-writable l z; kept-is = sym (kept-there ns p c (r .vertices) (r .indices)) }
 
     -- it was
     pub open-done : {F R' : List ℕ} {P' N' : List Float} {I' : List ℕ} → length X ≡ length E → refusal ≡ 0
@@ -137,10 +139,13 @@ module _ {table : List ℕ} {ps ns : List Float} {is W : List ℕ} {v m : ℕ} (
         → BodyStitched (stitchedBody sag (names key ps) (patchesOf (rowsOf table) ps ns is)) R R' P P' N N' I I' (16 * length is + 16 * m + 4 * v) W F
         (Done (record { vertices = v + kept; indices = length is + 3 * kept; splits = found }))
     open-done {F} {R'} {P'} {N'} {I'} l z d =
+        let r = open-fits z in
+        let k = kept-is ns p c (r .vertices) (r .indices) in
         record {
           same = λ work.
-              result-written (stitchedBody sag (names key ps) (patchesOf (rowsOf table) ps ns is)) (rows-there ns p c) R P N I work (vertices-are ns p c) (indices-many ns p c)
-              (g .rows ∙ rows-many ns p c) e z (splits-is ns p c)
+              result-written (stitchedBody sag (names key ps) (patchesOf (rowsOf table) ps ns is)) (rows-there ns p) R P N I work
+              (ap (λ (x : ℕ). v + x) k ∙ vertices-are ns p) (ap (λ (x : ℕ). length is + 3 * x) k ∙ indices-many ns p)
+              (g .rows ∙ rows-many ns p) e z (splits-is ns p c (r .vertices) (r .indices))
               (table-is ns p c l all-normals d) (positions-is ns p c l all-normals d) (normals-is ns p c l all-normals d) (indices-is ns p c l all-normals d);
           rest = rest-written ns p c l all-normals d;
         }

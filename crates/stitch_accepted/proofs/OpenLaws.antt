@@ -1,18 +1,18 @@
 -- Laws of stitching a body whose splits were found: what was counted and written is the definition's stitched body. Assumes nothing.
 use mathlib.Core.Path.{_≡_, sym, ap, _∙_}
 use mathlib.Core.List.{List, [], map, flatMap}
-use Prim.Native.Nat.{ℕ, _+_, _*_, _%_, _<_}
+use Prim.Native.Nat.{ℕ, _+_, _*_, _%_, _<_, _≤_}
 use native.Mathlib.Omega.{arith}
 use lib.ListN.{length, getD, take, drop, length-drop}
 use lib.Seq.{getD-take, length-take-le}
 use lib.Ieee.{Float}
 use Rattle.lists.specs.Lists.{sumOf, written}
-use Rattle.lists.specs.Stretches.{stretch-at, stretch-kept, front-less, rest-less}
+use Rattle.lists.specs.Stretches.{stretch-at, rest-less}
 use Rattle.point_rules.specs.Rule.{names}
 use Rattle.point_rules.specs.Points.{key}
 use Rattle.point_rules.specs.Names.{names-length}
 use Rattle.join_definition.specs.Join.{joined}
-use Rattle.body_rows.specs.Body.{Row, rowsOf, tableOf, patchesOf, allVertices, allIndices}
+use Rattle.body_rows.specs.Body.{Row, rowsOf, tableOf, patchesOf, allVertices, allIndices, firstFailing}
 use Rattle.body_rows.specs.Rows.{noRow, rowAt}
 use Rattle.edge_uses.specs.Edges.{Use, usesFrom}
 use Rattle.edge_uses.specs.RowUses.{Inside}
@@ -27,11 +27,12 @@ use Rattle.stitch_definition.specs.StitchedBody.{StitchedBody, stitchedBody}
 use Rattle.stitch_count.specs.Views.{View, bodyViews, foundIn, keptIn, viewedRows, viewedPositions, viewedNormals, viewedIndices}
 use Rattle.stitch_views.specs.ViewLaws.{Viewable, rows-are, positions-are, normals-are, indices-are, splits-are}
 use Rattle.stitch_write.specs.BodyLengths.{vertices-viewed, indices-viewed, rows-length}
-use Rattle.stitch_count.specs.Counting.{BodyReady, BodyCounted}
+use Rattle.stitch_count.specs.Counting.{BodyReady, viewsOf, BodyCounted}
 use Rattle.stitch_count.specs.Prepared.{Prepared}
-use Rattle.stitch_result_checks.specs.Results.{ResultFits}
-use Rattle.stitch_write.specs.Writing.{viewsOf, BodyWritable, BodyWritten}
-use Rattle.stitch_count.specs.RowLaws.{stands-kept}
+use Rattle.stitch_result_checks.specs.Results.{resultChecks, ResultFits}
+use Rattle.stitch_write.specs.Writing.{BodyWritable, BodyWritten}
+use Rattle.stitch_count.specs.RowLaws.{stands-flags}
+use Rattle.stitch_accepted.proofs.LimitLaws.{checks-same}
 
 -- uses do not depend on normals
 uses-any : (f : Row → ℕ) (P : List ℕ) (rows : List Row) (ps ns : List Float) (is : List ℕ) → usesFrom f 0 P (patchesOf rows ps [] is) ≡ usesFrom f 0 P (patchesOf rows ps ns is)
@@ -39,20 +40,10 @@ uses-any f P rows ps ns is = sym (rows-uses f 0 P rows ps [] is) ∙ rows-uses f
 
 -- a body that is ready stays so
 ready-kept : {table : List ℕ} {ps : List Float} {is : List ℕ} {sag beyond : Float} {v list count at ts flags order boxes top : ℕ} {W E : List ℕ}
-    → BodyReady table ps is sag beyond v list count at ts flags order boxes top W → take at E ≡ take at W → drop (ts + 3 * count) E ≡ drop (ts + 3 * count) W → length E ≡ length W
+    → BodyReady table ps is sag beyond v list count at ts flags order boxes top W → take flags E ≡ take flags W → drop (ts + 3 * count) E ≡ drop (ts + 3 * count) W → length E ≡ length W
     → BodyReady table ps is sag beyond v list count at ts flags order boxes top E
 ready-kept b e r l =
-    record { stands = stands-kept (b .stands) e r l; rows = b .rows; vertices = b .vertices; all = b .all; few = b .few; threes = b .threes; inside = b .inside }
-
--- so do the views of its triangles
-views-kept : {table : List ℕ} {ps : List Float} {is : List ℕ} {sag beyond : Float} {v list count at ts flags order boxes top : ℕ} {W : List ℕ} (E : List ℕ)
-    → BodyReady table ps is sag beyond v list count at ts flags order boxes top W → take at E ≡ take at W
-    → viewsOf table ps is sag v list count flags E ≡ viewsOf table ps is sag v list count flags W
-views-kept {table} {ps} {is} {sag} {beyond} {v} {list} {count} {at} {ts} {flags} {order} {boxes} {top} {W} E b e =
-    let n : take v E ≡ take v W = front-less v at W E e (omega (arith, b .stands .listed .behind, b .stands .flags-behind, b .stands .behind)) in
-    let l : take count (drop list E) ≡ take count (drop list W) = stretch-kept list count at W E e (omega (arith, b .stands .flags-behind, b .stands .behind)) in
-    let f : take (length is) (drop flags E) ≡ take (length is) (drop flags W) = stretch-kept flags (length is) at W E e (b .stands .behind) in
-    λ i. bodyViews sag ps (n i) (l i) 0 (f i) (rowsOf table) is
+    record { stands = stands-flags (b .stands) e r l; rows = b .rows; vertices = b .vertices; all = b .all; few = b .few; threes = b .threes; inside = b .inside }
 
 module _ {table : List ℕ} {ps : List Float} (ns : List Float) {is : List ℕ} {sag : Float} {v m : ℕ} {W E : List ℕ} {f : Finder} (p : Prepared table ps is sag v m W E f) where
   -- the loose vertices and the flags
@@ -121,46 +112,63 @@ module _ {table : List ℕ} {ps : List Float} (ns : List Float) {is : List ℕ} 
   abbrev pub body : StitchedBody
   body = stitchedBody sag (names key ps) (patchesOf (rowsOf table) ps ns is)
 
+  -- all new vertices
+  abbrev pub new : ℕ
+  new = sumOf keptIn views
+
+  -- the counts of the result
+  pub vertices-are : v + new ≡ allVertices (viewedRows (rowsOf table) views)
+  vertices-are = omega (arith, vertices-viewed sag ps (names key ps) gs 0 flags (rowsOf table) is, p .ready .vertices, p .v-is)
+
+  pub indices-many : length is + 3 * new ≡ allIndices (viewedRows (rowsOf table) views)
+  indices-many = omega (arith, indices-viewed sag ps (names key ps) gs 0 flags (rowsOf table) is (p .ready .all) flags-long threes, p .ready .all)
+
+  pub rows-many : length (rowsOf table) ≡ length (viewedRows (rowsOf table) views)
+  rows-many = sym (rows-length sag ps (names key ps) gs 0 flags (rowsOf table) is)
+
+  pub rows-there : map (λ q. q .row) (body .patches) ≡ viewedRows (rowsOf table) views
+  rows-there = rows-are sag viewable
+
   module _ {X : List ℕ} {found kept : ℕ} (c : BodyCounted table ps is (f .sag) (f .v) (f .list) (f .count) (f .at) (f .ts) (f .flags) E X found kept) where
-    kept-is : kept ≡ sumOf keptIn views
-    kept-is = c .kept-is ∙ ap (sumOf keptIn) views-are
+    -- no more than these were counted
+    most : kept ≤ new
+    most = omega (arith, c .most, ap (sumOf keptIn) views-are)
 
-    -- the counts
-    pub vertices-are : v + kept ≡ allVertices (viewedRows (rowsOf table) views)
-    vertices-are = omega (arith, kept-is, vertices-viewed sag ps (names key ps) gs 0 flags (rowsOf table) is, p .ready .vertices, p .v-is)
+    -- all were, if the result is within the limits
+    pub kept-is : v + kept ≤ 262144 → length is + 3 * kept ≤ 786432 → kept ≡ new
+    kept-is a b = c .exact (omega (arith, p .v-is)) b ∙ ap (sumOf keptIn) views-are
 
-    pub indices-many : length is + 3 * kept ≡ allIndices (viewedRows (rowsOf table) views)
-    indices-many = omega (arith, kept-is, indices-viewed sag ps (names key ps) gs 0 flags (rowsOf table) is (p .ready .all) flags-long threes, p .ready .all)
+    -- so the checks find what they find of all
+    pub failing-same : (m' t' p' n' i' : ℕ) → firstFailing (resultChecks (v + kept) (length is + 3 * kept) m' t' p' n' i') ≡ firstFailing (resultChecks (v + new) (length is + 3 * new) m' t' p' n' i')
+    failing-same m' t' p' n' i' =
+        checks-same (v + kept) (length is + 3 * kept) (v + new) (length is + 3 * new) m' t' p' n' i' (omega (arith, most)) (omega (arith, most))
+        (λ a b. ap (λ (k : ℕ). v + k) (kept-is a b)) (λ a b. ap (λ (k : ℕ). length is + 3 * k) (kept-is a b))
 
-    pub rows-many : length (rowsOf table) ≡ length (viewedRows (rowsOf table) views)
-    rows-many = sym (rows-length sag ps (names key ps) gs 0 flags (rowsOf table) is)
-
-    pub splits-is : found ≡ body .splits
-    splits-is = c .found-is ∙ ap (sumOf foundIn) views-are ∙ sym (splits-are sag viewable)
-
-    pub rows-there : map (λ q. q .row) (body .patches) ≡ viewedRows (rowsOf table) views
-    rows-there = rows-are sag viewable
+    -- so were all splits
+    pub splits-is : v + kept ≤ 262144 → length is + 3 * kept ≤ 786432 → found ≡ body .splits
+    splits-is a b = c .found-is (omega (arith, p .v-is)) b ∙ ap (sumOf foundIn) views-are ∙ sym (splits-are sag viewable)
 
     same-views : viewsOf table ps is (f .sag) (f .v) (f .list) (f .count) (f .flags) X ≡ views
-    same-views = views-kept X (p .ready) (c .front) ∙ views-are
+    same-views = c .views ∙ views-are
 
-    pub kept-there : sumOf keptIn (viewsOf table ps is (f .sag) (f .v) (f .list) (f .count) (f .flags) X) ≡ kept
-    kept-there = ap (sumOf keptIn) same-views ∙ sym kept-is
+    pub kept-there : v + kept ≤ 262144 → length is + 3 * kept ≤ 786432 → sumOf keptIn (viewsOf table ps is (f .sag) (f .v) (f .list) (f .count) (f .flags) X) ≡ kept
+    kept-there a b = ap (sumOf keptIn) same-views ∙ sym (kept-is a b)
 
     module _ (long : length X ≡ length E) (all : length ns ≡ 3 * v) {R : List ℕ} {P N : List Float} {I : List ℕ} where
       -- the body can be written
       pub writable : ResultFits (v + kept) (length is + 3 * kept) (length (rowsOf table)) (length R) (length P) (length N) (length I)
           → BodyWritable table ps ns is (f .sag) (f .beyond) (f .v) (f .list) (f .count) (f .at) (f .ts) (f .flags) (f .order) (f .boxes) (f .top) X R P N I
       writable r =
+          let there = kept-there (r .vertices) (r .indices) in
           record {
             body = ready-kept (p .ready) (c .front) (c .rest) long;
             all = omega (arith, all, p .v-is);
-            small = omega (arith, kept-there, r .vertices, p .v-is);
-            small-indices = omega (arith, kept-there, r .indices);
+            small = omega (arith, there, r .vertices, p .v-is);
+            small-indices = omega (arith, there, r .indices);
             room-rows = r .room-rows;
-            room-positions = omega (arith, kept-there, r .room-positions, p .v-is);
-            room-normals = omega (arith, kept-there, r .room-normals, p .v-is);
-            room-indices = omega (arith, kept-there, r .room-indices);
+            room-positions = omega (arith, there, r .room-positions, p .v-is);
+            room-normals = omega (arith, there, r .room-normals, p .v-is);
+            room-indices = omega (arith, there, r .room-indices);
           }
 
       -- what was written is the definition's

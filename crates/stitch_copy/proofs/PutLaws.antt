@@ -10,8 +10,9 @@ use Rattle.lists.specs.Lists.{sumOf, written}
 use Rattle.body_rows.specs.Body.{Row, rowsOf, tableOf}
 use Rattle.body_rows.specs.Rows.{noRow, rowAt}
 use Rattle.stitch_count.specs.Views.{keptIn}
+use Rattle.stitch_count.specs.Counting.{viewsOf}
 use Rattle.stitch_write.specs.BodyLengths.{views-many}
-use Rattle.stitch_write.specs.Writing.{viewsOf, BodyWritten}
+use Rattle.stitch_write.specs.Writing.{BodyWritten}
 use Rattle.stitch_copy.specs.Copied.{BodyRoom, BodyCopied, flat-table}
 use Rattle.stitch_copy.specs.Put.{Puttable}
 use Rattle.stitch_copy.proofs.UnsplitLaws.{positions-none, normals-none, indices-none, rows-none}

@@ -5,7 +5,8 @@ use Prim.Native.Nat.{ℕ}
 use lib.Ieee.{Float}
 use Rattle.lists.specs.Lists.{sumOf}
 use Rattle.stitch_count.specs.Views.{keptIn}
-use Rattle.stitch_write.specs.Writing.{BodyWritable, viewsOf}
+use Rattle.stitch_count.specs.Counting.{viewsOf}
+use Rattle.stitch_write.specs.Writing.{BodyWritable}
 
 -- a body that can be written, and how many new vertices it has
 pub record Puttable (table : List ℕ) (ps ns : List Float) (is : List ℕ) (sag beyond : Float) (v list count at ts flags order boxes top kept : ℕ) (W R : List ℕ) (P N : List Float)

@@ -3,10 +3,9 @@ use mathlib.Core.Path.{_≡_, refl, sym, ap, _∙_}
 use mathlib.Core.List.{List, [], _∷_, map}
 use Prim.Native.Nat.{ℕ, _+_, _*_, _<_, _≤_}
 use native.Mathlib.Omega.{arith}
-use lib.ListN.{length, getD, take, drop, length-drop}
-use lib.Seq.{ext-getD, length-take-le}
+use lib.ListN.{length, take, drop}
 use lib.Ieee.{Float}
-use Rattle.lists.specs.Stretches.{stretch-at, stretch-kept, front-less, rest-less}
+use Rattle.lists.specs.Stretches.{stretch-kept, front-less, rest-less}
 use Rattle.lists.specs.Lists.{sumOf}
 use Rattle.point_rules.specs.Rule.{names}
 use Rattle.point_rules.specs.Points.{key}
@@ -19,6 +18,7 @@ use Rattle.stitch_gather.specs.Gathering.{Gatherable, Gathered}
 use Rattle.stitch_count.specs.Counting.{Stands, BodyReady}
 use Rattle.stitch_count.specs.SearchOrder.{OrderReady, OrderMade}
 use Rattle.stitch_count.specs.Prepared.{Preparable, Prepared}
+use Rattle.stitch_count.proofs.BodyViewLaws.{stretch-same}
 use Rattle.edge_uses.specs.Area.{AreaReady}
 
 -- an index is of a row
@@ -72,14 +72,7 @@ module _ {table : List ℕ} {ps : List Float} {is W : List ℕ} {v m : ℕ} (q :
       module _ {E : List ℕ} {top : ℕ} (o : OrderMade ps list count order boxes Y E top) (le : length E ≡ length Y) where
         flags-kept : take (length is) (drop flags E) ≡ take (length is) (drop flags Y)
         flags-kept =
-            let a : length (take (length is) (drop flags E)) ≡ length is = length-take-le (length is) (drop flags E) (omega (arith, length-drop flags E, g .enough)) in
-            let b : length (take (length is) (drop flags Y)) ≡ length is = length-take-le (length is) (drop flags Y) (omega (arith, length-drop flags Y, g .enough)) in
-            ext-getD 0 (take (length is) (drop flags E)) (take (length is) (drop flags Y)) (a ∙ sym b) word
-          where
-            word : (j : ℕ) → j < length (take (length is) (drop flags E)) → getD (take (length is) (drop flags E)) j 0 ≡ getD (take (length is) (drop flags Y)) j 0
-            word j h =
-                let l : j < length is = omega (arith, length-take-le (length is) (drop flags E) (omega (arith, length-drop flags E, g .enough))) in
-                stretch-at flags (length is) E j 0 l ∙ o .between (flags + j) (omega (arith, d .few)) (omega arith) ∙ sym (stretch-at flags (length is) Y j 0 l)
+            stretch-same flags (length is) Y E (omega (arith, g .enough)) le (λ j l. o .between (flags + j) (omega (arith, d .few)) (omega arith))
 
         stands : {sag beyond : Float} → Beyond sag beyond → Stands ps sag beyond (length is) v list count (list + 4 * n) (list + 7 * n) flags order boxes top E
         stands far =

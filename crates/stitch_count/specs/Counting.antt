@@ -20,7 +20,7 @@ use Rattle.stitch_splits.specs.declared.sides.Sides.{Sides}
 use Rattle.stitch_splits.specs.Entries.{entriesIn}
 use Rattle.stitch_splits.specs.Found.{triangleFound, triangleKept}
 use Rattle.stitch_pairs.specs.FoundPairs.{rankedFrom}
-use Rattle.stitch_count.specs.Views.{View, sidesAt, rowViews, bodyViews, foundIn, keptIn}
+use Rattle.stitch_count.specs.Views.{View, sidesAt, viewOf, rowViews, bodyViews, foundIn, keptIn}
 
 -- what an edge between the vertices g and h asks
 pub record EdgeReady (ps : List Float) (v g h : ℕ) (W : List ℕ) : Type 0 where
@@ -82,6 +82,23 @@ pub record TriangleDone (ps : List Float) (is : List ℕ) (sag : Float) (v list 
   pub front : take at E ≡ take at W
   pub rest : drop (ts + 3 * count) E ≡ drop (ts + 3 * count) W
 
+-- the view of the triangle at index k
+abbrev pub viewIn : List Float → List ℕ → Float → ℕ → ℕ → ℕ → ℕ → ℕ → ℕ → List ℕ → View
+viewIn ps is sag v list count flags base k W =
+    viewOf sag ps (take v W) (take count (drop list W)) base (getD W (flags + k) 0) (getD W (flags + k + 1) 0) (getD W (flags + k + 2) 0)
+    (record { a = getD is k 0; b = getD is (k + 1) 0; c = getD is (k + 2) 0 })
+
+-- what counting its splits leaves: how many points split it and how many new vertices it has; of the flags at most its own changed, and its view is the same
+pub record TriangleCounted (ps : List Float) (is : List ℕ) (sag : Float) (v list count at ts flags base k : ℕ) (W E : List ℕ) (found kept : ℕ) : Type 0 where
+  pub found-is : found ≡ viewIn ps is sag v list count flags base k W .found
+  pub kept-is : kept ≡ length (viewIn ps is sag v list count flags base k W .kept)
+  pub few-found : found ≤ 2359296
+  pub few-kept : kept ≤ 2359296
+  pub view : viewIn ps is sag v list count flags base k E ≡ viewIn ps is sag v list count flags base k W
+  pub front : take (flags + k) E ≡ take (flags + k) W
+  pub behind : (j : ℕ) → k + 3 ≤ j → flags + j < at → getD E (flags + j) 0 ≡ getD W (flags + j) 0
+  pub rest : drop (ts + 3 * count) E ≡ drop (ts + 3 * count) W
+
 -- the views of the row whose indices stand from `from` up to `to`
 abbrev pub viewsIn : List Float → List ℕ → Float → ℕ → ℕ → ℕ → ℕ → ℕ → ℕ → ℕ → List ℕ → List View
 viewsIn ps is sag v list count flags base from to W =
@@ -100,13 +117,18 @@ pub record RowReady (ps : List Float) (is : List ℕ) (sag beyond : Float) (n v 
   pub found-low : found ≤ 2359296 * from
   pub kept-low : kept ≤ 2359296 * from
 
--- what it leaves: the counts with the row's; only entries were written
+-- what it leaves: the counts with the row's, or with those of its first triangles if the new vertices pass a limit of the result; of the flags only the row's
+-- changed, and its views are the same
 pub record RowCounted (ps : List Float) (is : List ℕ) (sag : Float) (v list count at ts flags base from to found kept : ℕ) (W E : List ℕ) (found' kept' : ℕ) : Type 0 where
-  pub found-is : found' ≡ found + foundIn (viewsIn ps is sag v list count flags base from to W)
-  pub kept-is : kept' ≡ kept + keptIn (viewsIn ps is sag v list count flags base from to W)
+  pub views : viewsIn ps is sag v list count flags base from to E ≡ viewsIn ps is sag v list count flags base from to W
+  pub exact : v + kept' ≤ 262144 → length is + 3 * kept' ≤ 786432 → kept' ≡ kept + keptIn (viewsIn ps is sag v list count flags base from to W)
+  pub found-is : v + kept' ≤ 262144 → length is + 3 * kept' ≤ 786432 → found' ≡ found + foundIn (viewsIn ps is sag v list count flags base from to W)
+  pub most : kept' ≤ kept + keptIn (viewsIn ps is sag v list count flags base from to W)
+  pub rising : kept ≤ kept'
   pub found-low : found' ≤ 2359296 * to
   pub kept-low : kept' ≤ 2359296 * to
-  pub front : take at E ≡ take at W
+  pub front : take (flags + from) E ≡ take (flags + from) W
+  pub behind : (j : ℕ) → to ≤ j → flags + j < at → getD E (flags + j) 0 ≡ getD W (flags + j) 0
   pub rest : drop (ts + 3 * count) E ≡ drop (ts + 3 * count) W
 
 -- what counting the body asks
@@ -119,10 +141,16 @@ pub record BodyReady (table : List ℕ) (ps : List Float) (is : List ℕ) (sag b
   pub threes : (k : ℕ) → k < length (rowsOf table) → rowAt table k .indices % 3 ≡ 0
   pub inside : (k j : ℕ) → k < length (rowsOf table) → j < rowAt table k .indices → getD is (indicesBefore (rowsOf table) k + j) 0 < rowAt table k .vertices
 
--- what it leaves: how many points split the triangles, and how many new vertices there are; only entries were written
+-- the views of all rows
+abbrev pub viewsOf : List ℕ → List Float → List ℕ → Float → ℕ → ℕ → ℕ → ℕ → List ℕ → List (List View)
+viewsOf table ps is sag v list count flags W = bodyViews sag ps (take v W) (take count (drop list W)) 0 (take (length is) (drop flags W)) (rowsOf table) is
+
+-- what it leaves: how many points split the triangles, and how many new vertices there are, unless these pass a limit of the result; the views are the same
 pub record BodyCounted (table : List ℕ) (ps : List Float) (is : List ℕ) (sag : Float) (v list count at ts flags : ℕ) (W E : List ℕ) (found kept : ℕ) : Type 0 where
-  pub found-is : found ≡ sumOf foundIn (bodyViews sag ps (take v W) (take count (drop list W)) 0 (take (length is) (drop flags W)) (rowsOf table) is)
-  pub kept-is : kept ≡ sumOf keptIn (bodyViews sag ps (take v W) (take count (drop list W)) 0 (take (length is) (drop flags W)) (rowsOf table) is)
+  pub views : viewsOf table ps is sag v list count flags E ≡ viewsOf table ps is sag v list count flags W
+  pub exact : v + kept ≤ 262144 → length is + 3 * kept ≤ 786432 → kept ≡ sumOf keptIn (viewsOf table ps is sag v list count flags W)
+  pub found-is : v + kept ≤ 262144 → length is + 3 * kept ≤ 786432 → found ≡ sumOf foundIn (viewsOf table ps is sag v list count flags W)
+  pub most : kept ≤ sumOf keptIn (viewsOf table ps is sag v list count flags W)
   pub kept-low : kept ≤ 2359296 * 786432
-  pub front : take at E ≡ take at W
+  pub front : take flags E ≡ take flags W
   pub rest : drop (ts + 3 * count) E ≡ drop (ts + 3 * count) W

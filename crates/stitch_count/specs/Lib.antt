@@ -5,3 +5,4 @@ pub mod RowLaws
 pub mod RowByRow
 pub mod SearchOrder
 pub mod Prepared
+pub mod Limits

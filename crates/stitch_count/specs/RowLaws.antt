@@ -6,17 +6,15 @@ use native.Mathlib.Omega.{arith}
 use lib.ListN.{length, getD, take, drop, length-drop}
 use lib.Seq.{length-take-le}
 use lib.Ieee.{Float}
-use Rattle.lists.specs.Lists.{sumOf}
 use Rattle.lists.specs.Stretches.{stretch-three, stretch-kept, front-at, front-less, rest-at, stretch-three-at}
 use Rattle.slice_pairs.specs.Rearranged.{Rearranged}
 use Rattle.body_rows.specs.Body.{trianglesOf}
 use Rattle.stitch_loose_points.specs.Listed.{CornerAt, listed-kept}
 use Rattle.stitch_splits.specs.Entries.{entriesOf, entriesIn}
-use Rattle.stitch_splits.specs.Found.{triangleFound, triangleKept}
 use Rattle.stitch_pairs.specs.FoundPairs.{rankedFrom}
 use Rattle.stitch_tree.specs.Kept.{boxed-kept}
-use Rattle.stitch_count.specs.Views.{View, sidesAt, viewOf, rowViews, foundIn, keptIn}
-use Rattle.stitch_count.specs.Counting.{sidesIn, Stands, TriangleReady, TriangleDone, viewsIn, RowReady, RowCounted}
+use Rattle.stitch_count.specs.Views.{View, sidesAt, rowViews}
+use Rattle.stitch_count.specs.Counting.{sidesIn, Stands, TriangleReady, viewIn, viewsIn, RowReady}
 
 -- as many entries as words
 entries-many : (xs ys : List ℕ) → length xs ≡ length ys → length (entriesOf xs ys) ≡ length xs
@@ -31,17 +29,17 @@ entries-long W at ts kept a b =
     let y : length (take kept (drop ts W)) ≡ kept = length-take-le kept (drop ts W) (omega (arith, length-drop ts W)) in
     entries-many (take kept (drop at W)) (take kept (drop ts W)) (x ∙ sym y) ∙ x
 
--- what stands in front of the entries and behind them is kept
-pub stands-kept : {ps : List Float} {sag beyond : Float} {n v list count at ts flags order boxes top : ℕ} {W E : List ℕ}
-    → Stands ps sag beyond n v list count at ts flags order boxes top W → take at E ≡ take at W → drop (ts + 3 * count) E ≡ drop (ts + 3 * count) W → length E ≡ length W
+-- what stands in front of the flags and behind the entries is kept
+pub stands-flags : {ps : List Float} {sag beyond : Float} {n v list count at ts flags order boxes top : ℕ} {W E : List ℕ}
+    → Stands ps sag beyond n v list count at ts flags order boxes top W → take flags E ≡ take flags W → drop (ts + 3 * count) E ≡ drop (ts + 3 * count) W → length E ≡ length W
     → Stands ps sag beyond n v list count at ts flags order boxes top E
-stands-kept {ps} {sag} {beyond} {n} {v} {list} {count} {at} {ts} {flags} {order} {boxes} {top} {W} {E} s e r l =
-    let listed : take count (drop list E) ≡ take count (drop list W) = stretch-kept list count at W E e (omega (arith, s .flags-behind, s .behind)) in
-    let ordered : take count (drop order E) ≡ take count (drop order W) = stretch-kept order count at W E e (omega (arith, s .order-behind, s .behind)) in
-    let word : (j : ℕ) → j < count → getD E (order + j) 0 ≡ getD W (order + j) 0 = λ j h. front-at at (order + j) W E 0 e (omega (arith, s .order-behind, s .behind)) in
+stands-flags {ps} {sag} {beyond} {n} {v} {list} {count} {at} {ts} {flags} {order} {boxes} {top} {W} {E} s e r l =
+    let listed : take count (drop list E) ≡ take count (drop list W) = stretch-kept list count flags W E e (s .flags-behind) in
+    let ordered : take count (drop order E) ≡ take count (drop order W) = stretch-kept order count flags W E e (s .order-behind) in
+    let word : (j : ℕ) → j < count → getD E (order + j) 0 ≡ getD W (order + j) 0 = λ j h. front-at flags (order + j) W E 0 e (omega (arith, s .order-behind)) in
     let box : (k : ℕ) → boxes ≤ k → getD E k 0 ≡ getD W k 0 = λ k h. rest-at (ts + 3 * count) k W E 0 r (omega (arith, s .room)) in
     record {
-      listed = listed-kept {at = at} (s .listed) (omega (arith, s .flags-behind, s .behind)) e l;
+      listed = listed-kept {at = flags} (s .listed) (s .flags-behind) e l;
       few = s .few;
       all = s .all;
       points = s .points;
@@ -61,27 +59,41 @@ stands-kept {ps} {sag} {beyond} {n} {v} {list} {count} {at} {ts} {flags} {order}
       far = s .far;
     }
 
--- the triangles before index k are counted: W became E
-pub record Counting (ps : List Float) (is : List ℕ) (sag : Float) (v list count at ts flags base from to found kept : ℕ) (W : List ℕ) (total new k : ℕ) (E : List ℕ) : Type 0 where
+-- so it is if the flags are kept as well
+pub stands-kept : {ps : List Float} {sag beyond : Float} {n v list count at ts flags order boxes top : ℕ} {W E : List ℕ}
+    → Stands ps sag beyond n v list count at ts flags order boxes top W → take at E ≡ take at W → drop (ts + 3 * count) E ≡ drop (ts + 3 * count) W → length E ≡ length W
+    → Stands ps sag beyond n v list count at ts flags order boxes top E
+stands-kept {at = at} {flags = flags} {W = W} {E = E} s e r l = stands-flags s (front-less flags at W E e (omega (arith, s .behind))) r l
+
+-- the views of a row from index k on begin with its triangle's
+pub views-three : (ps : List Float) (is : List ℕ) (sag : Float) (v list count flags base k to : ℕ) (W : List ℕ) → k + 3 ≤ to → flags + to ≤ length W → to ≤ length is
+    → viewsIn ps is sag v list count flags base k to W ≡ viewIn ps is sag v list count flags base k W ∷ viewsIn ps is sag v list count flags base (k + 3) to W
+unfolding rowViews trianglesOf
+views-three ps is sag v list count flags base k to W three room all =
+    ap (λ (fs : List ℕ). rowViews sag ps (take v W) (take count (drop list W)) base fs (trianglesOf (take (to - k) (drop k is)))) (stretch-three-at W flags k to 0 three room)
+    ∙ ap (λ (xs : List ℕ). rowViews sag ps (take v W) (take count (drop list W)) base
+    (getD W (flags + k) 0 ∷ getD W (flags + k + 1) 0 ∷ getD W (flags + k + 2) 0 ∷ take (to - (k + 3)) (drop (flags + (k + 3)) W)) (trianglesOf xs))
+    (stretch-three is k to 0 three all)
+
+-- at the row's end there are none
+pub views-none : (ps : List Float) (is : List ℕ) (sag : Float) (v list count flags base k to : ℕ) (W : List ℕ) → to ≤ k → [] ≡ viewsIn ps is sag v list count flags base k to W
+unfolding rowViews trianglesOf
+views-none ps is sag v list count flags base k to W l =
+    let z : 0 ≡ to - k = omega arith in
+    ap (λ (m : ℕ). rowViews sag ps (take v W) (take count (drop list W)) base (take m (drop (flags + k) W)) (trianglesOf (take m (drop k is)))) z
+
+-- index k of a row is reached, and W became E, in which only entries were written
+pub record Reached (count at ts from to : ℕ) (W : List ℕ) (k : ℕ) (E : List ℕ) : Type 0 where
   pub aligned : (to - k) % 3 ≡ 0
   pub low : from ≤ k
   pub high : k ≤ to
-  pub found-is : total + foundIn (viewsIn ps is sag v list count flags base k to W) ≡ found + foundIn (viewsIn ps is sag v list count flags base from to W)
-  pub kept-is : new + keptIn (viewsIn ps is sag v list count flags base k to W) ≡ kept + keptIn (viewsIn ps is sag v list count flags base from to W)
-  pub found-low : total ≤ 2359296 * k
-  pub kept-low : new ≤ 2359296 * k
   pub front : take at E ≡ take at W
   pub rest : drop (ts + 3 * count) E ≡ drop (ts + 3 * count) W
   pub long : length E ≡ length W
 
 module _ {ps : List Float} {is : List ℕ} {sag beyond : Float} {n v list count at ts flags order boxes top base vertices from to found kept : ℕ} {W : List ℕ}
     (g : RowReady ps is sag beyond n v list count at ts flags order boxes top base vertices from to found kept W) where
-  -- none is counted yet
-  pub counting-none : Counting ps is sag v list count at ts flags base from to found kept W found kept from W
-  counting-none =
-      record { aligned = g .whole; low = omega arith; high = g .ordered; found-is = refl; kept-is = refl; found-low = g .found-low; kept-low = g .kept-low; front = refl; rest = refl; long = refl }
-
-  module _ {total new k : ℕ} {E : List ℕ} (c : Counting ps is sag v list count at ts flags base from to found kept W total new k E) (l : k < to) where
+  module _ {k : ℕ} {E : List ℕ} (c : Reached count at ts from to W k E) (l : k < to) where
     pub three : k + 3 ≤ to
     three = omega (arith, c .aligned)
 
@@ -99,23 +111,14 @@ module _ {ps : List Float} {is : List ℕ} {sag beyond : Float} {n v list count 
           in-c = corner-at 2 (omega arith);
         }
 
-    -- the flags from k on
-    flags-three : take (to - k) (drop (flags + k) W) ≡ getD W (flags + k) 0 ∷ getD W (flags + k + 1) 0 ∷ getD W (flags + k + 2) 0 ∷ take (to - (k + 3)) (drop (flags + (k + 3)) W)
-    flags-three = stretch-three-at W flags k to 0 three (omega (arith, g .inside, g .stands .behind, g .stands .apart, g .stands .long))
-
     -- the view of the triangle at k
     abbrev pub view : View
-    view = viewOf sag ps (take v W) (take count (drop list W)) base (getD W (flags + k) 0) (getD W (flags + k + 1) 0) (getD W (flags + k + 2) 0)
-        (record { a = getD is k 0; b = getD is (k + 1) 0; c = getD is (k + 2) 0 })
+    view = viewIn ps is sag v list count flags base k W
 
     -- the views begin with it
     pub views-here : viewsIn ps is sag v list count flags base k to W ≡ view ∷ viewsIn ps is sag v list count flags base (k + 3) to W
-    unfolding rowViews trianglesOf
     views-here =
-        ap (λ (fs : List ℕ). rowViews sag ps (take v W) (take count (drop list W)) base fs (trianglesOf (take (to - k) (drop k is)))) flags-three
-        ∙ ap (λ (xs : List ℕ). rowViews sag ps (take v W) (take count (drop list W)) base
-        (getD W (flags + k) 0 ∷ getD W (flags + k + 1) 0 ∷ getD W (flags + k + 2) 0 ∷ take (to - (k + 3)) (drop (flags + (k + 3)) W)) (trianglesOf xs))
-        (stretch-three is k to 0 three (omega (arith, g .inside, g .all)))
+        views-three ps is sag v list count flags base k to W three (omega (arith, g .inside, g .stands .behind, g .stands .apart, g .stands .long)) (omega (arith, g .inside, g .all))
 
     -- what stands in E is what stands in W
     pub names-are : take v E ≡ take v W
@@ -124,51 +127,9 @@ module _ {ps : List Float} {is : List ℕ} {sag beyond : Float} {n v list count 
     pub list-is : take count (drop list E) ≡ take count (drop list W)
     list-is = stretch-kept list count at W E (c .front) (omega (arith, g .stands .flags-behind, g .stands .behind))
 
-    flag-is : (j : ℕ) → flags + j < at → getD E (flags + j) 0 ≡ getD W (flags + j) 0
-    flag-is j h = front-at at (flags + j) W E 0 (c .front) h
-
     pub sides-are : sidesIn ps is v flags base k E ≡ sidesIn ps is v flags base k W
     sides-are =
         let f0 : getD E (flags + k) 0 ≡ getD W (flags + k) 0 = front-at at (flags + k) W E 0 (c .front) (omega (arith, g .inside, g .stands .behind)) in
         let f1 : getD E (flags + k + 1) 0 ≡ getD W (flags + k + 1) 0 = front-at at (flags + k + 1) W E 0 (c .front) (omega (arith, three, g .inside, g .stands .behind)) in
         let f2 : getD E (flags + k + 2) 0 ≡ getD W (flags + k + 2) 0 = front-at at (flags + k + 2) W E 0 (c .front) (omega (arith, three, g .inside, g .stands .behind)) in
         λ i. sidesAt ps (names-are i) (base + getD is k 0) (base + getD is (k + 1) 0) (base + getD is (k + 2) 0) (f0 i) (f1 i) (f2 i)
-
-    -- one triangle more is counted
-    pub counting-more : {x y : ℕ} {F : List ℕ} → TriangleDone ps is sag v list count at ts flags base k E F x y → length F ≡ length E
-        → Counting ps is sag v list count at ts flags base from to found kept W (total + x) (new + y) (k + 3) F
-    unfolding foundIn keptIn sumOf
-    counting-more {x} {y} {F} d lf =
-        let fx : x ≡ view .found = d .found-is ∙ (λ i. triangleFound sag ps (names-are i) (sides-are i) (list-is i)) in
-        let ky : y ≡ length (view .kept) =
-        sym (entries-long F at ts y (omega (arith, d .held, g .stands .apart, g .stands .long, lf, c .long)) (omega (arith, d .held, g .stands .long, lf, c .long)))
-        ∙ ap length (d .kept-are ∙ (λ i. triangleKept sag ps (names-are i) (sides-are i) (list-is i))) in
-        record {
-          aligned = omega (arith, c .aligned);
-          low = omega (arith, c .low);
-          high = three;
-          found-is = omega (arith, c .found-is, fx, ap foundIn views-here);
-          kept-is = omega (arith, c .kept-is, ky, ap keptIn views-here);
-          found-low = omega (arith, c .found-low, d .few-found);
-          kept-low = omega (arith, c .kept-low, d .few-kept);
-          front = d .front ∙ c .front;
-          rest = d .rest ∙ c .rest;
-          long = lf ∙ c .long;
-        }
-
-  -- all are
-  pub counting-all : {total new k : ℕ} {E : List ℕ} → Counting ps is sag v list count at ts flags base from to found kept W total new k E → to ≤ k
-      → RowCounted ps is sag v list count at ts flags base from to found kept W E total new
-  unfolding rowViews trianglesOf foundIn keptIn sumOf
-  counting-all {total} {new} {k} {E} c l =
-      let z : 0 ≡ to - k = omega arith in
-      let none : [] ≡ viewsIn ps is sag v list count flags base k to W =
-      ap (λ (m : ℕ). rowViews sag ps (take v W) (take count (drop list W)) base (take m (drop (flags + k) W)) (trianglesOf (take m (drop k is)))) z in
-      record {
-        found-is = omega (arith, c .found-is, ap foundIn none);
-        kept-is = omega (arith, c .kept-is, ap keptIn none);
-        found-low = omega (arith, c .found-low, c .high);
-        kept-low = omega (arith, c .kept-low, c .high);
-        front = c .front;
-        rest = c .rest;
-      }

@@ -1,5 +1,7 @@
 // The splits of the body's triangles counted, one triangle after another.
 
+use body_table_checks::too_many;
+use slice_fill::fill;
 use stitch_splits::Finder;
 use stitch_splits::Sides;
 use stitch_splits::TriangleEdge;
@@ -8,7 +10,7 @@ ghost use mathlib.Core.Path.{_≡_};
 ghost use lib.ListN.{getD};
 ghost use Rattle.patch_geometry.specs.Geometry.{pointAt};
 ghost use Rattle.stitch_projection.specs.Projection.{edgeOf};
-ghost use Rattle.stitch_count.specs.Counting.{EdgeReady, SidesReady, sidesIn, TriangleReady, TriangleDone, RowReady, RowCounted, BodyReady, BodyCounted};
+ghost use Rattle.stitch_count.specs.Counting.{EdgeReady, SidesReady, sidesIn, TriangleReady, TriangleDone, TriangleCounted, RowReady, RowCounted, BodyReady, BodyCounted};
 
 // The edge between the vertices g and h.
 fn edge_between(
@@ -90,7 +92,29 @@ pub fn find_splits(
     }
 }
 
-// The splits of one row's triangles are counted, behind those before them.
+// The splits of the triangle at index k, whose flags are cleared if there is none: writing needn't look for them again.
+fn count_triangle(
+    positions: &[f32],
+    indices: &[u32],
+    w: &mut [u64],
+    f: Finder,
+    n: usize,
+    base: usize,
+    k: usize,
+) -> Tally
+    requires { ⌜ TriangleReady (now positions) (now indices) (f .sag) (f .beyond) n (f .v) (f .list) (f .count) (f .at) (f .ts)
+        (f .flags) (f .order) (f .boxes) (f .top) base k (now w) ⌝ }
+    ensures { λ r. ⌜ TriangleCounted (now (positions .entry)) (now (indices .entry)) (f .sag) (f .v) (f .list) (f .count) (f .at) (f .ts) (f .flags) base k
+        (now (w .entry)) (now (w .exit)) (r .found) (r .placed) ⌝ }
+{
+    let r = find_splits(positions, indices, w, f, n, base, k);
+    if r.found == 0 {
+        fill(w, f.flags + k, f.flags + k + 3, 0);
+    }
+    r
+}
+
+// The splits of one row's triangles are counted, behind those before them, as long as the result isn't too large.
 fn count_row(
     positions: &[f32],
     indices: &[u32],
@@ -114,7 +138,13 @@ fn count_row(
     let mut new = kept;
     let mut k = from;
     while k < to {
-        let r = find_splits(positions, indices, w, f, n, base, k);
+        if too_many(f.v + new, n + 3 * new) {
+            return Tally {
+                found: total,
+                placed: new,
+            };
+        }
+        let r = count_triangle(positions, indices, w, f, n, base, k);
         total += r.found;
         new += r.placed;
         k += 3;
@@ -125,14 +155,8 @@ fn count_row(
     }
 }
 
-// The splits of all triangles, and how many new vertices they make.
-pub fn count_splits(
-    rows: &[u32],
-    positions: &[f32],
-    indices: &[u32],
-    w: &mut [u64],
-    f: Finder,
-) -> Tally
+// The splits of all rows, counted one after another.
+fn count_rows(rows: &[u32], positions: &[f32], indices: &[u32], w: &mut [u64], f: Finder) -> Tally
     requires { ⌜ BodyReady (now rows) (now positions) (now indices) (f .sag) (f .beyond) (f .v) (f .list) (f .count) (f .at) (f .ts)
         (f .flags) (f .order) (f .boxes) (f .top) (now w) ⌝ }
     ensures { λ r. ⌜ BodyCounted (now (rows .entry)) (now (positions .entry)) (now (indices .entry)) (f .sag) (f .v) (f .list) (f .count) (f .at) (f .ts)
@@ -172,4 +196,27 @@ pub fn count_splits(
         found: total,
         placed: new,
     }
+}
+
+// The splits of all triangles, and how many new vertices they make; of a result that is too large only as many as show it. A body without a loose vertex has none.
+pub fn count_splits(
+    rows: &[u32],
+    positions: &[f32],
+    indices: &[u32],
+    w: &mut [u64],
+    f: Finder,
+) -> Tally
+    requires { ⌜ BodyReady (now rows) (now positions) (now indices) (f .sag) (f .beyond) (f .v) (f .list) (f .count) (f .at) (f .ts)
+        (f .flags) (f .order) (f .boxes) (f .top) (now w) ⌝ }
+    ensures { λ r. ⌜ BodyCounted (now (rows .entry)) (now (positions .entry)) (now (indices .entry)) (f .sag) (f .v) (f .list) (f .count) (f .at) (f .ts)
+        (f .flags)
+        (now (w .entry)) (now (w .exit)) (r .found) (r .placed) ⌝ }
+{
+    if f.count == 0 {
+        return Tally {
+            found: 0,
+            placed: 0,
+        };
+    }
+    count_rows(rows, positions, indices, w, f)
 }

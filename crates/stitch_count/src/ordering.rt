@@ -15,8 +15,8 @@ fn rank_vertices(w: &mut [u64], v: usize, list: usize, count: usize, order: usiz
     }
 }
 
-// The words of the loose vertices are put in the order of the search from `order` on, and the boxes of their blocks from `boxes` on; the answer is the height of
-// the boxes' tree. Without a loose vertex there is none.
+// The words of the loose vertices are put in the order of the search from `order` on, and the boxes of their blocks from `boxes` on; the answer is the height
+// of the boxes' tree. Without a loose vertex there is none.
 pub fn order_loose(
     positions: &[f32],
     w: &mut [u64],

@@ -17,7 +17,8 @@ const PARAMETERS: usize = 7;
 
 const BOXES: usize = 10;
 
-// The open edges of a body of v vertices and m rows are marked and its loose vertices listed and put in the order of the search; the answer says where they stand.
+// The open edges of a body of v vertices and m rows are marked, and its loose vertices are listed and put in the order of the search; the answer says where
+// they stand.
 pub fn prepare(
     rows: &[u32],
     positions: &[f32],

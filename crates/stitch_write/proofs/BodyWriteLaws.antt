@@ -12,8 +12,8 @@ use Rattle.body_rows.specs.Rows.{rowAt, verticesBefore, indicesBefore, rows-her
 use Rattle.body_rows.specs.Patches.{before-none, indices-next, vertices-next}
 use Rattle.slice_append.specs.Appended.{Appended, appended-none, appended-written, behind, part-low}
 use Rattle.stitch_count.specs.Views.{View, keptIn, rowPositions, rowNormals, rowIndices, viewedRow, viewedRows, viewedPositions, viewedNormals, viewedIndices}
-use Rattle.stitch_count.specs.Counting.{Stands, viewsIn}
-use Rattle.stitch_write.specs.Writing.{RowWritable, RowWritten, viewsOf, BodyWritable, BodyWritten}
+use Rattle.stitch_count.specs.Counting.{Stands, viewsIn, viewsOf}
+use Rattle.stitch_write.specs.Writing.{RowWritable, RowWritten, BodyWritable, BodyWritten}
 use Rattle.stitch_write.specs.Tables.{table-more}
 use Rattle.stitch_write.specs.Lengths.{row-positions-length, row-normals-length}
 use Rattle.stitch_write.specs.BodyLengths.{viewed-positions-length, viewed-indices-length}

@@ -20,7 +20,7 @@ use Rattle.stitch_count.specs.Counting.{sidesIn, viewsIn, RowReady}
 use Rattle.slice_append.specs.Ready.{StretchReady}
 use Rattle.stitch_write.specs.Lengths.{kept-edges, fan-length, positions-length, normals-length, row-positions-length, row-normals-length}
 use Rattle.stitch_write.specs.Writing.{keptAt, fanAt, TriangleWritable, TriangleWritten, RowWritable, RowWritten}
-use Rattle.stitch_count.specs.RowLaws.{Counting, triangle-ready, three, view, views-here, names-are, list-is, sides-are}
+use Rattle.stitch_count.specs.RowLaws.{Reached, triangle-ready, three, view, views-here, names-are, list-is, sides-are}
 
 -- ---- views behind views
 
@@ -208,25 +208,13 @@ module _ {ps ns : List Float} {is : List ℕ} {sag beyond : Float} {n v list cou
           kept-low = omega arith;
         }
 
-    -- none of it is counted yet
-    counting : Counting ps is sag v list count at ts flags base k to 0 0 W 0 0 k E
-    counting =
-        record {
-          aligned = c .aligned;
-          low = omega arith;
-          high = c .high;
-          found-is = refl;
-          kept-is = refl;
-          found-low = omega arith;
-          kept-low = omega arith;
-          front = c .front;
-          rest = c .rest;
-          long = c .long;
-        }
+    -- its first triangle is reached
+    reached : Reached count at ts k to W k E
+    reached = record { aligned = c .aligned; low = omega arith; high = c .high; front = c .front; rest = c .rest; long = c .long }
 
     -- the triangle's view
     abbrev here : View
-    here = view row counting l
+    here = view row reached l
 
     -- the views behind it
     abbrev behind : List View
@@ -234,7 +222,7 @@ module _ {ps ns : List Float} {is : List ℕ} {sag beyond : Float} {n v list cou
 
     -- it keeps what its view keeps
     kept-here : keptAt ps is sag v list count flags base k E ≡ here .kept
-    kept-here = λ i. triangleKept sag ps (names-are row counting l i) (sides-are row counting l i) (list-is row counting l i)
+    kept-here = λ i. triangleKept sag ps (names-are row reached l i) (sides-are row reached l i) (list-is row reached l i)
 
     -- its entries are on its edges
     here-edges : OnEdges (here .kept)
@@ -242,7 +230,7 @@ module _ {ps ns : List Float} {is : List ℕ} {sag beyond : Float} {n v list cou
 
     -- the row's views, with it in the middle
     whole-here : (c .done ++ here ∷ []) ++ behind ≡ viewsIn ps is sag v list count flags base from to W
-    whole-here = append-assoc (c .done) (here ∷ []) behind ∙ ap (λ (l : List View). c .done ++ l) (sym (views-here row counting l)) ∙ c .whole
+    whole-here = append-assoc (c .done) (here ∷ []) behind ∙ ap (λ (l : List View). c .done ++ l) (sym (views-here row reached l)) ∙ c .whole
 
     -- the new vertices up to it
     kept-now : keptIn (c .done ++ here ∷ []) ≡ keptIn (c .done) + length (here .kept)
@@ -284,7 +272,7 @@ module _ {ps ns : List Float} {is : List ℕ} {sag beyond : Float} {n v list cou
     triangle-writable =
         let e = ap length kept-here in
         record {
-          ready = triangle-ready row counting l;
+          ready = triangle-ready row reached l;
           all = g .all;
           small = omega (arith, next-is, kept-room, g .small);
           room-positions = omega (arith, e, c .vertices-end, kept-room, g .room-positions, c .long-positions, lq);
@@ -310,7 +298,7 @@ module _ {ps ns : List Float} {is : List ℕ} {sag beyond : Float} {n v list cou
           whole = whole-here;
           aligned = omega (arith, c .aligned);
           low = omega (arith, c .low);
-          high = three row counting l;
+          high = three row reached l;
           positions =
               subst
               (λ (xs : List Float). Appended (3 * (vo + vertices)) xs Q P'')

@@ -11,8 +11,8 @@ use Rattle.stitch_splits.specs.Entries.{Entry}
 use Rattle.stitch_splits.specs.Found.{triangleKept}
 use Rattle.stitch_rings.specs.Rings.{newPositions, newNormals, ringAfter, fanGo}
 use Rattle.slice_append.specs.Appended.{Appended}
-use Rattle.stitch_count.specs.Views.{View, bodyViews, keptIn, rowPositions, rowNormals, rowIndices, viewedRows, viewedPositions, viewedNormals, viewedIndices}
-use Rattle.stitch_count.specs.Counting.{sidesIn, Stands, TriangleReady, viewsIn, BodyReady}
+use Rattle.stitch_count.specs.Views.{keptIn, rowPositions, rowNormals, rowIndices, viewedRows, viewedPositions, viewedNormals, viewedIndices}
+use Rattle.stitch_count.specs.Counting.{sidesIn, Stands, TriangleReady, viewsIn, BodyReady, viewsOf}
 
 -- the entries that the triangle at index k keeps
 abbrev pub keptAt : List Float → List ℕ → Float → ℕ → ℕ → ℕ → ℕ → ℕ → ℕ → List ℕ → List Entry
@@ -70,10 +70,6 @@ pub record RowWritten (ps ns : List Float) (is : List ℕ) (sag : Float) (v list
   pub indices-end : indices' ≡ io + length (rowIndices vertices (viewsIn ps is sag v list count flags base from to W))
   pub front : take at E ≡ take at W
   pub rest : drop (ts + 3 * count) E ≡ drop (ts + 3 * count) W
-
--- the views of the body's triangles in the work area
-abbrev pub viewsOf : List ℕ → List Float → List ℕ → Float → ℕ → ℕ → ℕ → ℕ → List ℕ → List (List View)
-viewsOf table ps is sag v list count flags W = bodyViews sag ps (take v W) (take count (drop list W)) 0 (take (length is) (drop flags W)) (rowsOf table) is
 
 -- what writing the body asks: a body whose splits can be counted, within the limits, and room in the four slices
 pub record BodyWritable (table : List ℕ) (ps ns : List Float) (is : List ℕ) (sag beyond : Float) (v list count at ts flags order boxes top : ℕ) (W R : List ℕ) (P N : List Float)

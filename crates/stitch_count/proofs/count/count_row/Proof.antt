@@ -1,7 +1,7 @@
 -- `count_row` meets its contract. Assumes nothing.
-use Prim.Native.Nat.{_-_}
-use Rattle.stitch_count.specs.RowLaws.{Counting, counting-none, triangle-ready, counting-more, counting-all}
 use borrow.Author.Needs.{needs}
+use Rattle.stitch_count.proofs.RowCountLaws.{Counting, counting-none, counting-stopped, counting-all, next-ready, counting-more}
+use Prim.Native.Nat.{_-_}
 use Rattle.stitch_count.proofs.count.count_row.Statement.{statement}
 use Rattle.stitch_count.proofs.count.count_row.Tie as tie
 
@@ -15,8 +15,26 @@ abbrev μ-loop : tie.MeasureT-loop
 loop-holds : tie.Need-loop-holds Inv-loop μ-loop
 loop-holds c = search counting-none
 
-find-splits-requires : tie.Need-find-splits-requires Inv-loop μ-loop
-find-splits-requires c κs = search triangle-ready
+add-too-many : tie.Need-add-too-many Inv-loop μ-loop
+add-too-many c = search needs
+
+mul-too-many : tie.Need-mul-too-many Inv-loop μ-loop
+mul-too-many c = search needs
+
+add-too-many-2 : tie.Need-add-too-many-2 Inv-loop μ-loop
+add-too-many-2 c = search needs
+
+too-many-requires : tie.Need-too-many-requires Inv-loop μ-loop
+too-many-requires c κs = search needs
+
+same-length : tie.Need-same-length Inv-loop μ-loop
+same-length c = search needs
+
+returns : tie.Need-returns Inv-loop μ-loop
+returns c = search counting-stopped
+
+count-triangle-requires : tie.Need-count-triangle-requires Inv-loop μ-loop
+count-triangle-requires c κs = search next-ready
 
 add-total : tie.Need-add-total Inv-loop μ-loop
 add-total c = search needs
@@ -33,11 +51,11 @@ loop-less c = search needs
 loop-again : tie.Need-loop-again Inv-loop μ-loop
 loop-again c = search counting-more
 
-same-length : tie.Need-same-length Inv-loop μ-loop
-same-length c = search needs
+same-length-2 : tie.Need-same-length-2 Inv-loop μ-loop
+same-length-2 c = search needs
 
-returns : tie.Need-returns Inv-loop μ-loop
-returns c = search counting-all
+returns-2 : tie.Need-returns-2 Inv-loop μ-loop
+returns-2 c = search counting-all
 
 pub count-row-spec : {M : Type 1} → statement M
 count-row-spec =
@@ -46,11 +64,17 @@ count-row-spec =
     Inv-loop
     μ-loop
     loop-holds
-    find-splits-requires
+    add-too-many
+    mul-too-many
+    add-too-many-2
+    too-many-requires
+    same-length
+    returns
+    count-triangle-requires
     add-total
     add-new
     add-k
     loop-less
     loop-again
-    same-length
-    returns)
+    same-length-2
+    returns-2)

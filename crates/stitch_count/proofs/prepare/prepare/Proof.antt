@@ -48,7 +48,7 @@ order-loose-requires : tie.Need-order-loose-requires
 order-loose-requires c κs =
     let y = c .before .before .before in
     let k = y .before .before .before .before in
-    loose-orderable (k .before .before .before .before .before .before .before .pre) refl refl refl (k .mark-open .ensures) (omega arith) (omega arith) refl (y .gather-loose .ensures) (omega arith)
+    loose-orderable (k .before .before .before .before .before .before .before .pre) refl refl refl (k .mark-open .ensures) (omega arith) (omega arith) (omega arith) (y .gather-loose .ensures) (omega arith)
 
 mul-t17 : tie.Need-mul-t17
 mul-t17 c = search needs
@@ -70,7 +70,7 @@ returns c =
     let o = c .before .before in
     let y = o .before .before .before .before in
     let k = y .before .before .before .before in
-    all-prepared (k .before .before .before .before .before .before .before .pre) refl refl refl (k .mark-open .ensures) (omega arith) (omega arith) refl (y .gather-loose .ensures) (omega arith) (o .order-loose .ensures) (omega arith) (k .before .before .beyond-of .ensures)
+    all-prepared (k .before .before .before .before .before .before .before .pre) refl refl refl (k .mark-open .ensures) (omega arith) (omega arith) (omega arith) (y .gather-loose .ensures) (omega arith) (o .order-loose .ensures) (omega arith) (k .before .before .beyond-of .ensures)
 
 pub prepare-spec : {M : Type 1} → statement M
 prepare-spec =
