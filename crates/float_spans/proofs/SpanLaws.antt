@@ -1,10 +1,10 @@
 -- Spans as the code makes them. Assumes nothing.
 use mathlib.Core.Path.{_≡_, refl, sym, ap, _∙_}
-use mathlib.Core.Bool.{true, false}
+use mathlib.Core.Bool.{Bool, true, false, cond}
 use lib.Ieee.{Float, binary64, neg, mul, div, lt, ofBits}
 use Rattle.float_spans.specs.declared.Span.{Span}
 use Rattle.float_spans.specs.Monotone.{nought}
-use Rattle.float_spans.specs.Spans.{lower, higher, times, leastSquare}
+use Rattle.float_spans.specs.Spans.{lower, higher, times, leastSquare, nearestToZero}
 use Rattle.float_spans.specs.Hulls.{empty, hull}
 
 -- the first is lower
@@ -37,24 +37,38 @@ zero-is : ofBits binary64 0 ≡ nought
 unfolding ofBits
 zero-is = refl
 
+-- its square
+no-square : mul binary64 nought nought ≡ nought
+unfolding mul
+no-square = refl
+
 module _ (X : Span) where
   -- a span above zero
-  pub square-low : lt (ofBits binary64 0) (X .low) ≡ true → mul binary64 (X .low) (X .low) ≡ leastSquare binary64 X
-  square-low h = let k : lt nought (X .low) ≡ true = ap (λ (z : Float). lt z (X .low)) (sym zero-is) ∙ h in rw k
+  pub nearest-low : lt (ofBits binary64 0) (X .low) ≡ true → X .low ≡ nearestToZero X
+  nearest-low h = let k : lt nought (X .low) ≡ true = ap (λ (z : Float). lt z (X .low)) (sym zero-is) ∙ h in rw k
 
   -- a span below zero
-  pub square-high : lt (ofBits binary64 0) (X .low) ≡ false → lt (X .high) (ofBits binary64 0) ≡ true → mul binary64 (X .high) (X .high) ≡ leastSquare binary64 X
-  square-high h g =
+  pub nearest-high : lt (ofBits binary64 0) (X .low) ≡ false → lt (X .high) (ofBits binary64 0) ≡ true → X .high ≡ nearestToZero X
+  nearest-high h g =
       let k : lt nought (X .low) ≡ false = ap (λ (z : Float). lt z (X .low)) (sym zero-is) ∙ h in
       let l : lt (X .high) nought ≡ true = ap (λ (z : Float). lt (X .high) z) (sym zero-is) ∙ g in
       rw (k, l)
 
   -- any other span
-  pub square-none : lt (ofBits binary64 0) (X .low) ≡ false → lt (X .high) (ofBits binary64 0) ≡ false → ofBits binary64 0 ≡ leastSquare binary64 X
-  square-none h g =
+  pub nearest-none : lt (ofBits binary64 0) (X .low) ≡ false → lt (X .high) (ofBits binary64 0) ≡ false → ofBits binary64 0 ≡ nearestToZero X
+  nearest-none h g =
       let k : lt nought (X .low) ≡ false = ap (λ (z : Float). lt z (X .low)) (sym zero-is) ∙ h in
       let l : lt (X .high) nought ≡ false = ap (λ (z : Float). lt (X .high) z) (sym zero-is) ∙ g in
       rw (k, l) zero-is
+
+  -- the square of what is nearest to 0
+  pub square-is : {x : Float} → x ≡ nearestToZero X → mul binary64 x x ≡ leastSquare binary64 X
+  square-is {x} e = (λ i. mul binary64 (e i) (e i)) ∙ go (lt nought (X .low)) (lt (X .high) nought)
+    where
+      go : (b c : Bool) → let z = cond b (X .low) (cond c (X .high) nought) in mul binary64 z z ≡ cond b (mul binary64 (X .low) (X .low)) (cond c (mul binary64 (X .high) (X .high)) nought)
+      go true c = refl
+      go false true = refl
+      go false false = no-square
 
 -- a hull, by its parts
 pub hull-is : (X Y : Span) {a b : Float} → a ≡ lower (X .low) (Y .low) → b ≡ higher (X .high) (Y .high) → made a b ≡ hull X Y

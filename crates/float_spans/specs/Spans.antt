@@ -64,6 +64,10 @@ higher a b = cond (lt b a) a b
 abbrev pub times : Format → Span → Float → Span
 times f X c = record { low = lower (mul f (X .low) c) (mul f (X .high) c); high = higher (mul f (X .low) c) (mul f (X .high) c) }
 
+-- the float of X that is nearest to 0
+abbrev pub nearestToZero : Span → Float
+nearestToZero X = cond (lt nought (X .low)) (X .low) (cond (lt (X .high) nought) (X .high) nought)
+
 -- what x * x is not below for x in X
 abbrev pub leastSquare : Format → Span → Float
 leastSquare f X = cond (lt nought (X .low)) (mul f (X .low) (X .low)) (cond (lt (X .high) nought) (mul f (X .high) (X .high)) nought)

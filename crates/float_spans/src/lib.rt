@@ -2,7 +2,7 @@
 
 ghost use mathlib.Core.Path.{_≡_};
 ghost use lib.Ieee.{binary64};
-ghost use Rattle.float_spans.specs.Spans.{less, plus, minus, over, lower, higher, times, leastSquare};
+ghost use Rattle.float_spans.specs.Spans.{less, plus, minus, over, lower, higher, times, leastSquare, nearestToZero};
 ghost use Rattle.float_spans.specs.Hulls.{empty, one, hull};
 
 // The values from low up to high.
@@ -112,16 +112,24 @@ impl Span {
         }
     }
 
-    // What x * x is not below for x in the span.
+    // The float of the span that is nearest to 0.
+    fn nearest_to_zero(self) -> f64
+        ensures { λ r. ⌜ r ≡ nearestToZero self ⌝ }
+    {
+        if self.low > 0.0 {
+            return self.low;
+        }
+        if self.high < 0.0 {
+            return self.high;
+        }
+        0.0
+    }
+
+    // What x * x is not below for x in the span: one float is chosen and then squared, so that there is no jump to foresee.
     pub fn least_square(self) -> f64
         ensures { λ r. ⌜ r ≡ leastSquare binary64 self ⌝ }
     {
-        if self.low > 0.0 {
-            return self.low * self.low;
-        }
-        if self.high < 0.0 {
-            return self.high * self.high;
-        }
-        0.0
+        let x = self.nearest_to_zero();
+        x * x
     }
 }

@@ -103,10 +103,6 @@ module _ (B : Bounds) (s : Edge) (b : Float) {w : Bounds} (e : w ≡ lessV B (s 
       none : lt b (leastOff w (s .along) counting) ≡ false
       none = ap (lt b) (sym f) ∙ h
 
-      -- passed over since nothing projects inside
-      pub far-outside : lt (u .high) (u .low) ≡ true → true ≡ far B s b
-      far-outside g = (rw (none, g)) ∙ at-u
-
-      -- the last test decides
-      pub far-last : lt (u .high) (u .low) ≡ false → {y : Float} → y ≡ leastOff w (s .along) u → lt b y ≡ far B s b
-      far-last g q = ap (lt b) q ∙ (rw (none, g)) ∙ at-u
+      -- passed over since nothing projects inside, or by the distance
+      pub far-last : {y : Float} → y ≡ leastOff w (s .along) u → (lt (u .high) (u .low) || lt b y) ≡ far B s b
+      far-last q = ap (λ (z : Float). lt (u .high) (u .low) || lt b z) q ∙ (rw none) ∙ at-u

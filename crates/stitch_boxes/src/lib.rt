@@ -143,8 +143,6 @@ pub fn far(b: Bounds, s: Edge, beyond: f64) -> bool
         return true;
     }
     let u = inside(w.dot(along).over(s.squared));
-    if u.low > u.high {
-        return true;
-    }
-    least_off(w, along, u) > beyond
+    let d = least_off(w, along, u);
+    (u.low > u.high) | (d > beyond)
 }

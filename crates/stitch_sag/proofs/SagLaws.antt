@@ -1,6 +1,6 @@
 -- The distance within the sag, with and without its root. Assumes nothing.
 use mathlib.Core.Path.{_≡_, refl, sym, ap, _∙_, subst}
-use mathlib.Core.Bool.{Bool, true, false, not, _&&_, cond}
+use mathlib.Core.Bool.{Bool, true, false, not, _&&_, _||_, cond}
 use mathlib.Core.Option.{Option, none, some}
 use lib.Dec.{T}
 use lib.Ieee as Ieee
@@ -109,3 +109,14 @@ module _ (s : Edge) (r : Vec3) {w : Vec3} {k : Float} (e : w ≡ subV r (s .star
       go : (sag : Float) → Beyond sag b → lt b d ≡ true → (c : Bool) → cond c (Footing.Inside (record { t = div k (s .squared); off = off })) Footing.Outside ≡ footing s r → withinSag sag s r ≡ false
       go sag y l true g = sym (within-beyond sag s r g (record { t = div k (s .squared); off = off }) refl square y l)
       go sag y l false g = sym (within-outside sag s r g refl)
+
+  -- either
+  pub ruled-both : (b : Float) {u o : Vec3} {d : Float} → u ≡ scale (s .along) (div k (s .squared)) → o ≡ subV w u → d ≡ dot o o
+      → Ruled b s r (not (lt (mul (sub (div k (s .squared)) near-end) (sub far-end (div k (s .squared)))) zero64 || lt b d))
+  ruled-both b {u} {o} {d} eu eo ed = record { out = λ sag y z. go (lt (mul (sub (div k (s .squared)) near-end) (sub far-end (div k (s .squared)))) zero64) (lt b d) refl refl sag y z }
+    where
+      go : (x y : Bool) → lt (mul (sub (div k (s .squared)) near-end) (sub far-end (div k (s .squared)))) zero64 ≡ x → lt b d ≡ y → (sag : Float) → Beyond sag b
+          → not (x || y) ≡ false → withinSag sag s r ≡ false
+      go true y p q sag g z = ruled-sign b p .out sag g refl
+      go false true p q sag g z = ruled-far b eu eo ed .out sag g (ap not q)
+      go false false p q sag g z = absurd (subst T z tt)

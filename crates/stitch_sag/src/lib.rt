@@ -49,7 +49,8 @@ pub fn within_sag(s: Edge, r: Vec3, sag: f64, beyond: f64) -> bool
     }
 }
 
-// Whether r may be within the sag of an edge: not if it projects outside, which the sign of one product tells, nor if it is beyond.
+// Whether r may be within the sag of an edge: not if it projects outside, which the sign of one product tells, nor if it is beyond. Both are asked without a
+// jump, which a processor could not foresee.
 pub fn may_hit(s: Edge, r: Vec3, beyond: f64) -> bool
     ensures { λ o. ⌜ Ruled beyond s r o ⌝ }
 {
@@ -57,10 +58,8 @@ pub fn may_hit(s: Edge, r: Vec3, beyond: f64) -> bool
     let along = s.along;
     let w = r.sub(start);
     let t = w.dot(along) / s.squared;
-    if (t - 0.000001) * (0.999999 - t) < 0.0 {
-        return false;
-    }
+    let outside = (t - 0.000001) * (0.999999 - t) < 0.0;
     let off = w.sub(along.scale(t));
     let d = off.dot(off);
-    !(d > beyond)
+    !(outside | (d > beyond))
 }

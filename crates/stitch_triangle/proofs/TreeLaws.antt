@@ -26,8 +26,8 @@ use Rattle.stitch_triangle.proofs.NodeLaws.{same-node, node-some, node-
 use Rattle.stitch_triangle.proofs.SearchLaws.{found-no, found-then, ordered-kept}
 
 -- the leaves before `leaf` are done: W became E
-pub record Searching (ps : List Float) (sag : Float) (s : Sides) (v order count top e at ts found placed : ℕ) (W : List ℕ) (total entries leaf height : ℕ) (E : List ℕ) : Type 0 where
-  pub low : height ≤ top
+pub record Searching (ps : List Float) (sag : Float) (s : Sides) (v order count highest e at ts found placed : ℕ) (W : List ℕ) (total entries leaf height : ℕ) (E : List ℕ) : Type 0 where
+  pub low : height ≤ highest
   pub few : leaf ≤ 262144
   pub first : leaf % 2 ^ height ≡ 0
   pub so-far : FoundIn ps sag s v e at ts found placed (take (8 * leaf) (take count (drop order W))) W E total entries
@@ -40,25 +40,30 @@ shut false z = refl
 
 module _ {ps : List Float} {sag beyond : Float} {s : Sides} {v order count boxes top e at ts found placed : ℕ} {W : List ℕ}
     (g : FindOn ps sag beyond s v order count boxes top e at ts found placed W) where
+  -- an edge that is not open finds nothing
+  pub search-closed : {x : TriangleEdge} → x ≡ sideOf s e → not (x .«is_open») ≡ true → FoundIn ps sag s v e at ts found placed (take count (drop order W)) W W found placed
+  search-closed {x} ex h = found-no (take count (drop order W)) (λ j b. closed-finds-none sag s e _ _ (ap (λ (x : TriangleEdge). x .«is_open») (sym ex) ∙ shut (x .«is_open») h))
+
+module _ {ps : List Float} {sag beyond : Float} {s : Sides} {v order count boxes top e at ts found placed : ℕ} {W : List ℕ}
+    (g : FindOn ps sag beyond s v order count boxes top e at ts found placed W) {highest : ℕ} (m : highest ≤ top) where
   abbrev os : List ℕ
   os = take count (drop order W)
 
   os-long : length os ≡ count
   os-long = length-take-le count (drop order W) (omega (arith, length-drop order W, g .ordered .room))
 
-  -- an edge that is not open finds nothing
-  pub search-closed : {x : TriangleEdge} → x ≡ sideOf s e → not (x .«is_open») ≡ true → FoundIn ps sag s v e at ts found placed os W W found placed
-  search-closed {x} ex h = found-no os (λ j b. closed-finds-none sag s e _ _ (ap (λ (x : TriangleEdge). x .«is_open») (sym ex) ∙ shut (x .«is_open») h))
-
   -- no leaf is done yet
-  pub searching-none : Searching ps sag s v order count top e at ts found placed W found placed 0 top W
+  pub searching-none : Searching ps sag s v order count highest e at ts found placed W found placed 0 highest W
   searching-none =
-      record { low = omega arith; few = omega arith; first = none (2 ^ top) (pow-pos top); so-far = found-no [] (λ j b. absurd (omega arith)); long = refl }
+      record { low = omega arith; few = omega arith; first = none (2 ^ highest) (pow-pos highest); so-far = found-no [] (λ j b. absurd (omega arith)); long = refl }
     where
       none : (d : ℕ) → 0 < d → 0 % d ≡ 0
       none d p = mod-eq-of-lt p
 
-  module _ {total entries leaf height : ℕ} {E : List ℕ} (f : Searching ps sag s v order count top e at ts found placed W total entries leaf height E) (l : 8 * leaf < count) where
+  module _ {total entries leaf height : ℕ} {E : List ℕ} (f : Searching ps sag s v order count highest e at ts found placed W total entries leaf height E) (l : 8 * leaf < count) where
+    low : height ≤ top
+    low = omega (arith, f .low, m)
+
     some : 0 < count
     some = omega arith
 
@@ -76,28 +81,28 @@ module _ {ps : List Float} {sag beyond : Float} {s : Sides} {v order count boxes
 
     -- the leaf behind the node is not far
     pub leaf-few : {k : ℕ} → k ≡ 2 ^ height → leaf + k ≤ 262144
-    leaf-few {k} ek = under (2 ^ height) (2 ^ top) ek leaf-inside (pow-mono (f .low)) top-few
+    leaf-few {k} ek = under (2 ^ height) (2 ^ top) ek leaf-inside (pow-mono low) top-few
       where
         under : (d t : ℕ) → k ≡ d → leaf < t → d ≤ t → t ≤ 131072 → leaf + k ≤ 262144
         under d t e p q r = omega arith
 
     -- fewer leaves are left behind it
-    pub fewer : {k height' : ℕ} → 0 < k → height' ≤ top → 18 * (2 ^ top - (leaf + k)) + height' < 18 * (2 ^ top - leaf) + height
+    pub fewer : {k height' : ℕ} → 0 < k → height' ≤ highest → 18 * (2 ^ top - (leaf + k)) + height' < 18 * (2 ^ top - leaf) + height
     fewer {k} {height'} p q = under (2 ^ top) leaf-inside
       where
         under : (t : ℕ) → leaf < t → 18 * (t - (leaf + k)) + height' < 18 * (t - leaf) + height
-        under t a = omega (arith, g .low)
+        under t a = omega (arith, g .low, m)
 
     -- so behind a node
-    pub fewer-passed : {k height' : ℕ} → k ≡ 2 ^ height → Raised (leaf + k) height top height' → 18 * (2 ^ top - (leaf + k)) + height' < 18 * (2 ^ top - leaf) + height
+    pub fewer-passed : {k height' : ℕ} → k ≡ 2 ^ height → Raised (leaf + k) height highest height' → 18 * (2 ^ top - (leaf + k)) + height' < 18 * (2 ^ top - leaf) + height
     fewer-passed {k} {height'} ek d = fewer (subst (λ (n : ℕ). 0 < n) (sym ek) (pow-pos height)) (d .low)
 
     -- and behind a leaf
-    pub fewer-tried : {height' : ℕ} → Raised (leaf + 1) 0 top height' → 18 * (2 ^ top - (leaf + 1)) + height' < 18 * (2 ^ top - leaf) + height
+    pub fewer-tried : {height' : ℕ} → Raised (leaf + 1) 0 highest height' → 18 * (2 ^ top - (leaf + 1)) + height' < 18 * (2 ^ top - leaf) + height
     fewer-tried d = fewer (omega arith) (d .low)
 
     pub node-here : NodeAt leaf height top
-    node-here = record { inside = leaf-inside; low = f .low; small = g .low; first = f .first }
+    node-here = record { inside = leaf-inside; low = low; small = g .low; first = f .first }
 
     -- the node's box can be looked at
     pub box-ready : BoxReady boxes leaf height top E
@@ -125,12 +130,12 @@ module _ {ps : List Float} {sag beyond : Float} {s : Sides} {v order count boxes
       -- the point of word j
       out : (j : ℕ) → j < count → leaf ≤ j / 8 → j / 8 < leaf + 2 ^ height → withinSag sag (sideOf s e .edge) (pointOf ps (getD W (order + j) 0)) ≡ false
       out j b a c =
-          let same : (2 ^ top + j / 8) / 2 ^ height ≡ node = same-node leaf height top (j / 8) (f .first) (f .low) a c in
+          let same : (2 ^ top + j / 8) / 2 ^ height ≡ node = same-node leaf height top (j / 8) (f .first) low a c in
           let p = g .pointed in
           subst (λ (d : Edge). withinSag sag d (pointOf ps (getD W (order + j) 0)) ≡ false) (sym (p .is))
           (passed-over sag beyond (p .p) (p .q) (pointOf ps (getD W (order + j) 0)) (boxAt W (boxes + 6 * node)) (p .start) (p .end)
           (g .points (getD W (order + j) 0 % 262144) (g .ordered .below j b)) (g .boxed some .ends node (node-some node-here) (node-low node-here))
-          (subst (λ (k : ℕ). Within (boxAt W (boxes + 6 * k)) (pointOf ps (getD W (order + j) 0))) same (g .boxed some .holds j height b (f .low))) (g .far)
+          (subst (λ (k : ℕ). Within (boxAt W (boxes + 6 * k)) (pointOf ps (getD W (order + j) 0))) same (g .boxed some .holds j height b low)) (g .far)
           (subst (λ (d : Edge). far (boxAt W (boxes + 6 * node)) d beyond ≡ true) (p .is) far-there))
 
       -- nor any word of the node's leaves
@@ -155,8 +160,8 @@ module _ {ps : List Float} {sag beyond : Float} {s : Sides} {v order count boxes
           high-leaf d h = omega arith
 
       -- the node is passed over
-      pub searching-passed : {k height' : ℕ} → k ≡ 2 ^ height → Raised (leaf + k) height top height'
-          → Searching ps sag s v order count top e at ts found placed W total entries (leaf + k) height' E
+      pub searching-passed : {k height' : ℕ} → k ≡ 2 ^ height → Raised (leaf + k) height highest height'
+          → Searching ps sag s v order count highest e at ts found placed W total entries (leaf + k) height' E
       searching-passed {k} {height'} ek d =
           record {
             low = d .low;
@@ -173,7 +178,7 @@ module _ {ps : List Float} {sag beyond : Float} {s : Sides} {v order count boxes
           sum k d z = omega arith
 
     -- its halves are looked at
-    pub searching-lower : 0 < height → Searching ps sag s v order count top e at ts found placed W total entries leaf (height - 1) E
+    pub searching-lower : 0 < height → Searching ps sag s v order count highest e at ts found placed W total entries leaf (height - 1) E
     searching-lower p = record { low = omega (arith, f .low); few = f .few; first = half; so-far = f .so-far; long = f .long }
       where
         half : leaf % 2 ^ (height - 1) ≡ 0
@@ -195,7 +200,7 @@ module _ {ps : List Float} {sag beyond : Float} {s : Sides} {v order count boxes
 
     -- it is
     pub searching-tried : {total' entries' height' : ℕ} {F : List ℕ} → FoundIn ps sag s v e at ts total entries (blockOf E order count (8 * leaf)) E F total' entries' → length F ≡ length E
-        → Raised (leaf + 1) 0 top height' → Searching ps sag s v order count top e at ts found placed W total' entries' (leaf + 1) height' F
+        → Raised (leaf + 1) 0 highest height' → Searching ps sag s v order count highest e at ts found placed W total' entries' (leaf + 1) height' F
     searching-tried {total'} {entries'} {height'} {F} d lf r =
         let same : take count (drop order E) ≡ os = stretch-kept order count at W E (f .so-far .front) (g .behind) in
         record {
@@ -214,7 +219,7 @@ module _ {ps : List Float} {sag beyond : Float} {s : Sides} {v order count boxes
         under t a b = omega arith
 
   -- all leaves are done
-  pub searching-all : {total entries leaf height : ℕ} {E : List ℕ} → Searching ps sag s v order count top e at ts found placed W total entries leaf height E → count ≤ 8 * leaf
+  pub searching-all : {total entries leaf height : ℕ} {E : List ℕ} → Searching ps sag s v order count highest e at ts found placed W total entries leaf height E → count ≤ 8 * leaf
       → FoundIn ps sag s v e at ts found placed os W E total entries
   searching-all {total} {entries} {leaf} {height} {E} f n =
       subst (λ (xs : List ℕ). FoundIn ps sag s v e at ts found placed xs W E total entries) (take-all (8 * leaf) os (omega (arith, os-long))) (f .so-far)

@@ -33,6 +33,9 @@ ghost use Rattle.stitch_triangle.specs.Triangle.{
 // How many words a block of the search has, which is a leaf of the tree.
 const BLOCK: usize = 8;
 
+// How many levels of the tree the search leaves out at its top.
+const TOP_LEVELS: u32 = 2;
+
 // How many words a box has.
 const BOX: usize = 6;
 
@@ -177,6 +180,16 @@ fn raised(leaf: usize, height: u32, top: u32) -> u32
     h
 }
 
+// The height that the search begins at: the boxes of the tree's top are far from hardly any edge.
+fn first_height(top: u32) -> u32
+    ensures { λ r. ⌜ r ≤ top ⌝ }
+{
+    if top < TOP_LEVELS {
+        return 0;
+    }
+    top - TOP_LEVELS
+}
+
 // All loose vertices that may be within the sag of edge e, if it is open, are tried on it.
 pub fn find_all(
     positions: &[f32],
@@ -199,19 +212,20 @@ pub fn find_all(
     if !side.is_open {
         return t;
     }
+    let highest = first_height(f.top);
     let mut leaf = 0usize;
-    let mut height = f.top;
+    let mut height = highest;
     while BLOCK * leaf < f.count {
         let passed = is_far(w, side.edge, f, leaf, height);
         if passed {
             leaf += float_steps::power(height as u64) as usize;
-            height = raised(leaf, height, f.top);
+            height = raised(leaf, height, highest);
         } else if height > 0 {
             height -= 1;
         } else {
             t = try_block(positions, w, s, f, BLOCK * leaf, e, t.found, t.placed);
             leaf += 1;
-            height = raised(leaf, 0, f.top);
+            height = raised(leaf, 0, highest);
         }
     }
     t

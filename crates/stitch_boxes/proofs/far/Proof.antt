@@ -1,6 +1,6 @@
--- `stitch_boxes::far` meets its contract. Assumes nothing.
+-- `far` meets its contract. Assumes nothing.
+use Rattle.stitch_boxes.proofs.CodeLaws.{far-beside, far-last}
 use Rattle.stitch_projection.specs.Projection.{near-end, far-end}
-use Rattle.stitch_boxes.proofs.CodeLaws.{far-beside, far-outside, far-last}
 use borrow.Author.Needs.{needs}
 use Rattle.stitch_boxes.proofs.far.Statement.{statement}
 use Rattle.stitch_boxes.proofs.far.Tie as tie
@@ -24,16 +24,12 @@ over-requires c κs = search needs
 inside-requires : tie.Need-inside-requires
 inside-requires c κs = search needs
 
-returns-2 : tie.Need-returns-2
-unfolding near-end far-end
-returns-2 c = search far-outside
-
 least-off-requires-2 : tie.Need-least-off-requires-2
 least-off-requires-2 c κs = search needs
 
-returns-3 : tie.Need-returns-3
+returns-2 : tie.Need-returns-2
 unfolding near-end far-end
-returns-3 c = search far-last
+returns-2 c = search far-last
 
 pub far-spec : {M : Type 1} → statement M
 far-spec =
@@ -45,6 +41,5 @@ far-spec =
     dot-requires
     over-requires
     inside-requires
-    returns-2
     least-off-requires-2
-    returns-3)
+    returns-2)

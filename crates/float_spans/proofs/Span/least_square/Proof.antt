@@ -1,16 +1,14 @@
--- `float_spans::Span::least_square` meets its contract. Assumes nothing.
-use Rattle.float_spans.proofs.SpanLaws.{square-low, square-high, square-none}
+-- `least_square` meets its contract. Assumes nothing.
+use Rattle.float_spans.proofs.SpanLaws.{square-is}
+use borrow.Author.Needs.{needs}
 use Rattle.float_spans.proofs.Span.least_square.Statement.{statement}
 use Rattle.float_spans.proofs.Span.least_square.Tie as tie
 
+nearest-to-zero-requires : tie.Need-nearest-to-zero-requires
+nearest-to-zero-requires c κs = search needs
+
 returns : tie.Need-returns
-returns c = search square-low
-
-returns-2 : tie.Need-returns-2
-returns-2 c = search square-high
-
-returns-3 : tie.Need-returns-3
-returns-3 c = search square-none
+returns c = search square-is
 
 pub least-square-spec : {M : Type 1} → statement M
-least-square-spec = tie.close (tie.spec returns returns-2 returns-3)
+least-square-spec = tie.close (tie.spec nearest-to-zero-requires returns)

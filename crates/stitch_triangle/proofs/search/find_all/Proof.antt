@@ -6,16 +6,19 @@ use Rattle.stitch_triangle.proofs.search.find_all.Statement.{statement}
 use Rattle.stitch_triangle.proofs.search.find_all.Tie as tie
 
 abbrev Inv-loop : tie.InvT-loop
-Inv-loop positions w₀ s f e found placed side t₀ leaf₀ height₀ w t leaf height = Searching positions (f .sag) s (f .v) (f .order) (f .count) (f .top) e (f .at) (f .ts) found placed w₀ (t .found) (t .placed) leaf height w
+Inv-loop positions w₀ s f e found placed side t₀ highest leaf₀ height₀ w t leaf height = Searching positions (f .sag) s (f .v) (f .order) (f .count) highest e (f .at) (f .ts) found placed w₀ (t .found) (t .placed) leaf height w
 
 abbrev μ-loop : tie.MeasureT-loop
-μ-loop positions w₀ s f e found placed side t₀ leaf₀ height₀ w t leaf height = 18 * (2 ^ (f .top) - leaf) + height
+μ-loop positions w₀ s f e found placed side t₀ highest leaf₀ height₀ w t leaf height = 18 * (2 ^ (f .top) - leaf) + height
 
 side-of-requires : tie.Need-side-of-requires Inv-loop μ-loop
 side-of-requires c κs = search needs
 
 returns : tie.Need-returns Inv-loop μ-loop
 returns c = search search-closed
+
+first-height-requires : tie.Need-first-height-requires Inv-loop μ-loop
+first-height-requires c κs = search needs
 
 loop-holds : tie.Need-loop-holds Inv-loop μ-loop
 loop-holds c = search searching-none
@@ -36,7 +39,7 @@ add-leaf : tie.Need-add-leaf Inv-loop μ-loop
 add-leaf c =
     let t = c .before .before .before .before in
     let l = t .before .before in
-    let n = leaf-few (l .before .before .before .before .before .before .pre) (l .loop .inv) (t .if2 .taken) (c .power .ensures) in
+    let n = leaf-few (l .before .before .before .before .before .before .before .pre) (l .before .first-height .ensures) (l .loop .inv) (t .if2 .taken) (c .power .ensures) in
     search needs
 
 raised-requires : tie.Need-raised-requires Inv-loop μ-loop
@@ -46,14 +49,14 @@ loop-less : tie.Need-loop-less Inv-loop μ-loop
 loop-less c =
     let t = c .before .before .before .before .before in
     let l = t .before .before in
-    fewer-passed (l .before .before .before .before .before .before .pre) (l .loop .inv) (t .if2 .taken) (c .before .power .ensures) (c .raised .ensures)
+    fewer-passed (l .before .before .before .before .before .before .before .pre) (l .before .first-height .ensures) (l .loop .inv) (t .if2 .taken) (c .before .power .ensures) (c .raised .ensures)
 
 loop-again : tie.Need-loop-again Inv-loop μ-loop
 loop-again c =
     let i = c .before .before .before in
     let t = i .before .before in
     let l = t .before .before in
-    searching-passed (l .before .before .before .before .before .before .pre) (l .loop .inv) (t .if2 .taken) (l .before .before .before .side-of .ensures) (i .is-far .ensures) (c .before .before .if3 .taken) (c .before .power .ensures) (c .raised .ensures)
+    searching-passed (l .before .before .before .before .before .before .before .pre) (l .before .first-height .ensures) (l .loop .inv) (t .if2 .taken) (l .before .before .before .before .side-of .ensures) (i .is-far .ensures) (c .before .before .if3 .taken) (c .before .power .ensures) (c .raised .ensures)
 
 sub-height : tie.Need-sub-height Inv-loop μ-loop
 sub-height c = search needs
@@ -68,7 +71,10 @@ mul-try-block : tie.Need-mul-try-block Inv-loop μ-loop
 mul-try-block c = search needs
 
 try-block-requires : tie.Need-try-block-requires Inv-loop μ-loop
-try-block-requires c κs = search block-ready
+try-block-requires c κs =
+    let t = c .before .before .before .before .before in
+    let l = t .before .before in
+    block-ready (l .before .before .before .before .before .before .before .pre) (l .before .first-height .ensures) (l .loop .inv) (t .if2 .taken)
 
 add-leaf-2 : tie.Need-add-leaf-2 Inv-loop μ-loop
 add-leaf-2 c = search needs
@@ -80,7 +86,7 @@ loop-less-3 : tie.Need-loop-less-3 Inv-loop μ-loop
 loop-less-3 c =
     let t = c .before .before .before .before .before .before .before .before .before in
     let l = t .before .before in
-    fewer-tried (l .before .before .before .before .before .before .pre) (l .loop .inv) (t .if2 .taken) (c .raised2 .ensures)
+    fewer-tried (l .before .before .before .before .before .before .before .pre) (l .before .first-height .ensures) (l .loop .inv) (t .if2 .taken) (c .raised2 .ensures)
 
 loop-again-3 : tie.Need-loop-again-3 Inv-loop μ-loop
 loop-again-3 c = search searching-tried
@@ -99,6 +105,7 @@ find-all-spec =
     μ-loop
     side-of-requires
     returns
+    first-height-requires
     loop-holds
     mul-if2
     is-far-requires
