@@ -18,7 +18,8 @@ use Rattle.stitch_splits.specs.Found.{foundOnly, spotOf, withSpot, withVertex, 
 use Rattle.stitch_count.specs.Views.{sidesAt, viewOf}
 use Rattle.stitch_count.specs.Counting.{TriangleReady, TriangleDone, viewIn, TriangleCounted}
 use Rattle.stitch_count.specs.RowLaws.{entries-long}
-use Rattle.stitch_count.proofs.CountLaws.{closed-triangle, closed-kept}
+use Rattle.stitch_loose_points.specs.Listed.{anySet}
+use Rattle.stitch_count.proofs.CountLaws.{closed-triangle, closed-kept, triangle-closed}
 
 -- ---- a triangle that no point splits
 
@@ -132,3 +133,10 @@ module _ {ps : List Float} {is : List ℕ} {sag beyond : Float} {n v list count 
           behind = λ j a b. rest-at (flags + k + 3) (flags + j) E H 0 (rest (flags + k + 3) (omega arith)) (omega arith) ∙ front-at at (flags + j) W E 0 (d .front) b;
           rest = rest (ts + 3 * count) (omega (arith, flags-low, g .stands .apart)) ∙ d .rest;
         })
+
+-- a triangle without an open edge is counted as it stands
+pub closed-counted : {ps : List Float} {is : List ℕ} {sag beyond : Float} {n v list count at ts flags order boxes top base k : ℕ} {W : List ℕ}
+    → TriangleReady ps is sag beyond n v list count at ts flags order boxes top base k W → {b : Bool}
+    → b ≡ anySet (getD W (flags + k) 0) (getD W (flags + k + 1) 0) (getD W (flags + k + 2) 0) → b ≡ false
+    → TriangleCounted ps is sag v list count at ts flags base k W W 0 0
+closed-counted g e f = triangle-counted g (triangle-closed g e f) refl

@@ -92,8 +92,8 @@ pub fn find_splits(
     }
 }
 
-// The splits of the triangle at index k, whose flags are cleared if there is none: writing needn't look for them again.
-fn count_triangle(
+// The splits of a triangle with an open edge, whose flags are cleared if there is none: writing needn't look for them again.
+fn count_open(
     positions: &[f32],
     indices: &[u32],
     w: &mut [u64],
@@ -112,6 +112,31 @@ fn count_triangle(
         fill(w, f.flags + k, f.flags + k + 3, 0);
     }
     r
+}
+
+// The splits of the triangle at index k, if it has an open edge.
+fn count_triangle(
+    positions: &[f32],
+    indices: &[u32],
+    w: &mut [u64],
+    f: Finder,
+    n: usize,
+    base: usize,
+    k: usize,
+) -> Tally
+    requires { ⌜ TriangleReady (now positions) (now indices) (f .sag) (f .beyond) n (f .v) (f .list) (f .count) (f .at) (f .ts)
+        (f .flags) (f .order) (f .boxes) (f .top) base k (now w) ⌝ }
+    ensures { λ r. ⌜ TriangleCounted (now (positions .entry)) (now (indices .entry)) (f .sag) (f .v) (f .list) (f .count) (f .at) (f .ts) (f .flags) base k
+        (now (w .entry)) (now (w .exit)) (r .found) (r .placed) ⌝ }
+{
+    let is_open = stitch_gather::any_set(w, f.flags + k);
+    if is_open {
+        return count_open(positions, indices, w, f, n, base, k);
+    }
+    Tally {
+        found: 0,
+        placed: 0,
+    }
 }
 
 // The splits of one row's triangles are counted, behind those before them, as long as the result isn't too large.
