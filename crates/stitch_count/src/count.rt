@@ -10,7 +10,18 @@ ghost use mathlib.Core.Path.{_≡_};
 ghost use lib.ListN.{getD};
 ghost use Rattle.patch_geometry.specs.Geometry.{pointAt};
 ghost use Rattle.stitch_projection.specs.Projection.{edgeOf};
-ghost use Rattle.stitch_count.specs.Counting.{EdgeReady, SidesReady, sidesIn, TriangleReady, TriangleDone, TriangleCounted, RowReady, RowCounted, BodyReady, BodyCounted};
+ghost use Rattle.stitch_count.specs.Counting.{
+  EdgeReady,
+  SidesReady,
+  sidesIn,
+  TriangleReady,
+  TriangleDone,
+  TriangleCounted,
+  RowReady,
+  RowCounted,
+  BodyReady,
+  BodyCounted,
+};
 
 // The edge between the vertices g and h.
 fn edge_between(
@@ -223,7 +234,8 @@ fn count_rows(rows: &[u32], positions: &[f32], indices: &[u32], w: &mut [u64], f
     }
 }
 
-// The splits of all triangles, and how many new vertices they make; of a result that is too large only as many as show it. A body without a loose vertex has none.
+// The splits of all triangles, and how many new vertices they make; of a result that is too large only as many as show it. A body without a loose vertex has
+// none.
 pub fn count_splits(
     rows: &[u32],
     positions: &[f32],

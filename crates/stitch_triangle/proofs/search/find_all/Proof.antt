@@ -1,12 +1,26 @@
 -- `find_all` meets its contract. Assumes nothing.
-use Rattle.stitch_triangle.proofs.TreeLaws.{Searching, search-closed, searching-none, box-ready, leaf-few, fewer-passed, fewer-tried, searching-passed, searching-lower, block-ready, searching-tried, searching-all}
+use Rattle.stitch_triangle.proofs.TreeLaws.{
+  Searching,
+  search-closed,
+  searching-none,
+  box-ready,
+  leaf-few,
+  fewer-passed,
+  fewer-tried,
+  searching-passed,
+  searching-lower,
+  block-ready,
+  searching-tried,
+  searching-all,
+}
 use borrow.Author.Needs.{needs}
 use Prim.Native.Nat.{_+_, _-_, _*_, _^_}
 use Rattle.stitch_triangle.proofs.search.find_all.Statement.{statement}
 use Rattle.stitch_triangle.proofs.search.find_all.Tie as tie
 
 abbrev Inv-loop : tie.InvT-loop
-Inv-loop positions w₀ s f e found placed side t₀ highest leaf₀ height₀ w t leaf height = Searching positions (f .sag) s (f .v) (f .order) (f .count) highest e (f .at) (f .ts) found placed w₀ (t .found) (t .placed) leaf height w
+Inv-loop positions w₀ s f e found placed side t₀ highest leaf₀ height₀ w t leaf height =
+    Searching positions (f .sag) s (f .v) (f .order) (f .count) highest e (f .at) (f .ts) found placed w₀ (t .found) (t .placed) leaf height w
 
 abbrev μ-loop : tie.MeasureT-loop
 μ-loop positions w₀ s f e found placed side t₀ highest leaf₀ height₀ w t leaf height = 18 * (2 ^ (f .top) - leaf) + height
@@ -56,7 +70,8 @@ loop-again c =
     let i = c .before .before .before in
     let t = i .before .before in
     let l = t .before .before in
-    searching-passed (l .before .before .before .before .before .before .before .pre) (l .before .first-height .ensures) (l .loop .inv) (t .if2 .taken) (l .before .before .before .before .side-of .ensures) (i .is-far .ensures) (c .before .before .if3 .taken) (c .before .power .ensures) (c .raised .ensures)
+    searching-passed (l .before .before .before .before .before .before .before .pre) (l .before .first-height .ensures) (l .loop .inv) (t .if2 .taken) (l .before .before .before .before .side-of .ensures)
+    (i .is-far .ensures) (c .before .before .if3 .taken) (c .before .power .ensures) (c .raised .ensures)
 
 sub-height : tie.Need-sub-height Inv-loop μ-loop
 sub-height c = search needs

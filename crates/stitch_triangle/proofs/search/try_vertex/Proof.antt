@@ -50,7 +50,8 @@ returns c =
     let f = i .before in
     let v = f .before .before in
     let l = v .before in
-    tried-nowhere (l .before .before .before .before .before .before .pre) (l .vertex-at .ensures) _ (v .vertex .ensures) (f .found-on .ensures) (i .if1 .taken) (p .place-on .ensures) (c .enum-told .given .1)
+    tried-nowhere (l .before .before .before .before .before .before .pre) (l .vertex-at .ensures) _ (v .vertex .ensures) (f .found-on .ensures) (i .if1 .taken)
+    (p .place-on .ensures) (c .enum-told .given .1)
 
 enum-known-p : tie.Need-enum-known-p
 enum-known-p c = search needs
@@ -68,7 +69,8 @@ append-pair-requires c κs =
     let f = i .before in
     let v = f .before .before in
     let l = v .before in
-    pair-room (l .before .before .before .before .before .before .pre) (l .vertex-at .ensures) _ (v .vertex .ensures) (f .found-on .ensures) (i .if1 .taken) (p .place-on .ensures) (c .before .before .p .given .1)
+    pair-room (l .before .before .before .before .before .before .pre) (l .vertex-at .ensures) _ (v .vertex .ensures) (f .found-on .ensures) (i .if1 .taken)
+    (p .place-on .ensures) (c .before .before .p .given .1)
 
 add-t28 : tie.Need-add-t28
 add-t28 c = search needs
@@ -91,7 +93,8 @@ returns-2 c =
     let f = i .before in
     let v = f .before .before in
     let l = v .before in
-    tried-placed (l .before .before .before .before .before .before .pre) (l .vertex-at .ensures) _ (v .vertex .ensures) (f .found-on .ensures) (i .if1 .taken) (p .place-on .ensures) (k .p .given .1) (n .append-pair .ensures)
+    tried-placed (l .before .before .before .before .before .before .pre) (l .vertex-at .ensures) _ (v .vertex .ensures) (f .found-on .ensures) (i .if1 .taken)
+    (p .place-on .ensures) (k .p .given .1) (n .append-pair .ensures)
 
 same-length-3 : tie.Need-same-length-3
 same-length-3 c = search needs

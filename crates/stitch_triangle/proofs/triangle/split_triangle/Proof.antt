@@ -32,7 +32,8 @@ drop-close-requires c κs =
     let d = o .before .before .before .before in
     let b = d .before .before .before .before in
     let a = b .before .before .before .before in
-    sorted-held (a .before .before .before .before .pre) (a .find-all .ensures) (omega arith) (b .find-all2 .ensures) (omega arith) (d .find-all3 .ensures) (omega arith) (o .sort-pairs .ensures) (omega arith)
+    sorted-held (a .before .before .before .before .pre) (a .find-all .ensures) (omega arith) (b .find-all2 .ensures) (omega arith)
+    (d .find-all3 .ensures) (omega arith) (o .sort-pairs .ensures) (omega arith)
 
 same-length : tie.Need-same-length
 same-length c = search needs
@@ -44,7 +45,8 @@ returns c =
     let d = o .before .before .before .before in
     let b = d .before .before .before .before in
     let a = b .before .before .before .before in
-    triangle-split (a .before .before .before .before .pre) (a .find-all .ensures) (omega arith) (b .find-all2 .ensures) (omega arith) (d .find-all3 .ensures) (omega arith) (o .sort-pairs .ensures) (omega arith) (k .drop-close .ensures)
+    triangle-split (a .before .before .before .before .pre) (a .find-all .ensures) (omega arith) (b .find-all2 .ensures) (omega arith)
+    (d .find-all3 .ensures) (omega arith) (o .sort-pairs .ensures) (omega arith) (k .drop-close .ensures)
 
 pub split-triangle-spec : {M : Type 1} → statement M
 split-triangle-spec =
