@@ -49,3 +49,34 @@ outside = tt
 pub aside : T (far (box (span 0x4022000000000000 0x4024000000000000) (span 0 0x3FF0000000000000) (span 0 0)) slant (f64 0x3FF0000000000000))
 unfolding evaluation slant
 aside = tt
+
+-- ---- the edge cases: no sag, edge or zero needs a case of its own
+
+-- the box beside the edge again, for a square that overflowed or an infinite sag: nothing is above the infinity
+pub endless : T (not (far (box (span 0x3FD0000000000000 0x3FE8000000000000) (span 0x4000000000000000 0x4008000000000000) (span 0 0)) unit (f64 0x7FF0000000000000)))
+unfolding evaluation unit
+endless = tt
+
+-- for a square that vanished: a box on the edge's line is not passed over
+pub least : T (not (far (box (span 0x3FD0000000000000 0x3FE8000000000000) (span 0 0) (span 0 0)) unit (f64 0)))
+unfolding evaluation unit
+least = tt
+
+-- with −0.0 for 0.0 at its ends the same
+pub zeros : T (not (far (box (span 0x3FD0000000000000 0x3FE8000000000000) (span 0x8000000000000000 0) (span 0x8000000000000000 0x8000000000000000)) unit (f64 0)))
+unfolding evaluation unit
+zeros = tt
+
+-- from the origin to itself: the squared length is 0 and the parameter no number, which cuts nothing from the span, so only the distance decides
+unfoldable pub point : Edge
+point = edgeOf (vec 0 0 0) (vec 0 0 0)
+
+-- a box on it
+pub onPoint : T (not (far (box (span 0 0) (span 0 0) (span 0 0)) point (f64 0)))
+unfolding evaluation point
+onPoint = tt
+
+-- a box beside it
+pub offPoint : T (far (box (span 0 0) (span 0x4000000000000000 0x4008000000000000) (span 0 0)) point (f64 0x3FF0000000000000))
+unfolding evaluation point
+offPoint = tt

@@ -74,11 +74,10 @@ fn try_vertex(
     f: Finder,
     j: usize,
     e: u64,
-    found: u64,
-    placed: usize,
+    t: Tally,
 ) -> Tally
-    requires { ⌜ TryReady (now positions) (f .sag) (f .beyond) (f .v) (f .order) (f .count) j e (f .at) (f .ts) found placed (now w) ⌝ }
-    ensures { λ r. ⌜ FoundIn (now (positions .entry)) (f .sag) s (f .v) e (f .at) (f .ts) found placed (getD (now (w .entry)) (f .order + j) 0 ∷ [])
+    requires { ⌜ TryReady (now positions) (f .sag) (f .beyond) (f .v) (f .order) (f .count) j e (f .at) (f .ts) (t .found) (t .placed) (now w) ⌝ }
+    ensures { λ r. ⌜ FoundIn (now (positions .entry)) (f .sag) s (f .v) e (f .at) (f .ts) (t .found) (t .placed) (getD (now (w .entry)) (f .order + j) 0 ∷ [])
         (now (w .entry)) (now (w .exit)) (r .found) (r .placed) ⌝ }
 {
     let o = w[f.order + j];
@@ -90,23 +89,20 @@ fn try_vertex(
         match place_on(s, r) {
             Place::Nowhere => {
                 return Tally {
-                    found: found + 1,
-                    placed: placed,
+                    found: t.found + 1,
+                    placed: t.placed,
                 };
             }
             Place::On(p) => {
-                append_pair(w, f.at, f.ts, placed, p.e, p.t, e * FINDER_STEP + o);
+                append_pair(w, f.at, f.ts, t.placed, p.e, p.t, e * FINDER_STEP + o);
                 return Tally {
-                    found: found + 1,
-                    placed: placed + 1,
+                    found: t.found + 1,
+                    placed: t.placed + 1,
                 };
             }
         }
     }
-    Tally {
-        found: found,
-        placed: placed,
-    }
+    t
 }
 
 // Where the block that begins at place `from` ends.
@@ -145,7 +141,7 @@ fn try_block(
     while j < end {
         let may = may_split(positions, w, tried.edge, f, j);
         if may {
-            t = try_vertex(positions, w, s, f, j, e, t.found, t.placed);
+            t = try_vertex(positions, w, s, f, j, e, t);
             j += 1;
         } else {
             j += 1;

@@ -37,21 +37,21 @@ place-on-requires c κs = search needs
 enum-told : tie.Need-enum-told
 enum-told c = search needs
 
-add-t24 : tie.Need-add-t24
-add-t24 c = search needs
+add-t23 : tie.Need-add-t23
+add-t23 c = search needs
 
 same-length : tie.Need-same-length
 same-length c = search needs
 
 returns : tie.Need-returns
 returns c =
-    let p = c .before .before in
+    let p = c .before .before .before in
     let i = p .before in
     let f = i .before in
     let v = f .before .before in
     let l = v .before in
     tried-nowhere (l .before .before .before .before .before .before .pre) (l .vertex-at .ensures) _ (v .vertex .ensures) (f .found-on .ensures) (i .if1 .taken)
-    (p .place-on .ensures) (c .enum-told .given .1)
+    (p .place-on .ensures) (c .before .enum-told .given .1)
 
 enum-known-p : tie.Need-enum-known-p
 enum-known-p c = search needs
@@ -72,13 +72,13 @@ append-pair-requires c κs =
     pair-room (l .before .before .before .before .before .before .pre) (l .vertex-at .ensures) _ (v .vertex .ensures) (f .found-on .ensures) (i .if1 .taken)
     (p .place-on .ensures) (c .before .before .p .given .1)
 
-add-t28 : tie.Need-add-t28
-add-t28 c = search needs
+add-t27 : tie.Need-add-t27
+add-t27 c = search needs
 
-add-t30 : tie.Need-add-t30
-add-t30 c =
-    let r = c .before .before .before .before .before .before .before .before .before .before .before .before .before .before .before .before .before .before .pre .apart in
-    let k = c .before .before .before .before .before .before .before .before .before .before .before .before .before .before .before .struct-known .given .1 .1 .1 .1 .1 .1 .0 in
+add-t29 : tie.Need-add-t29
+add-t29 c =
+    let r = c .before .before .before .before .before .before .before .before .before .before .before .before .before .before .before .before .before .before .before .before .pre .apart in
+    let k = c .before .before .before .before .before .before .before .before .before .before .before .before .before .before .before .before .before .struct-known .given .1 .1 .1 .1 .1 .1 .0 in
     search needs
 
 same-length-2 : tie.Need-same-length-2
@@ -86,7 +86,7 @@ same-length-2 c = search needs
 
 returns-2 : tie.Need-returns-2
 returns-2 c =
-    let n = c .before .before in
+    let n = c .before .before .before .before in
     let k = n .before .before .before in
     let p = k .before .before in
     let i = p .before in
@@ -121,15 +121,15 @@ try-vertex-spec =
     found-on-requires
     place-on-requires
     enum-told
-    add-t24
+    add-t23
     same-length
     returns
     enum-known-p
     mul-append-pair
     add-append-pair
     append-pair-requires
-    add-t28
-    add-t30
+    add-t27
+    add-t29
     same-length-2
     returns-2
     same-length-3
