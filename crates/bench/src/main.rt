@@ -1,7 +1,7 @@
 // Reads a bench sheet from standard input and prints the finished mesh and its counts, or only the refusal.
 
 ghost use Rattle.std.specs.Prelude.{◌≡◌, ◌≤◌, length};
-ghost use Rattle.sheet_line_order.specs.Limits.{benchLimits};
+ghost use Rattle.sheet_line_order.specs.Limits.{bench_limits};
 ghost use Rattle.bench_feed.specs.Feeding.{Answered};
 
 use bench_run::finish_input;
@@ -10,7 +10,7 @@ use sheet_line_order::Limits;
 
 // What the program takes.
 fn limits() -> Limits
-    ensures { result ≡ benchLimits }
+    ensures { result ≡ bench_limits }
 {
     Limits {
         rows: 16,
@@ -25,7 +25,7 @@ fn limits() -> Limits
 // Finishes the sheet on standard input in arrays for a line of it, for what it says, for its body, for the stitched body and for the mesh, and in a work area;
 // answers how many bytes of `out` are what the program prints.
 fn finish(out: &mut [u8]) -> usize
-    ensures answered { Answered benchLimits out.old out.new result }
+    ensures answered { Answered bench_limits out.old out.new result }
     ensures upper_bound { result ≤ length out.new }
 {
     finish_input(

@@ -2,7 +2,7 @@
 
 ghost use Rattle.std.specs.Prelude.{◌≡◌};
 ghost use Rattle.bench_call_texts.specs.Told.{Told};
-ghost use Rattle.bench_call_texts.specs.Texts.{MeshSaid, assembledText, bytesIn, meshIn, sizedFrom, talliedFrom};
+ghost use Rattle.bench_call_texts.specs.Texts.{MeshSaid, assembled_text, bytes_in, mesh_in, sized_from, tallied_from};
 
 use mesh_assemble::assemble;
 use mesh_definition::{Assembled, MeshCounts};
@@ -13,7 +13,7 @@ use turn_definition::TurnCounts;
 
 // How much assemble wrote.
 fn sizes_of(c: MeshCounts) -> Sizes
-    ensures { result ≡ sizedFrom c }
+    ensures { result ≡ sized_from c }
 {
     Sizes {
         vertices: c.vertices,
@@ -26,7 +26,7 @@ fn sizes_of(c: MeshCounts) -> Sizes
 
 // What was counted; each accepted row has a range.
 fn tallies_of(t: TurnCounts, splits: u64, c: MeshCounts) -> Tallies
-    ensures { result ≡ talliedFrom t splits c }
+    ensures { result ≡ tallied_from t splits c }
 {
     Tallies {
         turned: t.turned as u64,
@@ -92,11 +92,11 @@ pub fn assemble_next(
     work: &mut [u64],
     out: &mut [u8],
 ) -> usize
-    ensures { Told (bytesIn
-        (meshIn mesh_positions.old mesh_normals.old mesh_indices.old parts.old ranges.old
+    ensures { Told (bytes_in
+        (mesh_in mesh_positions.old mesh_normals.old mesh_indices.old parts.old ranges.old
         failures.old)) out.old
-        (assembledText rows.now positions.now normals.now indices.now reference materials.now default
-        t splits ((meshIn mesh_positions.old mesh_normals.old mesh_indices.old parts.old ranges.old
+        (assembled_text rows.now positions.now normals.now indices.now reference materials.now default
+        t splits ((mesh_in mesh_positions.old mesh_normals.old mesh_indices.old parts.old ranges.old
         failures.old) work.old)) out.new result }
 {
     let given = assemble(

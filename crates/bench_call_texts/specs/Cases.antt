@@ -1,8 +1,8 @@
 -- What is printed of a call's answer, whichever call it is: of a result its text, of a refusal its line. Assumes nothing.
 use Rattle.std.specs.Prelude.{Bool, true, false, List, ◌≡◌, refl, ℕ, eqb}
 use Rattle.std.proofs.Common.{sym, ◌∙◌, ap, subst}
-use Rattle.sheet_answer_text.specs.Answer.{Written, refusalLine}
-use Rattle.bench_call_texts.specs.Told.{Told, told-refusal}
+use Rattle.sheet_answer_text.specs.Answer.{Written, refusal_line}
+use Rattle.bench_call_texts.specs.Told.{Told, told_refusal}
 
 -- the two cases of a call's answer are told apart, and each by what it carries
 pub record Cases {X C : Type 0} (done : C → X) (refuse : ℕ → X) : Type 0 where
@@ -17,18 +17,18 @@ module _ {X C : Type 0} {done : C → X} {refuse : ℕ → X} (v : Cases done re
 
   -- what is printed of it
   abbrev said : Bool → List ℕ
-  said b = elim b [ true ↦ text | false ↦ refusalLine n ]
+  said b = elim b [ true ↦ text | false ↦ refusal_line n ]
 
-  pub told-done : (c : C) → done c ≡ answer (eqb n 0) → (c ≡ m → Told lines E text W r) → Told lines E (said (eqb n 0)) W r
-  told-done c e t = go (eqb n 0) refl
+  pub told_done : (c : C) → done c ≡ answer (eqb n 0) → (c ≡ m → Told lines E text W r) → Told lines E (said (eqb n 0)) W r
+  told_done c e t = go (eqb n 0) refl
     where
       go : (b : Bool) → eqb n 0 ≡ b → Told lines E (said (eqb n 0)) W r
       go true q = subst (λ (b : Bool). Told lines E (said b) W r) (sym q) (t (v.result c m (e ∙ ap answer q)))
       go false q = absurd (v.apart c n (e ∙ ap answer q))
 
-  pub told-refused : (k : ℕ) → refuse k ≡ answer (eqb n 0) → Written E (refusalLine k) W r → Told lines E (said (eqb n 0)) W r
-  told-refused k e w = go (eqb n 0) refl
+  pub told_refused : (k : ℕ) → refuse k ≡ answer (eqb n 0) → Written E (refusal_line k) W r → Told lines E (said (eqb n 0)) W r
+  told_refused k e w = go (eqb n 0) refl
     where
       go : (b : Bool) → eqb n 0 ≡ b → Told lines E (said (eqb n 0)) W r
       go true q = absurd (v.apart m k (sym (e ∙ ap answer q)))
-      go false q = subst (λ (b : Bool). Told lines E (said b) W r) (sym q) (subst (λ (i : ℕ). Told lines E (refusalLine i) W r) (v.number k n (e ∙ ap answer q)) (told-refusal lines E k W r w))
+      go false q = subst (λ (b : Bool). Told lines E (said b) W r) (sym q) (subst (λ (i : ℕ). Told lines E (refusal_line i) W r) (v.number k n (e ∙ ap answer q)) (told_refusal lines E k W r w))

@@ -4,7 +4,7 @@ use mathlib.Core.Path.{◌≡◌, refl, sym, ◌∙◌, ap, subst}
 use Prim.Native.Nat.{ℕ}
 use native.Mathlib.Omega.{arith}
 use lib.Ieee.{Float}
-use Rattle.sheet_answer_text.specs.Answer.{Written, refusalLine}
+use Rattle.sheet_answer_text.specs.Answer.{Written, refusal_line}
 use Rattle.point_rules.specs.Points.{key}
 use Rattle.patch_geometry.specs.declared.Aabb.{Aabb}
 use Rattle.turn_definition.specs.declared.TurnCounts.{TurnCounts}
@@ -12,34 +12,34 @@ use Rattle.turn_definition.specs.declared.Turned.{Turned}
 use Rattle.turn_definition.specs.declared.Turned.TheVariants as TurnCase
 use Rattle.turn_definition.specs.Orient.{AfterTurn, turn_of}
 use Rattle.turn_definition.specs.Answers.{Left, left, answered}
-use Rattle.bench_call_texts.specs.Cases.{Cases, told-done, told-refused}
+use Rattle.bench_call_texts.specs.Cases.{Cases, told_done, told_refused}
 use Rattle.bench_call_texts.specs.Told.{Told}
-use Rattle.bench_call_texts.specs.Texts.{MeshRoom, StitchRoom, TurnSaid, bytesIn, finishedText, stitchedText, turnPrinted}
+use Rattle.bench_call_texts.specs.Texts.{MeshRoom, StitchRoom, TurnSaid, bytes_in, finished_text, stitched_text, turn_printed}
 
-turn-cases : Cases TurnCase.Done TurnCase.Refused
-turn-cases = record { apart = λ c n e. let z : ◌≡◌ {A = ℕ} 0 1 = cc in omega arith; result = λ c d e. cc; number = λ m n e. cc }
+turn_cases : Cases TurnCase.Done TurnCase.Refused
+turn_cases = record { apart = λ c n e. let z : ◌≡◌ {A = ℕ} 0 1 = cc in omega arith; result = λ c d e. cc; number = λ m n e. cc }
 
 -- ---- turn's answer printed
-abbrev countsIn : AfterTurn → TurnCounts
-countsIn t = record { turned = t.turned; against = t.against }
+abbrev counts_in : AfterTurn → TurnCounts
+counts_in t = record { turned = t.turned; against = t.against }
 
 module _ (T : List ℕ) (P : List Float) (sag : Float) (box : Aabb) (M : List ℕ) (d : ℕ) (g : Turned) (N : List Float) (I w : List ℕ) (into : StitchRoom) (out : MeshRoom) (E W : List ℕ) (r : ℕ) where
-  pub turn-said : (c : TurnCounts) → g ≡ TurnCase.Done c → Told (bytesIn out) E (stitchedText T P N I sag box M d c into out w) W r → TurnSaid T P sag box M d g N I w into out E W r
-  unfolding turnPrinted
-  turn-said c q v = record { says = go }
+  pub turn_said : (c : TurnCounts) → g ≡ TurnCase.Done c → Told (bytes_in out) E (stitched_text T P N I sag box M d c into out w) W r → TurnSaid T P sag box M d g N I w into out E W r
+  unfolding turn_printed
+  turn_said c q v = record { says = go }
     where
-      go : (t : AfterTurn) → left g N I w ≡ answered t → Told (bytesIn out) E (turnPrinted T P sag box M d into out t) W r
+      go : (t : AfterTurn) → left g N I w ≡ answered t → Told (bytes_in out) E (turn_printed T P sag box M d into out t) W r
       go t e =
-          let all : c ≡ countsIn t → stitchedText T P N I sag box M d c into out w ≡ stitchedText T P t.normals t.indices sag box M d (countsIn t) into out t.work =
-          λ k j. stitchedText T P (e j).normals (e j).indices sag box M d (k j) into out (e j).work in
-          told-done turn-cases (countsIn t) t.refusal (bytesIn out) E W r _ c (sym q ∙ ap (λ (l : Left). l.answer) e) (λ k. subst (λ (x : List ℕ). Told (bytesIn out) E x W r) (all k) v)
+          let all : c ≡ counts_in t → stitched_text T P N I sag box M d c into out w ≡ stitched_text T P t.normals t.indices sag box M d (counts_in t) into out t.work =
+          λ k j. stitched_text T P (e j).normals (e j).indices sag box M d (k j) into out (e j).work in
+          told_done turn_cases (counts_in t) t.refusal (bytes_in out) E W r _ c (sym q ∙ ap (λ (l : Left). l.answer) e) (λ k. subst (λ (x : List ℕ). Told (bytes_in out) E x W r) (all k) v)
 
-  pub turn-said-refused : (k : ℕ) → g ≡ TurnCase.Refused k → Written E (refusalLine k) W r → TurnSaid T P sag box M d g N I w into out E W r
-  unfolding turnPrinted
-  turn-said-refused k q v = record { says = λ t e. told-refused turn-cases (countsIn t) t.refusal (bytesIn out) E W r _ k (sym q ∙ ap (λ (l : Left). l.answer) e) v }
+  pub turn_said_refused : (k : ℕ) → g ≡ TurnCase.Refused k → Written E (refusal_line k) W r → TurnSaid T P sag box M d g N I w into out E W r
+  unfolding turn_printed
+  turn_said_refused k q v = record { says = λ t e. told_refused turn_cases (counts_in t) t.refusal (bytes_in out) E W r _ k (sym q ∙ ap (λ (l : Left). l.answer) e) v }
 
-pub finished-text : (T : List ℕ) (P Q : List Float) (J : List ℕ) (sag : Float) (box : Aabb) (M : List ℕ) (d : ℕ) (g : Turned) (N : List Float) (I w w₀ : List ℕ) (into : StitchRoom)
+pub finished_text_lem : (T : List ℕ) (P Q : List Float) (J : List ℕ) (sag : Float) (box : Aabb) (M : List ℕ) (d : ℕ) (g : Turned) (N : List Float) (I w w₀ : List ℕ) (into : StitchRoom)
     (out : MeshRoom) (E W : List ℕ) (r : ℕ)
-    → TurnSaid T P sag box M d g N I w into out E W r → left g N I w ≡ answered (turn_of key T P Q J w₀) → Told (bytesIn out) E (finishedText T P Q J sag box M d into out w₀) W r
-unfolding finishedText
-finished-text T P Q J sag box M d g N I w w₀ into out E W r m e = m.says (turn_of key T P Q J w₀) e
+    → TurnSaid T P sag box M d g N I w into out E W r → left g N I w ≡ answered (turn_of key T P Q J w₀) → Told (bytes_in out) E (finished_text T P Q J sag box M d into out w₀) W r
+unfolding finished_text
+finished_text_lem T P Q J sag box M d g N I w w₀ into out E W r m e = m.says (turn_of key T P Q J w₀) e

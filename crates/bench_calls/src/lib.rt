@@ -1,7 +1,7 @@
 // The three calls in a row, in lent slices and one work area, and what is printed of them.
 
 ghost use Rattle.bench_call_texts.specs.Told.{Told};
-ghost use Rattle.bench_call_texts.specs.Texts.{TurnSaid, bytesIn, finishedText, meshIn, stitchIn};
+ghost use Rattle.bench_call_texts.specs.Texts.{TurnSaid, bytes_in, finished_text, mesh_in, stitch_in};
 
 use bench_stitch::stitch_next;
 use patch_geometry::Aabb;
@@ -35,8 +35,8 @@ fn print_turned(
 ) -> usize
     ensures { TurnSaid rows.now positions.now sag reference materials.now default given normals.now
         indices.now work.old
-        (stitchIn out_rows.old out_positions.old out_normals.old out_indices.old)
-        (meshIn mesh_positions.old mesh_normals.old mesh_indices.old parts.old ranges.old
+        (stitch_in out_rows.old out_positions.old out_normals.old out_indices.old)
+        (mesh_in mesh_positions.old mesh_normals.old mesh_indices.old parts.old ranges.old
         failures.old) out.old out.new result }
 {
     match given {
@@ -90,12 +90,12 @@ pub fn finish_body(
     work: &mut [u64],
     out: &mut [u8],
 ) -> usize
-    ensures { Told (bytesIn
-        (meshIn mesh_positions.old mesh_normals.old mesh_indices.old parts.old ranges.old
+    ensures { Told (bytes_in
+        (mesh_in mesh_positions.old mesh_normals.old mesh_indices.old parts.old ranges.old
         failures.old)) out.old
-        (finishedText rows.now positions.now normals.old indices.old sag reference materials.now
-        default (stitchIn out_rows.old out_positions.old out_normals.old out_indices.old)
-        (meshIn mesh_positions.old mesh_normals.old mesh_indices.old parts.old ranges.old
+        (finished_text rows.now positions.now normals.old indices.old sag reference materials.now
+        default (stitch_in out_rows.old out_positions.old out_normals.old out_indices.old)
+        (mesh_in mesh_positions.old mesh_normals.old mesh_indices.old parts.old ranges.old
         failures.old) work.old) out.new result }
 {
     let given = turn(rows, positions, normals, indices, work);

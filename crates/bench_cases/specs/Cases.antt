@@ -7,15 +7,15 @@ use Rattle.float_sqrt.specs.Roots.{sqrt}
 use Rattle.float_narrow.specs.Narrow.{narrow}
 use Rattle.point_rules.specs.Points.{cell, pattern}
 use Rattle.body_rows.specs.Body.{rows_of, patches_of}
-use Rattle.body_rows.specs.Given.{Given, givenTable, givenPositions, givenIndices, K6, K6-reversed, K7, K8}
+use Rattle.body_rows.specs.Given.{Given, given_table, given_positions, given_indices, K6, K6-reversed, K7, K8}
 use Rattle.patch_geometry.specs.Geometry.{zero64}
-use Rattle.patch_measures.specs.Volume.{patchVolume}
-use Rattle.patch_measures.specs.Reach.{escapesBody}
-use Rattle.patch_geometry.specs.Given.{box68, onePoint, vertex}
-use Rattle.turn_definition.specs.Claims.{turnGiven}
-use Rattle.stitch_definition.specs.Claims.{roomy, stitchGiven}
+use Rattle.patch_measures.specs.Volume.{patch_volume}
+use Rattle.patch_measures.specs.Reach.{escapes_body}
+use Rattle.patch_geometry.specs.Given.{box68, one_point, vertex}
+use Rattle.turn_definition.specs.Claims.{turn_given}
+use Rattle.stitch_definition.specs.Claims.{roomy, stitch_given}
 use Rattle.bench_definition.specs.Evaluation.{evaluation}
-use Rattle.sheet_line_order.specs.Limits.{benchLimits}
+use Rattle.sheet_line_order.specs.Limits.{bench_limits}
 use Rattle.bench_definition.specs.Finish.{Sheet, Outcome, Refused, Finished, finish}
 
 -- ---- how the cases are read
@@ -23,8 +23,8 @@ use Rattle.bench_definition.specs.Finish.{Sheet, Outcome, Refused, Finished, fin
 -- the bits of the volume of each patch
 volumes : List Given → List ℕ
 volumes gs =
-    map (λ p. bits64 (patchVolume p.positions p.indices false))
-    (patches_of (rows_of (givenTable gs)) (givenPositions gs) (givenPositions gs) (givenIndices gs))
+    map (λ p. bits64 (patch_volume p.positions p.indices false))
+    (patches_of (rows_of (given_table gs)) (given_positions gs) (given_positions gs) (given_indices gs))
 
 number : Bool → ℕ
 number b = cond b 1 0
@@ -46,7 +46,7 @@ quarter = f64 0x3FD0000000000000
 K2 : Sheet
 K2 =
     record {
-      box = onePoint;
+      box = one_point;
       sag = zero64;
       default = 0;
       materials = [];
@@ -60,7 +60,7 @@ K2 =
 nothing : Sheet
 nothing =
     record {
-      box = onePoint;
+      box = one_point;
       sag = zero64;
       default = 0;
       materials = [];
@@ -76,18 +76,18 @@ nothing =
 pub cases : List Case
 cases =
     case 1 (map (λ b. pattern (cell (f32 b))) (0x3C000000 ∷ 0xBC000000 ∷ 0x80000000 ∷ [])) (7813 ∷ pattern (neg_ℤ (pos 7813)) ∷ 0 ∷ [])
-    ∷ case 2 (pattern (cell (f32 0x55000000)) ∷ counts (finish benchLimits K2)) (8_796_093_022_208_000_000 ∷ 24 ∷ [])
+    ∷ case 2 (pattern (cell (f32 0x55000000)) ∷ counts (finish bench_limits K2)) (8_796_093_022_208_000_000 ∷ 24 ∷ [])
     ∷ case 3 (bits64 (sqrt (f64 0x4000000000000000)) ∷ []) (0x3FF6A09E667F3BCD ∷ [])
     ∷ case 4 (map (λ b. bits32 (narrow (f64 b))) (0x3FF0000010000000 ∷ 0x3FF0000030000000 ∷ [])) (0x3F800000 ∷ 0x3F800002 ∷ [])
-    ∷ case 5 (counts (finish benchLimits nothing)) (0 ∷ 0 ∷ 0 ∷ 0 ∷ 0 ∷ 0 ∷ 0 ∷ 0 ∷ 0 ∷ 0 ∷ 0 ∷ 0 ∷ 0 ∷ 1 ∷ [])
-    ∷ case 6 (volumes K6 ++ (turnGiven K6).turned ∷ (turnGiven K6-reversed).turned ∷ []) (0x3FC5555555555555 ∷ 0 ∷ 1 ∷ [])
-    ∷ case 7 ((turnGiven K7).turned ∷ (turnGiven K7).against ∷ []) (0 ∷ 2 ∷ [])
-    ∷ case 8 ((stitchGiven K8 quarter).splits ∷ take 6 (stitchGiven K8 quarter).slices.indices) (1 ∷ 0 ∷ 3 ∷ 1 ∷ 0 ∷ 1 ∷ 2 ∷ [])
-    ∷ case 9 (map (λ x. number (escapesBody (vertex x) box68)) (0x41500000 ∷ 0x41500001 ∷ [])) (0 ∷ 1 ∷ [])
-    ∷ case 10 (map (λ x. number (escapesBody (vertex x) onePoint)) (0 ∷ 0x41500001 ∷ 0x7F7FFFFF ∷ [])) (0 ∷ 0 ∷ 0 ∷ [])
+    ∷ case 5 (counts (finish bench_limits nothing)) (0 ∷ 0 ∷ 0 ∷ 0 ∷ 0 ∷ 0 ∷ 0 ∷ 0 ∷ 0 ∷ 0 ∷ 0 ∷ 0 ∷ 0 ∷ 1 ∷ [])
+    ∷ case 6 (volumes K6 ++ (turn_given K6).turned ∷ (turn_given K6-reversed).turned ∷ []) (0x3FC5555555555555 ∷ 0 ∷ 1 ∷ [])
+    ∷ case 7 ((turn_given K7).turned ∷ (turn_given K7).against ∷ []) (0 ∷ 2 ∷ [])
+    ∷ case 8 ((stitch_given K8 quarter).splits ∷ take 6 (stitch_given K8 quarter).slices.indices) (1 ∷ 0 ∷ 3 ∷ 1 ∷ 0 ∷ 1 ∷ 2 ∷ [])
+    ∷ case 9 (map (λ x. number (escapes_body (vertex x) box68)) (0x41500000 ∷ 0x41500001 ∷ [])) (0 ∷ 1 ∷ [])
+    ∷ case 10 (map (λ x. number (escapes_body (vertex x) one_point)) (0 ∷ 0x41500001 ∷ 0x7F7FFFFF ∷ [])) (0 ∷ 0 ∷ 0 ∷ [])
     ∷ []
 
 -- The definitions yield each row.
 pub K1-to-K10 : T (all agrees cases)
-unfolding evaluation turnGiven roomy stitchGiven volumes number counts quarter K2 nothing cases
+unfolding evaluation turn_given roomy stitch_given volumes number counts quarter K2 nothing cases
 K1-to-K10 = tt

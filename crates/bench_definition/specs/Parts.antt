@@ -10,40 +10,40 @@ use Rattle.body_rows.specs.Body.{Patch, rows_of, patches_of}
 use Rattle.sheet_line_order.specs.declared.Limits.{Limits}
 use Rattle.patch_geometry.specs.Geometry.{zero64}
 use Rattle.turn_definition.specs.Orient.{turn_of}
-use Rattle.stitch_loose_points.specs.Loose.{Facet, facetsIn, looseIn}
-use Rattle.stitch_splits.specs.Splits.{Side, Placed, SplitTriangle, sidesOf, splitTriangle}
-use Rattle.stitch_definition.specs.Slices.{stitchOrRefuse, clearedSlices}
-use Rattle.stitch_definition.specs.StitchedBody.{stitchedBodyOf}
-use Rattle.bench_definition.specs.Finish.{Sheet, Outcome, Refused, area, stitchSlices, assembleNext}
+use Rattle.stitch_loose_points.specs.Loose.{Facet, facets_in, loose_in}
+use Rattle.stitch_splits.specs.Splits.{Side, Placed, SplitTriangle, sides_of, split_triangle}
+use Rattle.stitch_definition.specs.Slices.{stitch_or_refuse, cleared_slices}
+use Rattle.stitch_definition.specs.StitchedBody.{stitched_body_of}
+use Rattle.bench_definition.specs.Finish.{Sheet, Outcome, Refused, area, stitch_slices, assemble_next}
 
 -- turn's answer, normals and indices as numbers
-unfoldable pub turnNumbers : Limits → Sheet → List ℕ
-turnNumbers limits x =
+unfoldable pub turn_numbers : Limits → Sheet → List ℕ
+turn_numbers limits x =
     let t = turn_of key x.table (map f32 x.positions) (map f32 x.normals) x.indices (area limits) in
     t.refusal ∷ t.turned ∷ t.against ∷ (map bits32 t.normals ++ t.indices)
 
 -- the patches of a sheet's body
-unfoldable pub sheetPatches : Sheet → List Patch
-sheetPatches x = patches_of (rows_of x.table) (map f32 x.positions) (map f32 x.normals) x.indices
+unfoldable pub sheet_patches : Sheet → List Patch
+sheet_patches x = patches_of (rows_of x.table) (map f32 x.positions) (map f32 x.normals) x.indices
 
 -- the triangles of a sheet's body
-unfoldable pub sheetFacets : Sheet → List (List Facet)
-sheetFacets x = facetsIn (names key (map f32 x.positions)) (sheetPatches x)
+unfoldable pub sheet_facets : Sheet → List (List Facet)
+sheet_facets x = facets_in (names key (map f32 x.positions)) (sheet_patches x)
 
 -- a placed point as numbers: edge, the bits of t and of the point
-unfoldable pub placedNumbers : Placed → List ℕ
-placedNumbers p = p.e ∷ bits64 p.t ∷ bits64 p.point.x ∷ bits64 p.point.y ∷ bits64 p.point.z ∷ []
+unfoldable pub placed_numbers : Placed → List ℕ
+placed_numbers p = p.e ∷ bits64 p.t ∷ bits64 p.point.x ∷ bits64 p.point.y ∷ bits64 p.point.z ∷ []
 
 -- a split triangle as numbers: how many points were found, and those kept
-unfoldable pub splitNumbers : SplitTriangle → List ℕ
-splitNumbers s = s.found ∷ flat_map placedNumbers s.kept
+unfoldable pub split_numbers : SplitTriangle → List ℕ
+split_numbers s = s.found ∷ flat_map placed_numbers s.kept
 
 -- the splits of some triangles of row r, by their numbers
-unfoldable pub splitsAt : Sheet → ℕ → List ℕ → List (List ℕ)
-splitsAt x r ts =
-    let fss = sheetFacets x in
-    let ls = looseIn fss in
-    elim (item_at fss r) [ none ↦ [] | some fs ↦ map (λ f. splitNumbers (splitTriangle x.sag ls f)) (filter_map (item_at fs) ts) ]
+unfoldable pub splits_at : Sheet → ℕ → List ℕ → List (List ℕ)
+splits_at x r ts =
+    let fss = sheet_facets x in
+    let ls = loose_in fss in
+    elim (item_at fss r) [ none ↦ [] | some fs ↦ map (λ f. split_numbers (split_triangle x.sag ls f)) (filter_map (item_at fs) ts) ]
 
 -- the place on edge e of a triangle that the numbers say
 unfoldable pub placed_at : List Side → ℕ → ℕ → ℕ → ℕ → ℕ → List Placed
@@ -62,23 +62,23 @@ placed_of ss (a ∷ b ∷ c ∷ d ∷ []) = []
 placed_of ss (e ∷ t ∷ x ∷ y ∷ z ∷ rest) = placed_at ss e t x y z ++ placed_of ss rest
 
 -- triangles with the splits that the numbers say
-unfoldable pub withSplits : List Facet → List (List ℕ) → List SplitTriangle
-withSplits [] ns = []
-withSplits (f ∷ fs) [] = []
-withSplits (f ∷ fs) ([] ∷ ns) = record { facet = f; found = 0; kept = [] } ∷ withSplits fs ns
-withSplits (f ∷ fs) ((n ∷ ks) ∷ ns) = record { facet = f; found = n; kept = placed_of (sidesOf f) ks } ∷ withSplits fs ns
+unfoldable pub with_splits : List Facet → List (List ℕ) → List SplitTriangle
+with_splits [] ns = []
+with_splits (f ∷ fs) [] = []
+with_splits (f ∷ fs) ([] ∷ ns) = record { facet = f; found = 0; kept = [] } ∷ with_splits fs ns
+with_splits (f ∷ fs) ((n ∷ ks) ∷ ns) = record { facet = f; found = n; kept = placed_of (sides_of f) ks } ∷ with_splits fs ns
 
 -- that for each row
-unfoldable pub allWithSplits : List (List Facet) → List (List (List ℕ)) → List (List SplitTriangle)
-allWithSplits [] nss = []
-allWithSplits (fs ∷ fss) [] = []
-allWithSplits (fs ∷ fss) (ns ∷ nss) = withSplits fs ns ∷ allWithSplits fss nss
+unfoldable pub all_with_splits : List (List Facet) → List (List (List ℕ)) → List (List SplitTriangle)
+all_with_splits [] nss = []
+all_with_splits (fs ∷ fss) [] = []
+all_with_splits (fs ∷ fss) (ns ∷ nss) = with_splits fs ns ∷ all_with_splits fss nss
 
 -- the rest of the program, given the turned body as a sheet, its counts and its splits
-unfoldable pub finishFrom : Limits → Sheet → ℕ → ℕ → List (List (List ℕ)) → Outcome
-finishFrom limits x turned against nss =
-    let s = stitchOrRefuse (stitchedBodyOf (sheetPatches x) (allWithSplits (sheetFacets x) nss)) (clearedSlices (rows_of x.table) (stitchSlices limits (area limits))) in
+unfoldable pub finish_from : Limits → Sheet → ℕ → ℕ → List (List (List ℕ)) → Outcome
+finish_from limits x turned against nss =
+    let s = stitch_or_refuse (stitched_body_of (sheet_patches x) (all_with_splits (sheet_facets x) nss)) (cleared_slices (rows_of x.table) (stitch_slices limits (area limits))) in
     elim (eqb s.refusal 0) [
-      | true ↦ assembleNext limits x (record { refusal = 0; turned = turned; against = against; normals = []; indices = []; work = [] }) s
+      | true ↦ assemble_next limits x (record { refusal = 0; turned = turned; against = against; normals = []; indices = []; work = [] }) s
       | false ↦ Refused s.refusal
     ]

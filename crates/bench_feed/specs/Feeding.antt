@@ -1,17 +1,17 @@
 -- A text fed piece by piece: what the reader, its slices and the line's buffer stand for. Assumes nothing.
 use Rattle.std.specs.Prelude.{List, [], ◌∷◌, ◌++◌, ◌≡◌, ℕ, ◌≤◌, T, length, take}
 use Rattle.sheet_line_order.specs.declared.Limits.{Limits}
-use Rattle.sheet_line_order.specs.Laws.{noLF}
-use Rattle.sheet_line_order.specs.Reading.{State, cut, readFrom, sheetOf}
+use Rattle.sheet_line_order.specs.Laws.{no_lF}
+use Rattle.sheet_line_order.specs.Reading.{State, cut, read_from, sheet_of}
 use Rattle.sheet_reader_state.specs.declared.Reader.{Reader}
 use Rattle.sheet_reader_state.specs.Kept.{Kept}
 use Rattle.sheet_reader_state.specs.Slices.{lent}
 use Rattle.sheet_meaning.specs.Bench.{program}
 use Rattle.sheet_meaning.specs.Answered.{answer_in}
 use Rattle.bench_feed.specs.declared.Fed.{Fed}
-use Rattle.bench_definition.specs.Finish.{meshSlices}
+use Rattle.bench_definition.specs.Finish.{mesh_slices}
 use Rattle.bench_call_texts.specs.Told.{Told}
-use Rattle.bench_call_texts.specs.Texts.{bytesIn}
+use Rattle.bench_call_texts.specs.Texts.{bytes_in}
 
 -- A text was fed: the lines before its last LF were read, giving the state, and what stands after that LF, the tail, is in the buffer, as far as it has room. However the text goes on, the
 -- sheet is what the state and the tail then give.
@@ -19,25 +19,25 @@ pub record SoFar (limits : Limits) (text : List ℕ) (f : Fed) (line table posit
   pub state : State
   pub within : state.limits ≡ limits
   pub tail : List ℕ
-  pub plain : T (noLF tail)
-  pub means : (rest : List ℕ) → sheetOf limits (text ++ rest) ≡ readFrom state (cut (tail ++ rest))
+  pub plain : T (no_lF tail)
+  pub means : (rest : List ℕ) → sheet_of limits (text ++ rest) ≡ read_from state (cut (tail ++ rest))
   pub kept : Kept (lent f.reader table positions normals indices materials) state
   pub room : 108 ≤ length line
   pub buffer : take f.length line ≡ take (length line) tail
   pub count : f.length ≡ length (take (length line) tail)
 
 -- a stretch of the text was fed behind what was
-pub record Fed-on (part : List ℕ) (f : Fed) (line table positions normals indices materials : List ℕ) (g : Fed) (line' table' positions' normals' indices' materials' : List ℕ) : Type 0 where
+pub record FedOn (part : List ℕ) (f : Fed) (line table positions normals indices materials : List ℕ) (g : Fed) (line' table' positions' normals' indices' materials' : List ℕ) : Type 0 where
   pub goes : (limits : Limits) (text : List ℕ) → SoFar limits text f line table positions normals indices materials → SoFar limits (text ++ part) g line' table' positions' normals' indices' materials'
 
 -- some stretch of the text was fed behind what was
-pub record Fed-some (f : Fed) (line table positions normals indices materials : List ℕ) (g : Fed) (line' table' positions' normals' indices' materials' : List ℕ) : Type 0 where
+pub record FedSome (f : Fed) (line table positions normals indices materials : List ℕ) (g : Fed) (line' table' positions' normals' indices' materials' : List ℕ) : Type 0 where
   pub part : List ℕ
-  pub fed : Fed-on part f line table positions normals indices materials g line' table' positions' normals' indices' materials'
+  pub fed : FedOn part f line table positions normals indices materials g line' table' positions' normals' indices' materials'
 
 -- A text whose reading failed where it stands: an empty line, which is no form, follows what was read.
-abbrev pub failedRead : List ℕ
-failedRead = 10 ∷ 10 ∷ []
+abbrev pub failed_read : List ℕ
+failed_read = 10 ∷ 10 ∷ []
 
 -- the text has ended: what is printed of the reader and its slices is what the program of these limits is to print of the text
 pub record Ended (f : Fed) (line : List ℕ) (r : Reader) : Type 0 where
@@ -48,4 +48,4 @@ pub record Ended (f : Fed) (line : List ℕ) (r : Reader) : Type 0 where
 -- what the program of these limits is to print of some text was written; which one, no contract of C's read could say
 pub record Answered (limits : Limits) (E W : List ℕ) (r : ℕ) : Type 0 where
   pub text : List ℕ
-  pub told : Told (bytesIn (meshSlices limits)) E (program limits text) W r
+  pub told : Told (bytes_in (mesh_slices limits)) E (program limits text) W r

@@ -5,13 +5,13 @@ use Rattle.std.proofs.Math.Path.{sym, ap, subst}
 use Rattle.std.proofs.Math.ListN.{length, take, replicate, length-replicate, length-take}
 use Rattle.std.proofs.Math.Seq.{take-nil}
 use Rattle.sheet_line_order.specs.declared.Limits.{Limits}
-use Rattle.sheet_line_order.specs.Reading.{sheetOf, start}
+use Rattle.sheet_line_order.specs.Reading.{sheet_of, start}
 use Rattle.sheet_reader_state.specs.declared.Reader.{Reader}
-use Rattle.sheet_reader_state.specs.Kept.{Kept, kept-begin}
+use Rattle.sheet_reader_state.specs.Kept.{Kept, kept_begin}
 use Rattle.sheet_reader_state.specs.Limits.{SheetRoom}
-use Rattle.sheet_reader_state.specs.Slices.{Begun, lent, ofBodies, readerOf}
+use Rattle.sheet_reader_state.specs.Slices.{Begun, lent, of_bodies, reader_of}
 use Rattle.bench_feed.specs.declared.Fed.{Fed}
-use Rattle.bench_feed.specs.Feeding.{Fed-on, Fed-some, SoFar}
+use Rattle.bench_feed.specs.Feeding.{FedOn, FedSome, SoFar}
 
 -- ---- the beginning
 module _ (limits : Limits) (line table positions normals indices M W : List ℕ) (r : Reader) (b : Begun limits M r W) where
@@ -25,15 +25,15 @@ module _ (limits : Limits) (line table positions normals indices M W : List ℕ)
       ap (take faces) b.materials ∙ ap (λ (xs : List ℕ). take faces (xs ++ drop faces M)) (take_all (length M) (replicate faces 0) few)
       ∙ take_at (replicate faces 0) (drop faces M) faces (length-replicate {A = ℕ} faces 0)
 
-  pub fed-begin : ofBodies limits ≡ true → 108 ≤ length line → SheetRoom limits (length table) (length positions) (length normals) (length indices) (length M)
+  pub fed_begin : of_bodies limits ≡ true → 108 ≤ length line → SheetRoom limits (length table) (length positions) (length normals) (length indices) (length M)
       → SoFar limits [] (record { reader = r; length = 0 }) line table positions normals indices W
-  unfolding sheetOf start
-  fed-begin few l room =
+  unfolding sheet_of start
+  fed_begin few l room =
       let clean : take faces W ≡ replicate faces 0 = zeros room.materials in
       let long : limits.face < length W = omega (arith, ap length clean, length-take faces W, length-replicate {A = ℕ} faces 0) in
       let wide : SheetRoom limits (length table) (length positions) (length normals) (length indices) (length W) =
       record { table = room.table; positions = room.positions; normals = room.normals; indices = room.indices; materials = long } in
-      let kept : Kept (lent (readerOf (start limits)) table positions normals indices W) (start limits) = kept-begin limits table positions normals indices W wide few clean in
+      let kept : Kept (lent (reader_of (start limits)) table positions normals indices W) (start limits) = kept_begin limits table positions normals indices W wide few clean in
       record {
         state = start limits;
         within = refl;
@@ -48,19 +48,19 @@ module _ (limits : Limits) (line table positions normals indices M W : List ℕ)
 
 -- ---- stretch by stretch
 module _ (f : Fed) (line table positions normals indices materials : List ℕ) where
-  pub fed-nothing : Fed-some f line table positions normals indices materials f line table positions normals indices materials
-  fed-nothing = record { part = []; fed = record { goes = λ limits text v. subst (λ (t : List ℕ). SoFar limits t f line table positions normals indices materials) (sym (append-nil text)) v } }
+  pub fed_nothing : FedSome f line table positions normals indices materials f line table positions normals indices materials
+  fed_nothing = record { part = []; fed = record { goes = λ limits text v. subst (λ (t : List ℕ). SoFar limits t f line table positions normals indices materials) (sym (append-nil text)) v } }
 
   module _ (g : Fed) (line' table' positions' normals' indices' materials' : List ℕ) where
-    pub fed-part : (part : List ℕ) → Fed-on part f line table positions normals indices materials g line' table' positions' normals' indices' materials'
-        → Fed-some f line table positions normals indices materials g line' table' positions' normals' indices' materials'
-    fed-part part w = record { part = part; fed = w }
+    pub fed_part : (part : List ℕ) → FedOn part f line table positions normals indices materials g line' table' positions' normals' indices' materials'
+        → FedSome f line table positions normals indices materials g line' table' positions' normals' indices' materials'
+    fed_part part w = record { part = part; fed = w }
 
-    pub fed-further : (h : Fed) (line'' table'' positions'' normals'' indices'' materials'' : List ℕ)
-        → Fed-some f line table positions normals indices materials g line' table' positions' normals' indices' materials'
-        → Fed-some g line' table' positions' normals' indices' materials' h line'' table'' positions'' normals'' indices'' materials''
-        → Fed-some f line table positions normals indices materials h line'' table'' positions'' normals'' indices'' materials''
-    fed-further h line'' table'' positions'' normals'' indices'' materials'' v w =
+    pub fed_further : (h : Fed) (line'' table'' positions'' normals'' indices'' materials'' : List ℕ)
+        → FedSome f line table positions normals indices materials g line' table' positions' normals' indices' materials'
+        → FedSome g line' table' positions' normals' indices' materials' h line'' table'' positions'' normals'' indices'' materials''
+        → FedSome f line table positions normals indices materials h line'' table'' positions'' normals'' indices'' materials''
+    fed_further h line'' table'' positions'' normals'' indices'' materials'' v w =
         record {
           part = v.part ++ w.part;
           fed =

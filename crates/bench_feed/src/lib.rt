@@ -1,7 +1,7 @@
 // A text taken in byte by byte: a line feed has the line before it read.
 
 ghost use Rattle.std.specs.Prelude.{[], ◌∷◌};
-ghost use Rattle.bench_feed.specs.Feeding.{Ended, Fed-on};
+ghost use Rattle.bench_feed.specs.Feeding.{Ended, FedOn};
 
 use sheet_digit_writing::put_byte;
 use sheet_ends::end_sheet;
@@ -27,7 +27,7 @@ fn take_byte(
     indices: &mut [u32],
     materials: &mut [u64],
 ) -> Fed
-    ensures { Fed-on (c ∷ []) f line.old table.old positions.old normals.old indices.old
+    ensures { FedOn (c ∷ []) f line.old table.old positions.old normals.old indices.old
         materials.old result line.new table.new positions.new normals.new indices.new
         materials.new }
 {
@@ -59,7 +59,7 @@ pub fn feed(
     indices: &mut [u32],
     materials: &mut [u64],
 ) -> Fed
-    ensures { Fed-on part.now f line.old table.old positions.old normals.old
+    ensures { FedOn part.now f line.old table.old positions.old normals.old
         indices.old materials.old result line.new table.new positions.new normals.new
         indices.new materials.new }
 {

@@ -2,11 +2,11 @@
 
 ghost use Rattle.std.specs.Prelude.{◌≡◌, ◌+◌, length, take};
 ghost use Rattle.sheet_reader_state.specs.Limits.{Limited};
-ghost use Rattle.sheet_reader_state.specs.Slices.{lent, patternsOf};
+ghost use Rattle.sheet_reader_state.specs.Slices.{lent, patterns_of};
 ghost use Rattle.sheet_meaning.specs.Meaning.{meant};
 ghost use Rattle.bench_call_texts.specs.Told.{Told};
-ghost use Rattle.bench_call_texts.specs.Texts.{bytesIn, meshIn, stitchIn};
-ghost use Rattle.bench_finish.specs.Answer.{BodyRoom, answerWith, bodyText};
+ghost use Rattle.bench_call_texts.specs.Texts.{bytes_in, mesh_in, stitch_in};
+ghost use Rattle.bench_finish.specs.Answer.{BodyRoom, answer_with, body_text};
 ghost use Rattle.bench_finish.specs.Fronts.{FrontsSaid};
 
 use bench_calls::finish_body;
@@ -45,8 +45,8 @@ fn finish_fronts(
 ) -> usize
     ensures { FrontsSaid rows.now positions.now normals.old indices.old n m sag reference
         materials.now default
-        (stitchIn out_rows.old out_positions.old out_normals.old out_indices.old)
-        (meshIn mesh_positions.old mesh_normals.old mesh_indices.old parts.old ranges.old
+        (stitch_in out_rows.old out_positions.old out_normals.old out_indices.old)
+        (mesh_in mesh_positions.old mesh_normals.old mesh_indices.old parts.old ranges.old
         failures.old) work.old out.old out.new result }
 {
     if normals.len() < n {
@@ -116,13 +116,13 @@ fn answer_body(
 ) -> usize
     requires body_room { BodyRoom s.limits (length body_positions.old) (length body_normals.old) (length body_indices.old) }
     requires limited { Limited s (length table.now) (length positions.now) (length normals.now) (length indices.now) (length materials.now) }
-    ensures { Told (bytesIn
-        (meshIn mesh_positions.old mesh_normals.old mesh_indices.old parts.old ranges.old
+    ensures { Told (bytes_in
+        (mesh_in mesh_positions.old mesh_normals.old mesh_indices.old parts.old ranges.old
         failures.old)) out.old
-        (bodyText (stitchIn out_rows.old out_positions.old out_normals.old out_indices.old)
-        (meshIn mesh_positions.old mesh_normals.old mesh_indices.old parts.old ranges.old
+        (body_text (stitch_in out_rows.old out_positions.old out_normals.old out_indices.old)
+        (mesh_in mesh_positions.old mesh_normals.old mesh_indices.old parts.old ranges.old
         failures.old) work.old
-        (meant (patternsOf (lent s table.now positions.now normals.now indices.now materials.now))))
+        (meant (patterns_of (lent s table.now positions.now normals.now indices.now materials.now))))
         out.new result }
 {
     let n = 3 * s.vertices;
@@ -182,12 +182,12 @@ pub fn answer_sheet(
     work: &mut [u64],
     out: &mut [u8],
 ) -> usize
-    ensures { Told (bytesIn
-        (meshIn mesh_positions.old mesh_normals.old mesh_indices.old parts.old ranges.old
+    ensures { Told (bytes_in
+        (mesh_in mesh_positions.old mesh_normals.old mesh_indices.old parts.old ranges.old
         failures.old)) out.old
-        (answerWith (length body_positions.old) (length body_normals.old) (length body_indices.old)
-        (stitchIn out_rows.old out_positions.old out_normals.old out_indices.old)
-        (meshIn mesh_positions.old mesh_normals.old mesh_indices.old parts.old ranges.old
+        (answer_with (length body_positions.old) (length body_normals.old) (length body_indices.old)
+        (stitch_in out_rows.old out_positions.old out_normals.old out_indices.old)
+        (mesh_in mesh_positions.old mesh_normals.old mesh_indices.old parts.old ranges.old
         failures.old) work.old
         (lent s table.now positions.now normals.now indices.now materials.now)) out.new result }
 {

@@ -1,6 +1,6 @@
 // A text on standard input fed to the reader, to its end.
 
-ghost use Rattle.bench_feed.specs.Feeding.{Fed-on, Fed-some, failedRead};
+ghost use Rattle.bench_feed.specs.Feeding.{FedOn, FedSome, failed_read};
 
 use bench_feed::{Fed, feed};
 use libc::STDIN_FILENO;
@@ -22,7 +22,7 @@ fn fail_read(
     indices: &mut [u32],
     materials: &mut [u64],
 ) -> Fed
-    ensures { Fed-on failedRead f line.old table.old positions.old normals.old indices.old
+    ensures { FedOn failed_read f line.old table.old positions.old normals.old indices.old
         materials.old result line.new table.new positions.new normals.new indices.new
         materials.new }
 {
@@ -41,7 +41,7 @@ fn read_some(
     indices: &mut [u32],
     materials: &mut [u64],
 ) -> Step
-    ensures { Fed-some f line.old table.old positions.old normals.old indices.old
+    ensures { FedSome f line.old table.old positions.old normals.old indices.old
         materials.old result.fed line.new table.new positions.new normals.new indices.new
         materials.new }
 {
@@ -84,7 +84,7 @@ pub fn read_all(
     indices: &mut [u32],
     materials: &mut [u64],
 ) -> Fed
-    ensures { Fed-some f line.old table.old positions.old normals.old indices.old
+    ensures { FedSome f line.old table.old positions.old normals.old indices.old
         materials.old result line.new table.new positions.new normals.new indices.new
         materials.new }
 {

@@ -2,8 +2,8 @@
 
 ghost use Rattle.std.specs.Prelude.{◌≡◌, ◌≤◌, length};
 ghost use Rattle.sheet_reader_state.specs.Slices.{lent};
-ghost use Rattle.bench_call_texts.specs.Texts.{meshIn, stitchIn};
-ghost use Rattle.bench_agreement.specs.Smaller.{readerIn};
+ghost use Rattle.bench_call_texts.specs.Texts.{mesh_in, stitch_in};
+ghost use Rattle.bench_agreement.specs.Smaller.{reader_in};
 ghost use Rattle.bench_run.specs.Run.{InputRead, Ran};
 
 use bench_feed::{Fed, end_text};
@@ -18,7 +18,7 @@ pub const REFUSAL_BYTES: usize = 13;
 
 // The reader with other limits.
 pub fn with_limits(s: Reader, limits: Limits) -> Reader
-    ensures { result ≡ readerIn limits s }
+    ensures { result ≡ reader_in limits s }
 {
     let mut t = s;
     t.limits = limits;
@@ -81,8 +81,8 @@ pub fn finish_input(
 ) -> usize
     ensures ran { Ran limits line.old table.old positions.old normals.old indices.old
         materials.old (length body_positions.old) (length body_normals.old) (length body_indices.old)
-        (stitchIn out_rows.old out_positions.old out_normals.old out_indices.old)
-        (meshIn mesh_positions.old mesh_normals.old mesh_indices.old parts.old ranges.old
+        (stitch_in out_rows.old out_positions.old out_normals.old out_indices.old)
+        (mesh_in mesh_positions.old mesh_normals.old mesh_indices.old parts.old ranges.old
         failures.old) work.old out.old out.new result }
     ensures upper_bound { result ≤ length out.new }
 {

@@ -1,7 +1,7 @@
 // The second call, in lent slices, then the last, and what is printed of them.
 
 ghost use Rattle.bench_call_texts.specs.Told.{Told};
-ghost use Rattle.bench_call_texts.specs.Texts.{StitchSaid, bytesIn, meshIn, stitchIn, stitchedText};
+ghost use Rattle.bench_call_texts.specs.Texts.{StitchSaid, bytes_in, mesh_in, stitch_in, stitched_text};
 
 use bench_assemble::assemble_next;
 use patch_geometry::Aabb;
@@ -34,7 +34,7 @@ fn print_stitched(
 ) -> usize
     ensures { StitchSaid rows.now reference materials.now default t given out_rows.now out_positions.now
         out_normals.now out_indices.now work.old
-        (meshIn mesh_positions.old mesh_normals.old mesh_indices.old parts.old ranges.old
+        (mesh_in mesh_positions.old mesh_normals.old mesh_indices.old parts.old ranges.old
         failures.old) out.old out.new result }
 {
     match given {
@@ -85,12 +85,12 @@ pub fn stitch_next(
     work: &mut [u64],
     out: &mut [u8],
 ) -> usize
-    ensures { Told (bytesIn
-        (meshIn mesh_positions.old mesh_normals.old mesh_indices.old parts.old ranges.old
+    ensures { Told (bytes_in
+        (mesh_in mesh_positions.old mesh_normals.old mesh_indices.old parts.old ranges.old
         failures.old)) out.old
-        (stitchedText rows.now positions.now normals.now indices.now sag reference materials.now
-        default t (stitchIn out_rows.old out_positions.old out_normals.old out_indices.old)
-        (meshIn mesh_positions.old mesh_normals.old mesh_indices.old parts.old ranges.old
+        (stitched_text rows.now positions.now normals.now indices.now sag reference materials.now
+        default t (stitch_in out_rows.old out_positions.old out_normals.old out_indices.old)
+        (mesh_in mesh_positions.old mesh_normals.old mesh_indices.old parts.old ranges.old
         failures.old) work.old) out.new result }
 {
     let given = stitch(

@@ -2,10 +2,10 @@
 // Most bodies are finished in small arrays, since an array is cleared before it is used; those that need more are finished once more in large ones.
 
 ghost use Rattle.std.specs.Prelude.{◌≡◌, ◌≤◌, length};
-ghost use Rattle.sheet_line_order.specs.Limits.{yardLimits};
+ghost use Rattle.sheet_line_order.specs.Limits.{yard_limits};
 ghost use Rattle.sheet_reader_state.specs.Slices.{lent};
 ghost use Rattle.bench_run.specs.Run.{FinishedIn, FinishedShort};
-ghost use Rattle.bench_run.specs.Smaller.{binLimits};
+ghost use Rattle.bench_run.specs.Smaller.{bin_limits};
 
 use bench_finish::answer_sheet;
 use bench_run::{REFUSAL_BYTES, read_input, with_limits};
@@ -15,7 +15,7 @@ use sheet_reader_state::Reader;
 
 // What the program takes.
 fn limits() -> Limits
-    ensures { result ≡ yardLimits }
+    ensures { result ≡ yard_limits }
 {
     Limits {
         rows: 256,
@@ -32,7 +32,7 @@ const BIN_INDICES: usize = 2304;
 
 // What most bodies of a yard are within.
 fn bin_limits() -> Limits
-    ensures { result ≡ binLimits }
+    ensures { result ≡ bin_limits }
 {
     Limits {
         rows: 64,
@@ -54,7 +54,7 @@ fn finish_bin(
     materials: &[u64],
     out: &mut [u8],
 ) -> usize
-    ensures finished_short { FinishedShort yardLimits (lent s table.now positions.now normals.now indices.now
+    ensures finished_short { FinishedShort yard_limits (lent s table.now positions.now normals.now indices.now
         materials.now) out.old out.new result }
     ensures upper_bound { result ≤ length out.new }
 {
@@ -93,7 +93,7 @@ fn finish_large(
     materials: &[u64],
     out: &mut [u8],
 ) -> usize
-    ensures finished_in { FinishedIn yardLimits (lent s table.now positions.now normals.now indices.now
+    ensures finished_in { FinishedIn yard_limits (lent s table.now positions.now normals.now indices.now
         materials.now) out.old out.new result }
     ensures upper_bound { result ≤ length out.new }
 {

@@ -4,32 +4,32 @@ use Rattle.std.specs.Prelude.{◌≡◌, false, List, map, ℕ, Float}
 use Rattle.std.proofs.Common.{sym, ◌∙◌}
 use Rattle.lists.specs.Lists.{any}
 use Rattle.point_rules.specs.Points.{cell, nearest, clamps}
-use Rattle.point_rules.specs.Unclamped.{ofVertex, cell-nearest, nearest-cell}
-use Rattle.body_rows.specs.Body.{rows_of, firstFailing}
-use Rattle.body_rows.specs.Patches.{any-position}
-use Rattle.body_refusals.specs.BodyChecks.{beforeWork, bodyChecks, loneTable, loneChecks}
-use Rattle.body_checks.specs.Accepted.{clean-before, before-passed}
+use Rattle.point_rules.specs.Unclamped.{of_vertex, cell_nearest, nearest_cell}
+use Rattle.body_rows.specs.Body.{rows_of, first_failing}
+use Rattle.body_rows.specs.Patches.{any_position}
+use Rattle.body_refusals.specs.BodyChecks.{before_work, body_checks, lone_table, lone_checks}
+use Rattle.body_checks.specs.Accepted.{clean_before, before_passed}
 
 module _ (table : List ℕ) (ps ns : List Float) (is : List ℕ) where
   -- no cell is clamped where the checks to 24 have passed, as for a peg's lookup
-  pub no-clamped : firstFailing (beforeWork table ps ns is) ≡ 0 → any clamps ps ≡ false
-  no-clamped h = let c = clean-before table ps ns is h in sym (any-position clamps (rows_of table) ps ns is c.tabled.all-positions) ∙ c.patched.unclamped
+  pub no_clamped : first_failing (before_work table ps ns is) ≡ 0 → any clamps ps ≡ false
+  no_clamped h = let c = clean_before table ps ns is h in sym (any_position clamps (rows_of table) ps ns is c.tabled.all_positions) ∙ c.patched.unclamped
 
   -- nor where those that turning, stitching and assembling begin with have
-  pub accepted-unclamped : (words : ℕ) → firstFailing (bodyChecks table ps ns is words) ≡ 0 → any clamps ps ≡ false
-  accepted-unclamped words h = no-clamped (before-passed table ps ns is words h)
+  pub accepted_unclamped : (words : ℕ) → first_failing (body_checks table ps ns is words) ≡ 0 → any clamps ps ≡ false
+  accepted_unclamped words h = no_clamped (before_passed table ps ns is words h)
 
   -- Two points of one cell have the same nearest whole numbers,
-  pub one-cell-nearest : firstFailing (beforeWork table ps ns is) ≡ 0 → (i j : ℕ) → ofVertex (map cell ps) i ≡ ofVertex (map cell ps) j
-      → ofVertex (map (nearest 1_000_000) ps) i ≡ ofVertex (map (nearest 1_000_000) ps) j
-  one-cell-nearest h = cell-nearest ps (no-clamped h)
+  pub one_cell_nearest : first_failing (before_work table ps ns is) ≡ 0 → (i j : ℕ) → of_vertex (map cell ps) i ≡ of_vertex (map cell ps) j
+      → of_vertex (map (nearest 1_000_000) ps) i ≡ of_vertex (map (nearest 1_000_000) ps) j
+  one_cell_nearest h = cell_nearest ps (no_clamped h)
 
   -- and two of the same nearest whole numbers one cell.
-  pub nearest-one-cell : firstFailing (beforeWork table ps ns is) ≡ 0 → (i j : ℕ) → ofVertex (map (nearest 1_000_000) ps) i ≡ ofVertex (map (nearest 1_000_000) ps) j
-      → ofVertex (map cell ps) i ≡ ofVertex (map cell ps) j
-  nearest-one-cell h = nearest-cell ps (no-clamped h)
+  pub nearest_one_cell : first_failing (before_work table ps ns is) ≡ 0 → (i j : ℕ) → of_vertex (map (nearest 1_000_000) ps) i ≡ of_vertex (map (nearest 1_000_000) ps) j
+      → of_vertex (map cell ps) i ≡ of_vertex (map cell ps) j
+  nearest_one_cell h = nearest_cell ps (no_clamped h)
 
 -- nor in a patch alone that was accepted
-pub lone-unclamped : (ps ns : List Float) (is : List ℕ) → firstFailing (loneChecks ps ns is) ≡ 0 → any clamps ps ≡ false
-unfolding loneChecks
-lone-unclamped ps ns is h = no-clamped (loneTable ps is) ps ns is h
+pub lone_unclamped : (ps ns : List Float) (is : List ℕ) → first_failing (lone_checks ps ns is) ≡ 0 → any clamps ps ≡ false
+unfolding lone_checks
+lone_unclamped ps ns is h = no_clamped (lone_table ps is) ps ns is h

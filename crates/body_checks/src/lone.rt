@@ -2,18 +2,18 @@
 
 ghost use Rattle.std.specs.Prelude.{◌≡◌};
 ghost use Rattle.body_table_checks.specs.Tabled.{Tabled};
-ghost use Rattle.body_rows.specs.Body.{firstFailing, patches_of, rows_of};
-ghost use Rattle.body_refusals.specs.BodyChecks.{loneChecks, loneTable};
-ghost use Rattle.body_refusals.specs.PatchChecks.{patchChecks};
-ghost use Rattle.body_refusals.specs.TableChecks.{tableChecks};
+ghost use Rattle.body_rows.specs.Body.{first_failing, patches_of, rows_of};
+ghost use Rattle.body_refusals.specs.BodyChecks.{lone_checks, lone_table};
+ghost use Rattle.body_refusals.specs.PatchChecks.{patch_checks};
+ghost use Rattle.body_refusals.specs.TableChecks.{table_checks};
 
 use body_patch_checks::{any_at_least, any_clamps, any_number_not_finite};
 use body_table_checks::too_many;
 
 // The number of the first of the checks 11 to 15 that fails, or 0: the table is one row of a patch, of bin 0.
 fn lone_table_failing(positions: &[f32], normals: &[f32], indices: &[u32]) -> u32
-    ensures { result ≡ firstFailing (tableChecks (loneTable positions.now indices.now)
-        (rows_of (loneTable positions.now indices.now))
+    ensures { result ≡ first_failing (table_checks (lone_table positions.now indices.now)
+        (rows_of (lone_table positions.now indices.now))
         positions.now normals.now indices.now) }
 {
     let v = positions.len() / 3;
@@ -31,8 +31,8 @@ fn lone_table_failing(positions: &[f32], normals: &[f32], indices: &[u32]) -> u3
 
 // The number of the first of the checks 21 to 24 that fails, or 0.
 fn lone_patch_failing(positions: &[f32], normals: &[f32], indices: &[u32]) -> u32
-    requires { Tabled (loneTable positions.now indices.now) positions.now normals.now indices.now }
-    ensures { result ≡ firstFailing (patchChecks (patches_of (rows_of (loneTable positions.now indices.now)) positions.now
+    requires { Tabled (lone_table positions.now indices.now) positions.now normals.now indices.now }
+    ensures { result ≡ first_failing (patch_checks (patches_of (rows_of (lone_table positions.now indices.now)) positions.now
         normals.now indices.now)) }
 {
     if indices.len() % 3 != 0 {
@@ -53,7 +53,7 @@ fn lone_patch_failing(positions: &[f32], normals: &[f32], indices: &[u32]) -> u3
 
 // The number of the first of the checks 11 to 24 that fails for a patch alone, or 0.
 pub fn lone_failing(positions: &[f32], normals: &[f32], indices: &[u32]) -> u32
-    ensures { result ≡ firstFailing (loneChecks positions.now normals.now indices.now) }
+    ensures { result ≡ first_failing (lone_checks positions.now normals.now indices.now) }
 {
     let t = lone_table_failing(positions, normals, indices);
     if t != 0 {

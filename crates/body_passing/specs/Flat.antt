@@ -4,9 +4,9 @@ use Rattle.std.proofs.Common.{ap, ◌∙◌, arith, length-append, length-drop, 
 use mathlib.Core.List.{List, [], ◌∷◌, map, flat_map}
 use Rattle.lists.specs.Lists.{sum_of}
 use Rattle.lists.specs.Each.{Each}
-use Rattle.body_rows.specs.Body.{Row, Patch, rows_of, table_of, patches_of, allVertices, allIndices}
-use Rattle.body_rows.specs.Patches.{left-length}
-use Rattle.body_row_structs.specs.FaceRows.{table-rows}
+use Rattle.body_rows.specs.Body.{Row, Patch, rows_of, table_of, patches_of, all_vertices, all_indices}
+use Rattle.body_rows.specs.Patches.{left_length}
+use Rattle.body_row_structs.specs.FaceRows.{table_rows}
 
 -- ---- the patches of a body
 
@@ -17,48 +17,48 @@ pub record Whole (p : Patch) : Type 0 where
   pub normals : length p.normals ≡ 3 * p.row.vertices
 
 -- patches of slices that are as long as the rows say
-pub patches-whole : (rows : List Row) (ps ns : List Float) (is : List ℕ) → length ps ≡ 3 * allVertices rows → length ns ≡ 3 * allVertices rows → length is ≡ allIndices rows
+pub patches_whole : (rows : List Row) (ps ns : List Float) (is : List ℕ) → length ps ≡ 3 * all_vertices rows → length ns ≡ 3 * all_vertices rows → length is ≡ all_indices rows
     → Each Whole (patches_of rows ps ns is)
-unfolding patches_of allVertices allIndices sum_of
-patches-whole [] ps ns is a b c = tt
-patches-whole (r ∷ rs) ps ns is a b c = (
+unfolding patches_of all_vertices all_indices sum_of
+patches_whole [] ps ns is a b c = tt
+patches_whole (r ∷ rs) ps ns is a b c = (
   record {
     indices = length-take-le r.indices is (omega arith);
     positions = length-take-le (3 * r.vertices) ps (omega arith);
     normals = length-take-le (3 * r.vertices) ns (omega arith);
   },
-  patches-whole rs (drop (3 * r.vertices) ps) (drop (3 * r.vertices) ns) (drop r.indices is) (left-length r.vertices _ ps a) (left-length r.vertices _ ns b)
+  patches_whole rs (drop (3 * r.vertices) ps) (drop (3 * r.vertices) ns) (drop r.indices is) (left_length r.vertices _ ps a) (left_length r.vertices _ ns b)
       (omega (arith, length-drop r.indices is)),
 )
 
 -- ---- a body laid flat
 
 -- the rows of some patches
-abbrev pub rowsIn : List Patch → List Row
-rowsIn patches = map (λ p. p.row) patches
+abbrev pub rows_in : List Patch → List Row
+rows_in patches = map (λ p. p.row) patches
 
 -- their positions
-abbrev pub positionsIn : List Patch → List Float
-positionsIn patches = flat_map (λ p. p.positions) patches
+abbrev pub positions_in : List Patch → List Float
+positions_in patches = flat_map (λ p. p.positions) patches
 
 -- their normals
-abbrev pub normalsIn : List Patch → List Float
-normalsIn patches = flat_map (λ p. p.normals) patches
+abbrev pub normals_in : List Patch → List Float
+normals_in patches = flat_map (λ p. p.normals) patches
 
 -- their indices
-abbrev pub indicesIn : List Patch → List ℕ
-indicesIn patches = flat_map (λ p. p.indices) patches
+abbrev pub indices_in : List Patch → List ℕ
+indices_in patches = flat_map (λ p. p.indices) patches
 
 -- Patches as their rows say, laid flat, are read again.
-pub patches-again : (patches : List Patch) → Each Whole patches → patches_of (rowsIn patches) (positionsIn patches) (normalsIn patches) (indicesIn patches) ≡ patches
+pub patches_again : (patches : List Patch) → Each Whole patches → patches_of (rows_in patches) (positions_in patches) (normals_in patches) (indices_in patches) ≡ patches
 unfolding patches_of flat_map
-patches-again [] w = refl
-patches-again (p ∷ ps) w =
+patches_again [] w = refl
+patches_again (p ∷ ps) w =
     let v = 3 * p.row.vertices in
     let n = p.row.indices in
-    let P = positionsIn ps in
-    let N = normalsIn ps in
-    let I = indicesIn ps in
+    let P = positions_in ps in
+    let N = normals_in ps in
+    let I = indices_in ps in
     (λ t.
     record {
       row = p.row;
@@ -66,28 +66,28 @@ patches-again (p ∷ ps) w =
       normals = take_at p.normals N v w.0.normals t;
       indices = take_at p.indices I n w.0.indices t;
     }
-    ∷ patches_of (rowsIn ps) (drop_at p.positions P v w.0.positions t) (drop_at p.normals N v w.0.normals t) (drop_at p.indices I n w.0.indices t))
-    ∙ ap (λ (l : List Patch). p ∷ l) (patches-again ps w.1)
+    ∷ patches_of (rows_in ps) (drop_at p.positions P v w.0.positions t) (drop_at p.normals N v w.0.normals t) (drop_at p.indices I n w.0.indices t))
+    ∙ ap (λ (l : List Patch). p ∷ l) (patches_again ps w.1)
 
 -- So are they where the rows are read from their table.
-pub body-again : (patches : List Patch) → Each Whole patches → patches_of (rows_of (table_of (rowsIn patches))) (positionsIn patches) (normalsIn patches) (indicesIn patches) ≡ patches
-body-again patches w =
-    ap (λ (rows : List Row). patches_of rows (positionsIn patches) (normalsIn patches) (indicesIn patches)) (table-rows (rowsIn patches)) ∙ patches-again patches w
+pub body_again : (patches : List Patch) → Each Whole patches → patches_of (rows_of (table_of (rows_in patches))) (positions_in patches) (normals_in patches) (indices_in patches) ≡ patches
+body_again patches w =
+    ap (λ (rows : List Row). patches_of rows (positions_in patches) (normals_in patches) (indices_in patches)) (table_rows (rows_in patches)) ∙ patches_again patches w
 
 -- how long they are laid flat
-pub flat-positions : (patches : List Patch) → Each Whole patches → length (positionsIn patches) ≡ 3 * allVertices (rowsIn patches)
-unfolding flat_map allVertices sum_of
-flat-positions [] w = refl
-flat-positions (p ∷ ps) w = omega (arith, length-append p.positions (positionsIn ps), w.0.positions, flat-positions ps w.1)
+pub flat_positions : (patches : List Patch) → Each Whole patches → length (positions_in patches) ≡ 3 * all_vertices (rows_in patches)
+unfolding flat_map all_vertices sum_of
+flat_positions [] w = refl
+flat_positions (p ∷ ps) w = omega (arith, length-append p.positions (positions_in ps), w.0.positions, flat_positions ps w.1)
 
 -- so are normals
-pub flat-normals : (patches : List Patch) → Each Whole patches → length (normalsIn patches) ≡ 3 * allVertices (rowsIn patches)
-unfolding flat_map allVertices sum_of
-flat-normals [] w = refl
-flat-normals (p ∷ ps) w = omega (arith, length-append p.normals (normalsIn ps), w.0.normals, flat-normals ps w.1)
+pub flat_normals : (patches : List Patch) → Each Whole patches → length (normals_in patches) ≡ 3 * all_vertices (rows_in patches)
+unfolding flat_map all_vertices sum_of
+flat_normals [] w = refl
+flat_normals (p ∷ ps) w = omega (arith, length-append p.normals (normals_in ps), w.0.normals, flat_normals ps w.1)
 
 -- and indices
-pub flat-indices : (patches : List Patch) → Each Whole patches → length (indicesIn patches) ≡ allIndices (rowsIn patches)
-unfolding flat_map allIndices sum_of
-flat-indices [] w = refl
-flat-indices (p ∷ ps) w = omega (arith, length-append p.indices (indicesIn ps), w.0.indices, flat-indices ps w.1)
+pub flat_indices : (patches : List Patch) → Each Whole patches → length (indices_in patches) ≡ all_indices (rows_in patches)
+unfolding flat_map all_indices sum_of
+flat_indices [] w = refl
+flat_indices (p ∷ ps) w = omega (arith, length-append p.indices (indices_in ps), w.0.indices, flat_indices ps w.1)

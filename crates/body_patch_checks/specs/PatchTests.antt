@@ -4,22 +4,22 @@ use Rattle.std.specs.Prelude.{◌≡◌, refl, Bool, true, false, not, List, [],
 use Rattle.std.proofs.Common.{sym, ap, ◌∙◌}
 use Rattle.lists.specs.Lists.{any}
 use Rattle.body_rows.specs.Body.{Row, patches_of}
-use Rattle.body_refusals.specs.PatchChecks.{badIndices}
+use Rattle.body_refusals.specs.PatchChecks.{bad_indices}
 
 -- 21: an index count isn't a multiple of 3
-abbrev pub partTriangle : Row → Bool
-partTriangle r = not (eqb (r.indices % 3) 0)
+abbrev pub part_triangle : Row → Bool
+part_triangle r = not (eqb (r.indices % 3) 0)
 
 -- 23: a number isn't finite
-abbrev pub notFinite : Float → Bool
-notFinite x = not (finite x)
+abbrev pub not_finite : Float → Bool
+not_finite x = not (finite x)
 
 -- Check 22 looks at no position and no normal.
-pub any-indices : (rows : List Row) (ps ns : List Float) (is : List ℕ) → any badIndices (patches_of rows ps ns is) ≡ any badIndices (patches_of rows [] [] is)
-unfolding patches_of any badIndices
-any-indices [] ps ns is = refl
-any-indices (r ∷ rs) ps ns is =
+pub any_indices : (rows : List Row) (ps ns : List Float) (is : List ℕ) → any bad_indices (patches_of rows ps ns is) ≡ any bad_indices (patches_of rows [] [] is)
+unfolding patches_of any bad_indices
+any_indices [] ps ns is = refl
+any_indices (r ∷ rs) ps ns is =
     let v = 3 * r.vertices in
     let rest = drop r.indices is in
     ap (λ (b : Bool). elim (any (λ i. leb r.vertices i) (take r.indices is)) [ true ↦ true | false ↦ b ])
-    (any-indices rs (drop v ps) (drop v ns) rest ∙ sym (any-indices rs (drop v []) (drop v []) rest))
+    (any_indices rs (drop v ps) (drop v ns) rest ∙ sym (any_indices rs (drop v []) (drop v []) rest))

@@ -4,17 +4,17 @@ ghost use Rattle.std.specs.Prelude.{◌≡◌, ◌||◌, [], ◌<◌, take, drop
 ghost use Rattle.lists.specs.Lists.{any};
 ghost use Rattle.point_rules.specs.Points.{clamps};
 ghost use Rattle.body_table_checks.specs.Tabled.{Tabled};
-ghost use Rattle.body_refusals.specs.PatchChecks.{badIndices, patchChecks};
-ghost use Rattle.body_rows.specs.Body.{firstFailing, patches_of, rows_of};
-ghost use Rattle.body_patch_checks.specs.PatchTests.{notFinite, partTriangle};
+ghost use Rattle.body_refusals.specs.PatchChecks.{bad_indices, patch_checks};
+ghost use Rattle.body_rows.specs.Body.{first_failing, patches_of, rows_of};
+ghost use Rattle.body_patch_checks.specs.PatchTests.{not_finite, part_triangle};
 ghost use Rattle.body_rows.specs.Patches.{IndicesFit, IndicesOfRow};
-ghost use Rattle.body_rows.specs.Rows.{rowAt};
+ghost use Rattle.body_rows.specs.Rows.{row_at};
 
 use body_rows::{indices, row_count, vertices};
 
 // 21: whether a row's index count isn't a multiple of 3.
 fn any_part_triangle(table: &[u32]) -> bool
-    ensures { result ≡ any partTriangle (rows_of table.now) }
+    ensures { result ≡ any part_triangle (rows_of table.now) }
 {
     let n = row_count(table);
     let mut k = 0usize;
@@ -44,8 +44,8 @@ pub fn any_at_least(s: &[u32], n: u32) -> bool
 // 22: whether an index of row k, whose indices start at base, isn't below the row's vertex count.
 fn bad_indices(table: &[u32], all: &[u32], k: usize, base: usize) -> bool
     requires { IndicesOfRow table.now all.now k base }
-    ensures { result ≡ any (λ i. leb (rowAt table.now k).vertices i)
-        (take (rowAt table.now k).indices (drop base all.now)) }
+    ensures { result ≡ any (λ i. leb (row_at table.now k).vertices i)
+        (take (row_at table.now k).indices (drop base all.now)) }
 {
     let n = indices(table, k) as usize;
     any_at_least(&all[base..base + n], vertices(table, k))
@@ -54,7 +54,7 @@ fn bad_indices(table: &[u32], all: &[u32], k: usize, base: usize) -> bool
 // 22: whether an index isn't below its row's vertex count.
 fn any_bad_index(table: &[u32], all: &[u32]) -> bool
     requires { IndicesFit table.now all.now }
-    ensures { result ≡ any badIndices (patches_of (rows_of table.now) [] [] all.now) }
+    ensures { result ≡ any bad_indices (patches_of (rows_of table.now) [] [] all.now) }
 {
     let n = row_count(table);
     let mut base = 0usize;
@@ -71,7 +71,7 @@ fn any_bad_index(table: &[u32], all: &[u32]) -> bool
 
 // 23: whether a number of s isn't finite. All are looked at, without a jump, so that the processor takes several at a time.
 fn any_not_finite(s: &[f32]) -> bool
-    ensures { result ≡ any notFinite s.now }
+    ensures { result ≡ any not_finite s.now }
 {
     let mut found = false;
     let mut k = 0usize;
@@ -84,7 +84,7 @@ fn any_not_finite(s: &[f32]) -> bool
 
 // 23: whether a position or a normal isn't finite.
 pub fn any_number_not_finite(positions: &[f32], normals: &[f32]) -> bool
-    ensures { result ≡ (any notFinite positions.now || any notFinite normals.now) }
+    ensures { result ≡ (any not_finite positions.now || any not_finite normals.now) }
 {
     if any_not_finite(positions) {
         return true;
@@ -108,7 +108,7 @@ pub fn any_clamps(positions: &[f32]) -> bool
 // The number of the first of the checks 21 to 24 that fails, or 0.
 pub fn patch_failing(table: &[u32], positions: &[f32], normals: &[f32], indices: &[u32]) -> u32
     requires { Tabled table.now positions.now normals.now indices.now }
-    ensures { result ≡ firstFailing (patchChecks (patches_of (rows_of table.now) positions.now normals.now
+    ensures { result ≡ first_failing (patch_checks (patches_of (rows_of table.now) positions.now normals.now
         indices.now)) }
 {
     if any_part_triangle(table) {

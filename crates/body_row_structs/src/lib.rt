@@ -1,7 +1,7 @@
 // The face table lent as a slice of rows: how many there are, and one of them.
 
 ghost use Rattle.std.specs.Prelude.{◌≡◌, length};
-ghost use Rattle.body_row_structs.specs.FaceRows.{faceAt, rowAt};
+ghost use Rattle.body_row_structs.specs.FaceRows.{face_at, row_at};
 
 use mesh_materials::FaceId;
 
@@ -26,7 +26,7 @@ pub fn row_count(rows: &[Row]) -> usize
 
 // Row k, or a row of zeros past the end.
 pub fn row_at(rows: &[Row], k: usize) -> Row
-    ensures { result ≡ rowAt rows.now k }
+    ensures { result ≡ row_at rows.now k }
 {
     if k < rows.len() {
         return rows[k];
@@ -43,7 +43,7 @@ pub fn row_at(rows: &[Row], k: usize) -> Row
 
 // The face of row k, or face 0 past the end.
 pub fn face_at(rows: &[Row], k: usize) -> FaceId
-    ensures { result ≡ faceAt rows.now k }
+    ensures { result ≡ face_at rows.now k }
 {
     FaceId(row_at(rows, k).face)
 }

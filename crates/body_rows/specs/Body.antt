@@ -3,16 +3,16 @@ use Rattle.std.specs.Prelude.{Bool, cond, List, [], ◌∷◌, ◌++◌, ℕ, �
 use Rattle.lists.specs.Lists.{sum_of}
 
 -- how many numbers of the flat table make a row
-abbrev pub rowWidth : ℕ
-rowWidth = 6
+abbrev pub row_width : ℕ
+row_width = 6
 
 -- how far before a row's end its vertex count stands
-abbrev pub verticesBack : ℕ
-verticesBack = 3
+abbrev pub vertices_back : ℕ
+vertices_back = 3
 
 -- how far before a row's end its index count stands
-abbrev pub indicesBack : ℕ
-indicesBack = 2
+abbrev pub indices_back : ℕ
+indices_back = 2
 
 -- A row has a shell number, a face number, an outcome (0 for a patch, 1 to 255 for an upstream failure), a vertex count, an index count and a bin number.
 pub record Row : Type 0 where
@@ -39,12 +39,12 @@ table_of [] = []
 table_of (r ∷ rs) = r.shell ∷ r.face ∷ r.outcome ∷ r.vertices ∷ r.indices ∷ r.bin ∷ table_of rs
 
 -- V: the vertices of all rows
-unfoldable pub allVertices : List Row → ℕ
-allVertices rows = sum_of (λ r. r.vertices) rows
+unfoldable pub all_vertices : List Row → ℕ
+all_vertices rows = sum_of (λ r. r.vertices) rows
 
 -- I: the indices of all rows
-unfoldable pub allIndices : List Row → ℕ
-allIndices rows = sum_of (λ r. r.indices) rows
+unfoldable pub all_indices : List Row → ℕ
+all_indices rows = sum_of (λ r. r.indices) rows
 
 -- a row with its patch: three coordinates a vertex, and indices that count from 0 within the patch
 pub record Patch : Type 0 where
@@ -67,11 +67,11 @@ pub record Triangle : Type 0 where
   pub c : ℕ
 
 -- the triangles of a patch: every three indices in turn
-unfoldable pub trianglesOf : List ℕ → List Triangle
-trianglesOf [] = []
-trianglesOf (a ∷ []) = []
-trianglesOf (a ∷ b ∷ []) = []
-trianglesOf (a ∷ b ∷ c ∷ is) = record { a = a; b = b; c = c } ∷ trianglesOf is
+unfoldable pub triangles_of : List ℕ → List Triangle
+triangles_of [] = []
+triangles_of (a ∷ []) = []
+triangles_of (a ∷ b ∷ []) = []
+triangles_of (a ∷ b ∷ c ∷ is) = record { a = a; b = b; c = c } ∷ triangles_of is
 
 -- a refusal's number, and whether its condition holds
 pub record Check : Type 0 where
@@ -83,14 +83,14 @@ abbrev pub check : ℕ → Bool → Check
 check n b = record { number = n; fails = b }
 
 -- Checks go in table order, each over the whole body before the next: the number of the first check that fails, else 0.
-unfoldable pub firstFailing : List Check → ℕ
-firstFailing [] = 0
-firstFailing (c ∷ cs) = let n = firstFailing cs in cond c.fails c.number n
+unfoldable pub first_failing : List Check → ℕ
+first_failing [] = 0
+first_failing (c ∷ cs) = let n = first_failing cs in cond c.fails c.number n
 
 -- 31 counts 16 × I + 16 × F + 4 × V 64-bit words.
-unfoldable pub workNeeded : List Row → ℕ
-workNeeded rows = 16 * allIndices rows + 16 * length rows + 4 * allVertices rows
+unfoldable pub work_needed : List Row → ℕ
+work_needed rows = 16 * all_indices rows + 16 * length rows + 4 * all_vertices rows
 
 -- From the check after 31 on, refused or not, the first words counted in 31 come back zero; those beyond are unchanged.
 unfoldable pub cleared : List Row → List ℕ → List ℕ
-cleared rows work = replicate (workNeeded rows) 0 ++ drop (workNeeded rows) work
+cleared rows work = replicate (work_needed rows) 0 ++ drop (work_needed rows) work

@@ -10,6 +10,6 @@ pub claims : List Case
 claims = case 31 (cleared (rows_of (0 ∷ 0 ∷ 9 ∷ 0 ∷ 0 ∷ 7 ∷ [])) (replicate 17 7)) (replicate 16 0 ++ 7 ∷ []) ∷ []
 
 -- The definitions yield it.
-pub claims-hold : T (all agrees claims)
+pub claims_hold : T (all agrees claims)
 unfolding evaluation claims
-claims-hold = tt
+claims_hold = tt

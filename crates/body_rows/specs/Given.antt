@@ -24,8 +24,8 @@ abbrev pub row_in : ℕ → ℕ → List (List ℤ) → List ℕ → Given
 row_in s f ps is = record { shell = s; face = f; points = ps; indices = is }
 
 -- a row of one triangle in a shell
-abbrev pub triangleIn : ℕ → ℕ → List ℤ → List ℤ → List ℤ → Given
-triangleIn s f p q r = row_in s f (p ∷ q ∷ r ∷ []) (0 ∷ 1 ∷ 2 ∷ [])
+abbrev pub triangle_in : ℕ → ℕ → List ℤ → List ℤ → List ℤ → Given
+triangle_in s f p q r = row_in s f (p ∷ q ∷ r ∷ []) (0 ∷ 1 ∷ 2 ∷ [])
 
 -- a row of shell 0
 abbrev pub row : ℕ → List (List ℤ) → List ℕ → Given
@@ -33,24 +33,24 @@ row f ps is = row_in 0 f ps is
 
 -- a row of one triangle in shell 0
 abbrev pub triangle : ℕ → List ℤ → List ℤ → List ℤ → Given
-triangle f p q r = triangleIn 0 f p q r
+triangle f p q r = triangle_in 0 f p q r
 
 -- how far a row's bin is above its face, so that neither is taken for the other
-abbrev pub binsAbove : ℕ
-binsAbove = 100
+abbrev pub bins_above : ℕ
+bins_above = 100
 
 -- the flat table
-unfoldable pub givenTable : List Given → List ℕ
-givenTable [] = []
-givenTable (g ∷ gs) = g.shell ∷ g.face ∷ 0 ∷ length g.points ∷ length g.indices ∷ (binsAbove + g.face) ∷ givenTable gs
+unfoldable pub given_table : List Given → List ℕ
+given_table [] = []
+given_table (g ∷ gs) = g.shell ∷ g.face ∷ 0 ∷ length g.points ∷ length g.indices ∷ (bins_above + g.face) ∷ given_table gs
 
 -- the flat positions
-unfoldable pub givenPositions : List Given → List Float
-givenPositions gs = flat_map (λ g. flat_map (λ p. map (of_int binary32) p) g.points) gs
+unfoldable pub given_positions : List Given → List Float
+given_positions gs = flat_map (λ g. flat_map (λ p. map (of_int binary32) p) g.points) gs
 
 -- the flat indices
-unfoldable pub givenIndices : List Given → List ℕ
-givenIndices gs = flat_map (λ g. g.indices) gs
+unfoldable pub given_indices : List Given → List ℕ
+given_indices gs = flat_map (λ g. g.indices) gs
 
 -- ---- the bodies of the bench cases
 

@@ -2,7 +2,7 @@
 
 ghost use Rattle.std.specs.Prelude.{◌≡◌, ◌<◌, length};
 ghost use Rattle.body_rows.specs.Body.{rows_of};
-ghost use Rattle.body_rows.specs.Rows.{InTable, column, rowAt};
+ghost use Rattle.body_rows.specs.Rows.{InTable, column, row_at};
 
 // How many numbers of the flat table make a row.
 pub const ROW_WIDTH: usize = 6;
@@ -22,7 +22,7 @@ pub fn row_count(rows: &[u32]) -> usize
 // Number j of row k.
 pub fn number(rows: &[u32], k: usize, j: usize) -> u32
     requires { InTable rows.now k j }
-    ensures { result ≡ column j (rowAt rows.now k) }
+    ensures { result ≡ column j (row_at rows.now k) }
 {
     rows[ROW_WIDTH * k + j]
 }
@@ -30,7 +30,7 @@ pub fn number(rows: &[u32], k: usize, j: usize) -> u32
 // The shell number of row k.
 pub fn shell(rows: &[u32], k: usize) -> u32
     requires { k < length (rows_of rows.now) }
-    ensures { result ≡ (rowAt rows.now k).shell }
+    ensures { result ≡ (row_at rows.now k).shell }
 {
     number(rows, k, 0)
 }
@@ -38,7 +38,7 @@ pub fn shell(rows: &[u32], k: usize) -> u32
 // The face number of row k.
 pub fn face(rows: &[u32], k: usize) -> u32
     requires { k < length (rows_of rows.now) }
-    ensures { result ≡ (rowAt rows.now k).face }
+    ensures { result ≡ (row_at rows.now k).face }
 {
     number(rows, k, 1)
 }
@@ -46,7 +46,7 @@ pub fn face(rows: &[u32], k: usize) -> u32
 // The outcome of row k: 0 for a patch, 1 to 255 for an upstream failure.
 pub fn outcome(rows: &[u32], k: usize) -> u32
     requires { k < length (rows_of rows.now) }
-    ensures { result ≡ (rowAt rows.now k).outcome }
+    ensures { result ≡ (row_at rows.now k).outcome }
 {
     number(rows, k, 2)
 }
@@ -54,7 +54,7 @@ pub fn outcome(rows: &[u32], k: usize) -> u32
 // The vertex count of row k.
 pub fn vertices(rows: &[u32], k: usize) -> u32
     requires { k < length (rows_of rows.now) }
-    ensures { result ≡ (rowAt rows.now k).vertices }
+    ensures { result ≡ (row_at rows.now k).vertices }
 {
     number(rows, k, 3)
 }
@@ -62,7 +62,7 @@ pub fn vertices(rows: &[u32], k: usize) -> u32
 // The index count of row k.
 pub fn indices(rows: &[u32], k: usize) -> u32
     requires { k < length (rows_of rows.now) }
-    ensures { result ≡ (rowAt rows.now k).indices }
+    ensures { result ≡ (row_at rows.now k).indices }
 {
     number(rows, k, 4)
 }
@@ -70,7 +70,7 @@ pub fn indices(rows: &[u32], k: usize) -> u32
 // The bin number of row k.
 pub fn bin(rows: &[u32], k: usize) -> u32
     requires { k < length (rows_of rows.now) }
-    ensures { result ≡ (rowAt rows.now k).bin }
+    ensures { result ≡ (row_at rows.now k).bin }
 {
     number(rows, k, 5)
 }

@@ -2,7 +2,7 @@
 
 ghost use Rattle.std.specs.Prelude.{◌≡◌};
 ghost use Rattle.lists.specs.Lists.{sum_of};
-ghost use Rattle.body_rows.specs.Body.{allIndices, allVertices, rows_of, workNeeded};
+ghost use Rattle.body_rows.specs.Body.{all_indices, all_vertices, rows_of, work_needed};
 ghost use Rattle.body_rows.specs.Rows.{Column, Total, WholeRows, column};
 
 use crate::rows::{number, row_count};
@@ -25,7 +25,7 @@ fn total(rows: &[u32], j: usize) -> usize
 // V: the vertices of all rows.
 pub fn total_vertices(rows: &[u32]) -> usize
     requires { WholeRows rows.now }
-    ensures { Total (allVertices (rows_of rows.now)) result }
+    ensures { Total (all_vertices (rows_of rows.now)) result }
 {
     total(rows, 3)
 }
@@ -33,7 +33,7 @@ pub fn total_vertices(rows: &[u32]) -> usize
 // I: the indices of all rows.
 pub fn total_indices(rows: &[u32]) -> usize
     requires { WholeRows rows.now }
-    ensures { Total (allIndices (rows_of rows.now)) result }
+    ensures { Total (all_indices (rows_of rows.now)) result }
 {
     total(rows, 4)
 }
@@ -41,7 +41,7 @@ pub fn total_indices(rows: &[u32]) -> usize
 // How many words of the work area a call needs.
 pub fn work_needed(rows: &[u32]) -> usize
     requires { WholeRows rows.now }
-    ensures { result ≡ workNeeded (rows_of rows.now) }
+    ensures { result ≡ work_needed (rows_of rows.now) }
 {
     16 * total_indices(rows) + 16 * row_count(rows) + 4 * total_vertices(rows)
 }

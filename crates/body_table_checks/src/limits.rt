@@ -1,7 +1,7 @@
 // The sizes that a body may have.
 
 ghost use Rattle.std.specs.Prelude.{◌≡◌};
-ghost use Rattle.body_refusals.specs.TableChecks.{tooLarge};
+ghost use Rattle.body_refusals.specs.TableChecks.{too_large};
 
 // The largest outcome.
 pub const MOST_OUTCOME: u32 = 255;
@@ -20,7 +20,7 @@ pub const MOST_INDICES: usize = 786432;
 
 // 13: whether there are too many vertices or indices.
 pub fn too_many(vertices: usize, indices: usize) -> bool
-    ensures { result ≡ tooLarge vertices indices }
+    ensures { result ≡ too_large vertices indices }
 {
     if vertices > MOST_VERTICES {
         return true;

@@ -2,10 +2,10 @@
 
 ghost use Rattle.std.specs.Prelude.{◌≡◌, ◌<◌, length};
 ghost use Rattle.lists.specs.Lists.{any};
-ghost use Rattle.body_rows.specs.Body.{allIndices, allVertices, firstFailing, rows_of};
-ghost use Rattle.body_refusals.specs.TableChecks.{badBin, badRow, tableChecks, tooLarge};
-ghost use Rattle.body_table_checks.specs.TableTests.{notWhole, wrongLengths};
-ghost use Rattle.body_rows.specs.Rows.{WholeRows, rowAt};
+ghost use Rattle.body_rows.specs.Body.{all_indices, all_vertices, first_failing, rows_of};
+ghost use Rattle.body_refusals.specs.TableChecks.{bad_bin, bad_row, table_checks, too_large};
+ghost use Rattle.body_table_checks.specs.TableTests.{not_whole, wrong_lengths};
+ghost use Rattle.body_rows.specs.Rows.{WholeRows, row_at};
 
 use crate::limits::{MOST_BIN, MOST_OUTCOME, MOST_ROWS, too_many};
 use body_rows::{
@@ -14,7 +14,7 @@ use body_rows::{
 
 // 11: whether the table isn't whole rows, or has too many.
 fn not_whole(table: &[u32]) -> bool
-    ensures { result ≡ notWhole table.now }
+    ensures { result ≡ not_whole table.now }
 {
     if table.len() % ROW_WIDTH != 0 {
         return true;
@@ -25,7 +25,7 @@ fn not_whole(table: &[u32]) -> bool
 // 12: whether row k has an outcome above 255, or has failed and has a count other than 0.
 fn bad_row(table: &[u32], k: usize) -> bool
     requires { k < length (rows_of table.now) }
-    ensures { result ≡ badRow (rowAt table.now k) }
+    ensures { result ≡ bad_row (row_at table.now k) }
 {
     let o = outcome(table, k);
     if o > MOST_OUTCOME {
@@ -39,7 +39,7 @@ fn bad_row(table: &[u32], k: usize) -> bool
 
 // 12: whether a row is bad.
 fn any_bad_row(table: &[u32]) -> bool
-    ensures { result ≡ any badRow (rows_of table.now) }
+    ensures { result ≡ any bad_row (rows_of table.now) }
 {
     let n = row_count(table);
     let mut k = 0usize;
@@ -55,7 +55,7 @@ fn any_bad_row(table: &[u32]) -> bool
 // 13: whether the rows have too many vertices or indices.
 fn too_large(table: &[u32]) -> bool
     requires { WholeRows table.now }
-    ensures { result ≡ tooLarge (allVertices (rows_of table.now)) (allIndices (rows_of table.now)) }
+    ensures { result ≡ too_large (all_vertices (rows_of table.now)) (all_indices (rows_of table.now)) }
 {
     too_many(total_vertices(table), total_indices(table))
 }
@@ -63,7 +63,7 @@ fn too_large(table: &[u32]) -> bool
 // 14: whether a slice is not as long as the rows say.
 fn wrong_lengths(table: &[u32], positions: &[f32], normals: &[f32], indices: &[u32]) -> bool
     requires { WholeRows table.now }
-    ensures { result ≡ wrongLengths (rows_of table.now) positions.now normals.now indices.now }
+    ensures { result ≡ wrong_lengths (rows_of table.now) positions.now normals.now indices.now }
 {
     let v = total_vertices(table);
     if positions.len() != 3 * v {
@@ -78,14 +78,14 @@ fn wrong_lengths(table: &[u32], positions: &[f32], normals: &[f32], indices: &[u
 // 15: whether row k has a bin above 65,535.
 fn bad_bin(table: &[u32], k: usize) -> bool
     requires { k < length (rows_of table.now) }
-    ensures { result ≡ badBin (rowAt table.now k) }
+    ensures { result ≡ bad_bin (row_at table.now k) }
 {
     bin(table, k) > MOST_BIN
 }
 
 // 15: whether a bin is too high.
 fn any_bad_bin(table: &[u32]) -> bool
-    ensures { result ≡ any badBin (rows_of table.now) }
+    ensures { result ≡ any bad_bin (rows_of table.now) }
 {
     let n = row_count(table);
     let mut k = 0usize;
@@ -100,7 +100,7 @@ fn any_bad_bin(table: &[u32]) -> bool
 
 // The number of the first of the checks 11 to 15 that fails, or 0.
 pub fn table_failing(table: &[u32], positions: &[f32], normals: &[f32], indices: &[u32]) -> u32
-    ensures { result ≡ firstFailing (tableChecks table.now (rows_of table.now) positions.now normals.now
+    ensures { result ≡ first_failing (table_checks table.now (rows_of table.now) positions.now normals.now
         indices.now) }
 {
     if not_whole(table) {

@@ -4,10 +4,10 @@ use Prim.Native.Nat.{ℕ}
 use Rattle.mesh_definition.specs.declared.MeshCounts.{MeshCounts}
 use Rattle.mesh_definition.specs.declared.Assembled.{Assembled}
 use Rattle.mesh_definition.specs.declared.Assembled.TheVariants.{Done}
-use Rattle.cad_answers.specs.Assembling.{cadAssembled}
+use Rattle.cad_answers.specs.Assembling.{cad_assembled}
 
 -- the struct of a call that is done
-pub done-told : {t : Assembled} {c : MeshCounts} {f : ℕ} → t ≡ Done c → f ≡ (cadAssembled (Done c)).closed
+pub done_told : {t : Assembled} {c : MeshCounts} {f : ℕ} → t ≡ Done c → f ≡ (cad_assembled (Done c)).closed
     → record {
       refusal = 0;
       vertices = c.vertices;
@@ -19,8 +19,8 @@ pub done-told : {t : Assembled} {c : MeshCounts} {f : ℕ} → t ≡ Done c → 
       opens = c.opens;
       overs = c.overs;
       closed = f;
-    } ≡ cadAssembled t
-done-told {t} {c} {f} e h =
+    } ≡ cad_assembled t
+done_told {t} {c} {f} e h =
     (λ j. record {
       refusal = 0;
       vertices = c.vertices;
@@ -33,4 +33,4 @@ done-told {t} {c} {f} e h =
       overs = c.overs;
       closed = h j;
     })
-    ∙ ap cadAssembled (sym e)
+    ∙ ap cad_assembled (sym e)

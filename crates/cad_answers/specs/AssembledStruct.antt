@@ -2,12 +2,12 @@
 use Rattle.std.specs.Prelude.{◌≡◌}
 use Rattle.mesh_definition.specs.declared.Assembled.TheVariants.{Done}
 use Rattle.mesh_definition.specs.Assemble.{AfterAssemble}
-use Rattle.mesh_definition.specs.Assembled.{countsAnswered}
-use Rattle.cad_answers.specs.Assembling.{cadAssembled, cadMeshAnswer}
+use Rattle.mesh_definition.specs.Assembled.{counts_answered}
+use Rattle.cad_answers.specs.Assembling.{cad_assembled, cad_mesh_answer}
 
 -- where the definition refuses nothing
-pub done-is : (t : AfterAssemble) → 0 ≡ t.refusal → cadAssembled (Done (countsAnswered t)) ≡ cadMeshAnswer t
-done-is t e =
+pub done_is : (t : AfterAssemble) → 0 ≡ t.refusal → cad_assembled (Done (counts_answered t)) ≡ cad_mesh_answer t
+done_is t e =
     λ j. record {
       refusal = e j;
       vertices = t.vertices;
@@ -18,5 +18,5 @@ done-is t e =
       edges = t.counts.edges;
       opens = t.counts.opens;
       overs = t.counts.overs;
-      closed = (cadMeshAnswer t).closed;
+      closed = (cad_mesh_answer t).closed;
     }

@@ -7,8 +7,8 @@ use Rattle.mesh_definition.specs.Assemble.{AfterAssemble}
 use Rattle.cad_answers.specs.declared.assembling.CadAssembled.{CadAssembled}
 
 -- 01's number and values for each answer
-abbrev pub cadAssembled : Assembled → CadAssembled
-cadAssembled (Done c) =
+abbrev pub cad_assembled : Assembled → CadAssembled
+cad_assembled (Done c) =
     record {
       refusal = 0;
       vertices = c.vertices;
@@ -21,7 +21,7 @@ cadAssembled (Done c) =
       overs = c.overs;
       closed = cond c.closed 1 0;
     }
-cadAssembled (Refused n) = record { refusal = n; vertices = 0; indices = 0; parts = 0; ranges = 0; failures = 0; edges = 0; opens = 0; overs = 0; closed = 0 }
+cad_assembled (Refused n) = record { refusal = n; vertices = 0; indices = 0; parts = 0; ranges = 0; failures = 0; edges = 0; opens = 0; overs = 0; closed = 0 }
 
 -- cad_assemble's answer, and what the lent slices hold
 pub record CadLeftMesh : Type 0 where
@@ -29,12 +29,12 @@ pub record CadLeftMesh : Type 0 where
   pub slices : MeshSlices
 
 -- the answer with the slices
-abbrev pub cadLeftMesh : CadAssembled → MeshSlices → CadLeftMesh
-cadLeftMesh r s = record { answer = r; slices = s }
+abbrev pub cad_left_mesh : CadAssembled → MeshSlices → CadLeftMesh
+cad_left_mesh r s = record { answer = r; slices = s }
 
 -- the struct that the definition's answer is: closed is 1 or 0
-abbrev pub cadMeshAnswer : AfterAssemble → CadAssembled
-cadMeshAnswer t =
+abbrev pub cad_mesh_answer : AfterAssemble → CadAssembled
+cad_mesh_answer t =
     record {
       refusal = t.refusal;
       vertices = t.vertices;
@@ -49,5 +49,5 @@ cadMeshAnswer t =
     }
 
 -- what the definition says of the call, with the answer as cad_assemble gives it
-abbrev pub cadMeshAnswered : AfterAssemble → CadLeftMesh
-cadMeshAnswered t = cadLeftMesh (cadMeshAnswer t) t.slices
+abbrev pub cad_mesh_answered : AfterAssemble → CadLeftMesh
+cad_mesh_answered t = cad_left_mesh (cad_mesh_answer t) t.slices

@@ -6,9 +6,9 @@ use Rattle.cad_answers.specs.declared.naming.CadCell.{CadCell}
 use Rattle.cad_answers.specs.declared.naming.CadKey.{CadKey}
 
 -- a cell, and 1 if it was clamped, else 0
-abbrev pub cadCell : CellAnswer → CadCell
-cadCell c = record { value = c.value; clamped = cond c.clamped 1 0 }
+abbrev pub cad_cell : CellAnswer → CadCell
+cad_cell c = record { value = c.value; clamped = cond c.clamped 1 0 }
 
 -- a key, and 1 if one of its cells was clamped, else 0
-abbrev pub cadKey : KeyAnswer → CadKey
-cadKey k = record { value = k.value; clamped = cond k.clamped 1 0 }
+abbrev pub cad_key : KeyAnswer → CadKey
+cad_key k = record { value = k.value; clamped = cond k.clamped 1 0 }

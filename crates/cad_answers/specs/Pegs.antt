@@ -4,6 +4,6 @@ use Rattle.peg_definition.specs.declared.PegAnswer.TheVariants as PegAnswer
 use Rattle.cad_answers.specs.declared.pegs.CadNearestBins.{CadNearestBins}
 
 -- 02's number and count for each answer
-abbrev pub cadNearestBins : PegAnswer → CadNearestBins
-cadNearestBins (PegAnswer.Found n) = record { refusal = 0; bins = n }
-cadNearestBins (PegAnswer.Refused n) = record { refusal = n; bins = 0 }
+abbrev pub cad_nearest_bins : PegAnswer → CadNearestBins
+cad_nearest_bins (PegAnswer.Found n) = record { refusal = 0; bins = n }
+cad_nearest_bins (PegAnswer.Refused n) = record { refusal = n; bins = 0 }

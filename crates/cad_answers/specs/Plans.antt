@@ -7,10 +7,10 @@ use Rattle.cad_answers.specs.declared.plans.CadPlanRead.{CadPlanRead}
 use Rattle.cad_answers.specs.declared.plans.CadPlanWritten.{CadPlanWritten}
 
 -- 02's number and values for each answer
-abbrev pub cadPlanRead : PlanAnswer → CadPlanRead
-cadPlanRead (PlanAnswer.Listed n) = record { refusal = 0; entries = n }
-cadPlanRead (PlanAnswer.Refused n) = record { refusal = n; entries = 0 }
+abbrev pub cad_plan_read : PlanAnswer → CadPlanRead
+cad_plan_read (PlanAnswer.Listed n) = record { refusal = 0; entries = n }
+cad_plan_read (PlanAnswer.Refused n) = record { refusal = n; entries = 0 }
 
-abbrev pub cadPlanWritten : ListingAnswer → CadPlanWritten
-cadPlanWritten (ListingAnswer.Written n) = record { refusal = 0; length = n }
-cadPlanWritten (ListingAnswer.Refused n) = record { refusal = n; length = 0 }
+abbrev pub cad_plan_written : ListingAnswer → CadPlanWritten
+cad_plan_written (ListingAnswer.Written n) = record { refusal = 0; length = n }
+cad_plan_written (ListingAnswer.Refused n) = record { refusal = n; length = 0 }

@@ -7,8 +7,8 @@ use Rattle.report_definition.specs.Report.{AfterReport}
 use Rattle.cad_answers.specs.declared.reports.CadReported.{CadReported}
 
 -- the page, or the refusal's number and zeros
-abbrev pub cadReported : Reported → CadReported
-cadReported (Done p) =
+abbrev pub cad_reported : Reported → CadReported
+cad_reported (Done p) =
     record {
       refusal = 0;
       bodies = p.bodies;
@@ -23,7 +23,7 @@ cadReported (Done p) =
       share_accepted = p.share_accepted;
       share_faces = p.share_faces;
     }
-cadReported (Refused n) =
+cad_reported (Refused n) =
     record {
       refusal = n;
       bodies = 0;
@@ -40,8 +40,8 @@ cadReported (Refused n) =
     }
 
 -- the page so far as it is handed over: its share, which is not read, is the empty page's
-abbrev pub pageGiven : ℕ → ℕ → ℕ → ℕ → ℕ → ℕ → ℕ → ℕ → ℕ → Page
-pageGiven bodies accepted failed triangles vertices empty upstream escaped listed =
+abbrev pub page_given : ℕ → ℕ → ℕ → ℕ → ℕ → ℕ → ℕ → ℕ → ℕ → Page
+page_given bodies accepted failed triangles vertices empty upstream escaped listed =
     record {
       bodies = bodies;
       accepted = accepted;
@@ -63,9 +63,9 @@ pub record CadLeftReport : Type 0 where
   pub work : List ℕ
 
 -- the answer with them
-abbrev pub cadLeftReport : CadReported → List ℕ → List ℕ → CadLeftReport
-cadLeftReport r list work = record { answer = r; list = list; work = work }
+abbrev pub cad_left_report : CadReported → List ℕ → List ℕ → CadLeftReport
+cad_left_report r list work = record { answer = r; list = list; work = work }
 
 -- what the definition says of the call, with the answer as cad_report gives it
-abbrev pub cadReportAnswered : AfterReport → CadLeftReport
-cadReportAnswered t = cadLeftReport (cadReported t.answer) t.list t.work
+abbrev pub cad_report_answered : AfterReport → CadLeftReport
+cad_report_answered t = cad_left_report (cad_reported t.answer) t.list t.work

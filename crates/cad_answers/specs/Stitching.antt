@@ -5,10 +5,10 @@ use Rattle.stitch_definition.specs.Slices.{StitchSlices, AfterStitch}
 use Rattle.cad_answers.specs.declared.stitching.CadStitched.{CadStitched}
 
 -- 01's number and values for each answer
-abbrev pub cadStitched : Stitched → CadStitched
-cadStitched (Done s) = record { refusal = 0; vertices = s.vertices; indices = s.indices; splits = s.splits }
-cadStitched (Refused n) = record { refusal = n; vertices = 0; indices = 0; splits = 0 }
+abbrev pub cad_stitched : Stitched → CadStitched
+cad_stitched (Done s) = record { refusal = 0; vertices = s.vertices; indices = s.indices; splits = s.splits }
+cad_stitched (Refused n) = record { refusal = n; vertices = 0; indices = 0; splits = 0 }
 
 -- the answer, and what the lent slices hold
-abbrev pub leftAfterStitch : CadStitched → StitchSlices → AfterStitch
-leftAfterStitch r s = record { refusal = r.refusal; vertices = r.vertices; indices = r.indices; splits = r.splits; slices = s }
+abbrev pub left_after_stitch : CadStitched → StitchSlices → AfterStitch
+left_after_stitch r s = record { refusal = r.refusal; vertices = r.vertices; indices = r.indices; splits = r.splits; slices = s }

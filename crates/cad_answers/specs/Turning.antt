@@ -6,10 +6,10 @@ use Rattle.turn_definition.specs.Orient.{AfterTurn}
 use Rattle.cad_answers.specs.declared.turning.CadTurned.{CadTurned}
 
 -- 01's number and values for each answer
-abbrev pub cadTurned : Turned → CadTurned
-cadTurned (Done c) = record { refusal = 0; turned = c.turned; against = c.against }
-cadTurned (Refused n) = record { refusal = n; turned = 0; against = 0 }
+abbrev pub cad_turned : Turned → CadTurned
+cad_turned (Done c) = record { refusal = 0; turned = c.turned; against = c.against }
+cad_turned (Refused n) = record { refusal = n; turned = 0; against = 0 }
 
 -- the answer, and what the lent slices hold
-abbrev pub leftAfterTurn : CadTurned → List Float → List ℕ → List ℕ → AfterTurn
-leftAfterTurn r ns is work = record { refusal = r.refusal; turned = r.turned; against = r.against; normals = ns; indices = is; work = work }
+abbrev pub left_after_turn : CadTurned → List Float → List ℕ → List ℕ → AfterTurn
+left_after_turn r ns is work = record { refusal = r.refusal; turned = r.turned; against = r.against; normals = ns; indices = is; work = work }

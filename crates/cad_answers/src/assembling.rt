@@ -1,7 +1,7 @@
 // assemble's answer as its struct.
 
 ghost use Rattle.std.specs.Prelude.{◌≡◌, cond};
-ghost use Rattle.cad_answers.specs.Assembling.{cadAssembled};
+ghost use Rattle.cad_answers.specs.Assembling.{cad_assembled};
 
 use mesh_definition::Assembled;
 
@@ -31,7 +31,7 @@ pub fn flag(b: bool) -> u32
 
 // assemble's answer as the struct.
 pub fn assembled_answer(t: Assembled) -> CadAssembled
-    ensures { result ≡ cadAssembled t }
+    ensures { result ≡ cad_assembled t }
 {
     match t {
         Assembled::Done(c) => CadAssembled {

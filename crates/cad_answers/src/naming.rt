@@ -1,7 +1,7 @@
 // A cell and a key as their structs.
 
 ghost use Rattle.std.specs.Prelude.{◌≡◌};
-ghost use Rattle.cad_answers.specs.Naming.{cadCell, cadKey};
+ghost use Rattle.cad_answers.specs.Naming.{cad_cell, cad_key};
 
 use crate::assembling::flag;
 use point_cell::CellAnswer;
@@ -25,7 +25,7 @@ pub struct CadKey {
 
 // A cell as the struct.
 pub fn cell_answer(c: CellAnswer) -> CadCell
-    ensures { result ≡ cadCell c }
+    ensures { result ≡ cad_cell c }
 {
     CadCell {
         value: c.value,
@@ -35,7 +35,7 @@ pub fn cell_answer(c: CellAnswer) -> CadCell
 
 // A key as the struct.
 pub fn key_answer(k: KeyAnswer) -> CadKey
-    ensures { result ≡ cadKey k }
+    ensures { result ≡ cad_key k }
 {
     CadKey {
         value: k.value,

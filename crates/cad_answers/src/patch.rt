@@ -1,8 +1,8 @@
 // The answers about a patch alone as their structs, and the box of six numbers, minimum first.
 
 ghost use Rattle.std.specs.Prelude.{◌≡◌};
-ghost use Rattle.patch_alone.specs.Answers.{measuredAs, judgedAs};
-ghost use Rattle.cad_answers.specs.Answers.{boxOf, cadMeasured, cadJudged};
+ghost use Rattle.patch_alone.specs.Answers.{measured_as, judged_as};
+ghost use Rattle.cad_answers.specs.Answers.{box_of, cad_measured, cad_judged};
 
 use patch_alone::{Judged, Measured};
 use patch_geometry::{Aabb, Vec3};
@@ -25,7 +25,7 @@ pub struct CadJudged {
 
 // The box with these corners.
 pub fn box_of(x0: f64, y0: f64, z0: f64, x1: f64, y1: f64, z1: f64) -> Aabb
-    ensures { result ≡ boxOf x0 y0 z0 x1 y1 z1 }
+    ensures { result ≡ box_of x0 y0 z0 x1 y1 z1 }
 {
     Aabb {
         min: Vec3 {
@@ -43,7 +43,7 @@ pub fn box_of(x0: f64, y0: f64, z0: f64, x1: f64, y1: f64, z1: f64) -> Aabb
 
 // A measured answer as the struct.
 pub fn measured_answer(m: Measured) -> CadMeasured
-    ensures { result ≡ cadMeasured (measuredAs m) }
+    ensures { result ≡ cad_measured (measured_as m) }
 {
     match m {
         Measured::Value(x) => CadMeasured {
@@ -59,7 +59,7 @@ pub fn measured_answer(m: Measured) -> CadMeasured
 
 // A judged answer as the struct.
 pub fn judged_answer(j: Judged) -> CadJudged
-    ensures { result ≡ cadJudged (judgedAs j) }
+    ensures { result ≡ cad_judged (judged_as j) }
 {
     match j {
         Judged::Verdict(b) => {

@@ -1,7 +1,7 @@
 // The answer of a lookup of the bins nearest a peg as its struct.
 
 ghost use Rattle.std.specs.Prelude.{◌≡◌};
-ghost use Rattle.cad_answers.specs.Pegs.{cadNearestBins};
+ghost use Rattle.cad_answers.specs.Pegs.{cad_nearest_bins};
 
 use peg_definition::PegAnswer;
 
@@ -15,7 +15,7 @@ pub struct CadNearestBins {
 
 // The answer of a lookup as the struct.
 pub fn nearest_answer(a: PegAnswer) -> CadNearestBins
-    ensures { result ≡ cadNearestBins a }
+    ensures { result ≡ cad_nearest_bins a }
 {
     match a {
         PegAnswer::Found(n) => CadNearestBins {

@@ -1,7 +1,7 @@
 // The answers of reading and writing a plan as their structs.
 
 ghost use Rattle.std.specs.Prelude.{◌≡◌};
-ghost use Rattle.cad_answers.specs.Plans.{cadPlanRead, cadPlanWritten};
+ghost use Rattle.cad_answers.specs.Plans.{cad_plan_read, cad_plan_written};
 
 use plan_definition::{ListingAnswer, PlanAnswer};
 
@@ -23,7 +23,7 @@ pub struct CadPlanWritten {
 
 // The answer of reading a plan as the struct.
 pub fn plan_answer(a: PlanAnswer) -> CadPlanRead
-    ensures { result ≡ cadPlanRead a }
+    ensures { result ≡ cad_plan_read a }
 {
     match a {
         PlanAnswer::Listed(n) => CadPlanRead {
@@ -39,7 +39,7 @@ pub fn plan_answer(a: PlanAnswer) -> CadPlanRead
 
 // The answer of writing a listing as the struct.
 pub fn listing_answer(a: ListingAnswer) -> CadPlanWritten
-    ensures { result ≡ cadPlanWritten a }
+    ensures { result ≡ cad_plan_written a }
 {
     match a {
         ListingAnswer::Written(n) => CadPlanWritten {

@@ -1,7 +1,7 @@
 // The report's answer as its struct.
 
 ghost use Rattle.std.specs.Prelude.{◌≡◌};
-ghost use Rattle.cad_answers.specs.Reports.{cadReported, pageGiven};
+ghost use Rattle.cad_answers.specs.Reports.{cad_reported, page_given};
 
 use report_definition::{Page, Reported};
 
@@ -35,7 +35,7 @@ pub fn page_of(
     escaped: u64,
     listed: u64,
 ) -> Page
-    ensures { result ≡ pageGiven bodies accepted failed triangles vertices empty upstream escaped listed }
+    ensures { result ≡ page_given bodies accepted failed triangles vertices empty upstream escaped listed }
 {
     Page {
         bodies: bodies,
@@ -54,7 +54,7 @@ pub fn page_of(
 
 // The report's answer as the struct.
 pub fn reported_answer(t: Reported) -> CadReported
-    ensures { result ≡ cadReported t }
+    ensures { result ≡ cad_reported t }
 {
     match t {
         Reported::Done(p) => CadReported {

@@ -1,7 +1,7 @@
 // stitch's answer as its struct.
 
 ghost use Rattle.std.specs.Prelude.{◌≡◌};
-ghost use Rattle.cad_answers.specs.Stitching.{cadStitched};
+ghost use Rattle.cad_answers.specs.Stitching.{cad_stitched};
 
 use stitch_definition::Stitched;
 
@@ -17,7 +17,7 @@ pub struct CadStitched {
 
 // stitch's answer as the struct.
 pub fn stitched_answer(t: Stitched) -> CadStitched
-    ensures { result ≡ cadStitched t }
+    ensures { result ≡ cad_stitched t }
 {
     match t {
         Stitched::Done(s) => CadStitched {

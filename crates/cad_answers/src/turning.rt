@@ -1,7 +1,7 @@
 // turn's answer as its struct.
 
 ghost use Rattle.std.specs.Prelude.{◌≡◌};
-ghost use Rattle.cad_answers.specs.Turning.{cadTurned};
+ghost use Rattle.cad_answers.specs.Turning.{cad_turned};
 
 use turn_definition::Turned;
 
@@ -16,7 +16,7 @@ pub struct CadTurned {
 
 // turn's answer as the struct.
 pub fn turned_answer(t: Turned) -> CadTurned
-    ensures { result ≡ cadTurned t }
+    ensures { result ≡ cad_turned t }
 {
     match t {
         Turned::Done(c) => CadTurned {

@@ -11,11 +11,11 @@ use mir.ValLaws.{to_z-of_z}
 use Rattle.signed_numbers.specs.Bits.{read}
 use Rattle.plan_definition.specs.Places.{Place}
 use Rattle.peg_definition.specs.declared.PegAnswer.{PegAnswer}
-use Rattle.peg_definition.specs.Answers.{pegAnswer}
-use Rattle.peg_definition.specs.Peg.{binsAfter, lookupOf}
+use Rattle.peg_definition.specs.Answers.{peg_answer}
+use Rattle.peg_definition.specs.Peg.{bins_after, lookup_of}
 use Rattle.peg.specs.Answer.{PegFound, at}
 use Rattle.cad_answers.specs.declared.pegs.CadNearestBins.{CadNearestBins}
-use Rattle.cad_answers.specs.Pegs.{cadNearestBins}
+use Rattle.cad_answers.specs.Pegs.{cad_nearest_bins}
 
 module _ (table : List ℕ) (ps ns : List Float) (is : List ℕ) (list : List ℤ) (x y z : ℤ) (fx : SFits w64 x) (fy : SFits w64 y) (fz : SFits w64 z) (E W : List ℕ) (a : PegAnswer)
     (v : PegFound table ps ns is list (read x) (read y) (read z) E W a) where
@@ -23,8 +23,8 @@ module _ (table : List ℕ) (ps ns : List Float) (is : List ℕ) (list : List �
   same : at (read x) (read y) (read z) ≡ at x y z
   same = λ i. at (to_z-of_z w64 x fx i) (to_z-of_z w64 y fy i) (to_z-of_z w64 z fz i)
 
-  pub peg-told : {r : CadNearestBins} → r ≡ cadNearestBins a → r ≡ cadNearestBins (pegAnswer (lookupOf table ps ns is list (at x y z) (length E)))
-  peg-told e = e ∙ ap cadNearestBins (v.answer ∙ ap (λ (p : Place). pegAnswer (lookupOf table ps ns is list p (length E))) same)
+  pub peg_told : {r : CadNearestBins} → r ≡ cad_nearest_bins a → r ≡ cad_nearest_bins (peg_answer (lookup_of table ps ns is list (at x y z) (length E)))
+  peg_told e = e ∙ ap cad_nearest_bins (v.answer ∙ ap (λ (p : Place). peg_answer (lookup_of table ps ns is list p (length E))) same)
 
-  pub peg-left : W ≡ binsAfter (lookupOf table ps ns is list (at x y z) (length E)) E
-  peg-left = v.list ∙ ap (λ (p : Place). binsAfter (lookupOf table ps ns is list p (length E)) E) same
+  pub peg_left : W ≡ bins_after (lookup_of table ps ns is list (at x y z) (length E)) E
+  peg_left = v.list ∙ ap (λ (p : Place). bins_after (lookup_of table ps ns is list p (length E)) E) same

@@ -7,47 +7,47 @@ use lib.Dec.{eqb}
 use lib.ListN.{length}
 use lib.Ieee.{Float}
 use Rattle.point_rules.specs.Rule.{Rule, names}
-use Rattle.body_rows.specs.Body.{rows_of, patches_of, firstFailing}
-use Rattle.body_refusals.specs.BodyChecks.{bodyChecks}
+use Rattle.body_rows.specs.Body.{rows_of, patches_of, first_failing}
+use Rattle.body_refusals.specs.BodyChecks.{body_checks}
 use Rattle.stitch_definition.specs.declared.Stitched.{Stitched}
 use Rattle.stitch_definition.specs.declared.Stitched.TheVariants.{Done, Refused}
-use Rattle.stitch_definition.specs.Slices.{StitchSlices, AfterStitch, stitchChecks, writeBody, refuseStitch, clearedSlices, stitchOrRefuse}
+use Rattle.stitch_definition.specs.Slices.{StitchSlices, AfterStitch, stitch_checks, write_body, refuse_stitch, cleared_slices, stitch_or_refuse}
 use Rattle.stitch_definition.specs.StitchedBody.{StitchedBody}
-use Rattle.stitch_definition.specs.Stitch.{stitchBody, stitchOf}
-use Rattle.stitch_definition.specs.Answers.{LeftStitch, leftStitch, stitchAnswered}
+use Rattle.stitch_definition.specs.Stitch.{stitch_body, stitch_of}
+use Rattle.stitch_definition.specs.Answers.{LeftStitch, left_stitch, stitch_answered}
 use Rattle.cad_answers.specs.declared.stitching.CadStitched.{CadStitched}
-use Rattle.cad_answers.specs.Stitching.{cadStitched, leftAfterStitch}
+use Rattle.cad_answers.specs.Stitching.{cad_stitched, left_after_stitch}
 use Rattle.cad_tess.proofs.Told.{either}
 
 -- the struct and the slices of a call
 abbrev flat : LeftStitch → AfterStitch
-flat l = leftAfterStitch (cadStitched l.answer) l.slices
+flat l = left_after_stitch (cad_stitched l.answer) l.slices
 
 -- a refusal holds its number only
-refused-told : (n : ℕ) (out : StitchSlices) → eqb n 0 ≡ false → flat (stitchAnswered (refuseStitch n out)) ≡ refuseStitch n out
-unfolding refuseStitch
-refused-told n out e =
-    ap (λ (b : Bool). leftAfterStitch (cadStitched (elim b [ true ↦ Done (record { vertices = 0; indices = 0; splits = 0 }) | false ↦ Refused n ])) out) e
+refused_told : (n : ℕ) (out : StitchSlices) → eqb n 0 ≡ false → flat (stitch_answered (refuse_stitch n out)) ≡ refuse_stitch n out
+unfolding refuse_stitch
+refused_told n out e =
+    ap (λ (b : Bool). left_after_stitch (cad_stitched (elim b [ true ↦ Done (record { vertices = 0; indices = 0; splits = 0 }) | false ↦ Refused n ])) out) e
 
 -- the checks of the result decide
-result-told : (s : StitchedBody) (out : StitchSlices) → flat (stitchAnswered (stitchOrRefuse s out)) ≡ stitchOrRefuse s out
-unfolding stitchOrRefuse writeBody
-result-told s out =
+result_told : (s : StitchedBody) (out : StitchSlices) → flat (stitch_answered (stitch_or_refuse s out)) ≡ stitch_or_refuse s out
+unfolding stitch_or_refuse write_body
+result_told s out =
     let rows = map (λ p. p.row) s.patches in
-    let n = firstFailing (stitchChecks rows out) in
-    either (λ t. flat (stitchAnswered t) ≡ t) (eqb n 0) (writeBody rows s out) (refuseStitch n out) refl (refused-told n out)
+    let n = first_failing (stitch_checks rows out) in
+    either (λ t. flat (stitch_answered t) ≡ t) (eqb n 0) (write_body rows s out) (refuse_stitch n out) refl (refused_told n out)
 
 module _ (rule : Rule) (table : List ℕ) (ps ns : List Float) (is : List ℕ) (sag : Float) (out : StitchSlices) where
   -- the struct holds all that the definition says
-  all_told : flat (stitchAnswered (stitchOf rule table ps ns is sag out)) ≡ stitchOf rule table ps ns is sag out
-  unfolding stitchOf
+  all_told : flat (stitch_answered (stitch_of rule table ps ns is sag out)) ≡ stitch_of rule table ps ns is sag out
+  unfolding stitch_of
   all_told =
-      let n = firstFailing (bodyChecks table ps ns is (length out.work)) in
-      let s = stitchBody sag (names rule ps) (patches_of (rows_of table) ps ns is) in
-      either (λ t. flat (stitchAnswered t) ≡ t) (eqb n 0) (stitchOrRefuse s (clearedSlices (rows_of table) out)) (refuseStitch n out)
-      (result-told s (clearedSlices (rows_of table) out)) (refused-told n out)
+      let n = first_failing (body_checks table ps ns is (length out.work)) in
+      let s = stitch_body sag (names rule ps) (patches_of (rows_of table) ps ns is) in
+      either (λ t. flat (stitch_answered t) ≡ t) (eqb n 0) (stitch_or_refuse s (cleared_slices (rows_of table) out)) (refuse_stitch n out)
+      (result_told s (cleared_slices (rows_of table) out)) (refused_told n out)
 
   -- what the call leaves
-  pub call-left : {t : Stitched} {r : CadStitched} {s : StitchSlices} → leftStitch t s ≡ stitchAnswered (stitchOf rule table ps ns is sag out) → r ≡ cadStitched t
-      → leftAfterStitch r s ≡ stitchOf rule table ps ns is sag out
-  call-left {t} {r} {s} e f = ap (λ (c : CadStitched). leftAfterStitch c s) f ∙ ap flat e ∙ all_told
+  pub call_left : {t : Stitched} {r : CadStitched} {s : StitchSlices} → left_stitch t s ≡ stitch_answered (stitch_of rule table ps ns is sag out) → r ≡ cad_stitched t
+      → left_after_stitch r s ≡ stitch_of rule table ps ns is sag out
+  call_left {t} {r} {s} e f = ap (λ (c : CadStitched). left_after_stitch c s) f ∙ ap flat e ∙ all_told

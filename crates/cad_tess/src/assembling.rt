@@ -1,10 +1,10 @@
 // The accepted patches of a body as one mesh, with its tables, failures and edge counts.
 
 ghost use Rattle.std.specs.Prelude.{◌≡◌};
-ghost use Rattle.mesh_definition.specs.Assemble.{assembleOf};
-ghost use Rattle.mesh_definition.specs.Assembled.{slicesOf};
-ghost use Rattle.cad_answers.specs.Answers.{boxOf};
-ghost use Rattle.cad_answers.specs.Assembling.{cadLeftMesh, cadMeshAnswered};
+ghost use Rattle.mesh_definition.specs.Assemble.{assemble_of};
+ghost use Rattle.mesh_definition.specs.Assembled.{slices_of};
+ghost use Rattle.cad_answers.specs.Answers.{box_of};
+ghost use Rattle.cad_answers.specs.Assembling.{cad_left_mesh, cad_mesh_answered};
 
 use cad_answers::{CadAssembled, assembled_answer, box_of};
 
@@ -32,11 +32,11 @@ pub extern "C" fn cad_assemble(
     failures: &mut [u64],
     work: &mut [u64],
 ) -> CadAssembled
-    ensures { cadLeftMesh result (slicesOf mesh_positions.new mesh_normals.new mesh_indices.new parts.new
+    ensures { cad_left_mesh result (slices_of mesh_positions.new mesh_normals.new mesh_indices.new parts.new
         ranges.new failures.new work.new)
-        ≡ cadMeshAnswered (assembleOf rows.now positions.now normals.now indices.now (boxOf x0 y0 z0 x1 y1 z1)
+        ≡ cad_mesh_answered (assemble_of rows.now positions.now normals.now indices.now (box_of x0 y0 z0 x1 y1 z1)
         materials.now default
-        (slicesOf mesh_positions.old mesh_normals.old mesh_indices.old parts.old ranges.old
+        (slices_of mesh_positions.old mesh_normals.old mesh_indices.old parts.old ranges.old
         failures.old work.old)) }
 {
     let reference = box_of(x0, y0, z0, x1, y1, z1);

@@ -1,8 +1,8 @@
 // A patch asked about alone. The box is given as its six numbers, minimum first.
 
 ghost use Rattle.std.specs.Prelude.{◌≡◌};
-ghost use Rattle.patch_alone.specs.Alone.{volumeAlone, farthestAlone, escapesAlone};
-ghost use Rattle.cad_answers.specs.Answers.{boxOf, cadMeasured, cadJudged};
+ghost use Rattle.patch_alone.specs.Alone.{volume_alone, farthest_alone, escapes_alone};
+ghost use Rattle.cad_answers.specs.Answers.{box_of, cad_measured, cad_judged};
 
 use cad_answers::{CadJudged, CadMeasured, box_of, judged_answer, measured_answer};
 
@@ -14,7 +14,7 @@ pub extern "C" fn cad_patch_volume<'a>(
     indices: &'a [u32],
     flip: bool,
 ) -> CadMeasured
-    ensures { result ≡ cadMeasured (volumeAlone positions.now normals.now indices.now flip) }
+    ensures { result ≡ cad_measured (volume_alone positions.now normals.now indices.now flip) }
 {
     measured_answer(patch_view::volume_of(positions, normals, indices, flip))
 }
@@ -32,7 +32,7 @@ pub extern "C" fn cad_farthest(
     y1: f64,
     z1: f64,
 ) -> CadMeasured
-    ensures { result ≡ cadMeasured (farthestAlone positions.now normals.now indices.now (boxOf x0 y0 z0 x1 y1 z1)) }
+    ensures { result ≡ cad_measured (farthest_alone positions.now normals.now indices.now (box_of x0 y0 z0 x1 y1 z1)) }
 {
     let reference = box_of(x0, y0, z0, x1, y1, z1);
     measured_answer(patch_alone::farthest_alone(positions, normals, indices, reference))
@@ -51,7 +51,7 @@ pub extern "C" fn cad_escapes_body(
     y1: f64,
     z1: f64,
 ) -> CadJudged
-    ensures { result ≡ cadJudged (escapesAlone positions.now normals.now indices.now (boxOf x0 y0 z0 x1 y1 z1)) }
+    ensures { result ≡ cad_judged (escapes_alone positions.now normals.now indices.now (box_of x0 y0 z0 x1 y1 z1)) }
 {
     let reference = box_of(x0, y0, z0, x1, y1, z1);
     judged_answer(patch_alone::escapes_alone(positions, normals, indices, reference))

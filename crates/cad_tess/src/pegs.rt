@@ -1,10 +1,10 @@
 // The bins nearest a peg, over placed bodies lent as one body with a place for each row.
 
 ghost use Rattle.std.specs.Prelude.{◌≡◌, length};
-ghost use Rattle.peg_definition.specs.Answers.{pegAnswer};
-ghost use Rattle.peg_definition.specs.Peg.{binsAfter, lookupOf};
+ghost use Rattle.peg_definition.specs.Answers.{peg_answer};
+ghost use Rattle.peg_definition.specs.Peg.{bins_after, lookup_of};
 ghost use Rattle.peg.specs.Answer.{at};
-ghost use Rattle.cad_answers.specs.Pegs.{cadNearestBins};
+ghost use Rattle.cad_answers.specs.Pegs.{cad_nearest_bins};
 
 use cad_answers::{CadNearestBins, nearest_answer};
 use peg_definition::PegAnswer;
@@ -22,9 +22,9 @@ pub extern "C" fn cad_nearest_bins(
     z: i64,
     bins: &mut [u32],
 ) -> CadNearestBins
-    ensures value { result ≡ cadNearestBins (pegAnswer (lookupOf rows.now positions.now normals.now indices.now
+    ensures value { result ≡ cad_nearest_bins (peg_answer (lookup_of rows.now positions.now normals.now indices.now
         places.now (at x y z) (length bins.old))) }
-    ensures bins_after { bins.new ≡ binsAfter (lookupOf rows.now positions.now normals.now indices.now
+    ensures bins_after { bins.new ≡ bins_after (lookup_of rows.now positions.now normals.now indices.now
         places.now (at x y z) (length bins.old)) bins.old }
 {
     let a: PegAnswer = peg::nearest_bins(rows, positions, normals, indices, places, x, y, z, bins);

@@ -2,10 +2,10 @@
 
 ghost use Rattle.std.specs.Prelude.{◌≡◌};
 ghost use Rattle.point_rules.specs.Points.{key};
-ghost use Rattle.report_definition.specs.Report.{reportOf};
+ghost use Rattle.report_definition.specs.Report.{report_of};
 ghost use Rattle.report.specs.Bodies.{body_of};
-ghost use Rattle.cad_answers.specs.Answers.{boxOf};
-ghost use Rattle.cad_answers.specs.Reports.{cadLeftReport, cadReportAnswered, pageGiven};
+ghost use Rattle.cad_answers.specs.Answers.{box_of};
+ghost use Rattle.cad_answers.specs.Reports.{cad_left_report, cad_report_answered, page_given};
 
 use cad_answers::{CadReported, box_of, page_of, reported_answer};
 
@@ -35,9 +35,9 @@ pub extern "C" fn cad_report(
     faces: &mut [u32],
     work: &mut [u64],
 ) -> CadReported
-    ensures { cadLeftReport result faces.new work.new
-        ≡ cadReportAnswered (reportOf key (pageGiven bodies accepted failed triangles vertices empty upstream escaped listed)
-        (body_of rows.now positions.now normals.now indices.now (boxOf x0 y0 z0 x1 y1 z1))
+    ensures { cad_left_report result faces.new work.new
+        ≡ cad_report_answered (report_of key (page_given bodies accepted failed triangles vertices empty upstream escaped listed)
+        (body_of rows.now positions.now normals.now indices.now (box_of x0 y0 z0 x1 y1 z1))
         faces.old work.old) }
 {
     let reference = box_of(x0, y0, z0, x1, y1, z1);

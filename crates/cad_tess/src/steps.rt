@@ -1,15 +1,15 @@
 // The float steps on bit patterns.
 
 ghost use Rattle.std.specs.Prelude.{◌≡◌};
-ghost use Rattle.float_steps.specs.Floats.{widenBits, largerBits};
-ghost use Rattle.float_narrow.specs.Narrow.{narrowBits};
-ghost use Rattle.float_sqrt.specs.Roots.{sqrtBits};
-ghost use Rattle.float_round.specs.Integral.{roundBits};
+ghost use Rattle.float_steps.specs.Floats.{widen_bits, larger_bits};
+ghost use Rattle.float_narrow.specs.Narrow.{narrow_bits};
+ghost use Rattle.float_sqrt.specs.Roots.{sqrt_bits};
+ghost use Rattle.float_round.specs.Integral.{round_bits};
 
 // The bits of an f32 as those of the f64 of the same value.
 #[unsafe(no_mangle)]
 pub extern "C" fn cad_widen(b: u32) -> u64
-    ensures { result ≡ widenBits b }
+    ensures { result ≡ widen_bits b }
 {
     float_steps::widen(b)
 }
@@ -17,7 +17,7 @@ pub extern "C" fn cad_widen(b: u32) -> u64
 // The bits of the f32 nearest to an f64, ties to even.
 #[unsafe(no_mangle)]
 pub extern "C" fn cad_narrow(b: u64) -> u32
-    ensures { result ≡ narrowBits b }
+    ensures { result ≡ narrow_bits b }
 {
     float_narrow::narrow(b)
 }
@@ -25,7 +25,7 @@ pub extern "C" fn cad_narrow(b: u64) -> u32
 // The bits of the f64 nearest to the square root.
 #[unsafe(no_mangle)]
 pub extern "C" fn cad_sqrt(b: u64) -> u64
-    ensures { result ≡ sqrtBits b }
+    ensures { result ≡ sqrt_bits b }
 {
     float_sqrt::sqrt(b)
 }
@@ -33,7 +33,7 @@ pub extern "C" fn cad_sqrt(b: u64) -> u64
 // The bits of the nearest whole number, halves away from zero.
 #[unsafe(no_mangle)]
 pub extern "C" fn cad_round(b: u64) -> u64
-    ensures { result ≡ roundBits b }
+    ensures { result ≡ round_bits b }
 {
     float_round::round(b)
 }
@@ -41,7 +41,7 @@ pub extern "C" fn cad_round(b: u64) -> u64
 // The bits of the larger of two: a NaN is ignored, +0 is above −0.
 #[unsafe(no_mangle)]
 pub extern "C" fn cad_larger(a: u64, b: u64) -> u64
-    ensures { result ≡ largerBits a b }
+    ensures { result ≡ larger_bits a b }
 {
     float_steps::larger(a, b)
 }

@@ -2,9 +2,9 @@
 
 ghost use Rattle.std.specs.Prelude.{◌≡◌};
 ghost use Rattle.point_rules.specs.Points as Points;
-ghost use Rattle.stitch_definition.specs.Stitch.{stitchOf};
-ghost use Rattle.stitch_definition.specs.Answers.{slicesOf};
-ghost use Rattle.cad_answers.specs.Stitching.{leftAfterStitch};
+ghost use Rattle.stitch_definition.specs.Stitch.{stitch_of};
+ghost use Rattle.stitch_definition.specs.Answers.{slices_of};
+ghost use Rattle.cad_answers.specs.Stitching.{left_after_stitch};
 
 use cad_answers::{CadStitched, stitched_answer};
 
@@ -22,10 +22,10 @@ pub extern "C" fn cad_stitch(
     out_indices: &mut [u32],
     work: &mut [u64],
 ) -> CadStitched
-    ensures { leftAfterStitch result (slicesOf out_rows.new out_positions.new out_normals.new out_indices.new
+    ensures { left_after_stitch result (slices_of out_rows.new out_positions.new out_normals.new out_indices.new
         work.new)
-        ≡ stitchOf Points.key rows.now positions.now normals.now indices.now sag
-        (slicesOf out_rows.old out_positions.old out_normals.old out_indices.old work.old) }
+        ≡ stitch_of Points.key rows.now positions.now normals.now indices.now sag
+        (slices_of out_rows.old out_positions.old out_normals.old out_indices.old work.old) }
 {
     stitched_answer(stitch::stitch(
         rows,

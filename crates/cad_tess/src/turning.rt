@@ -4,7 +4,7 @@ ghost use Rattle.std.specs.Prelude.{◌≡◌};
 ghost use Rattle.point_rules.specs.Points as Points;
 ghost use Rattle.turn_definition.specs.Orient.{turn_of};
 ghost use Rattle.turn_volume_rule.specs.VolumeRule.{KeepsVolume};
-ghost use Rattle.cad_answers.specs.Turning.{leftAfterTurn};
+ghost use Rattle.cad_answers.specs.Turning.{left_after_turn};
 
 use cad_answers::{CadTurned, turned_answer};
 
@@ -18,7 +18,7 @@ pub extern "C" fn cad_turn(
     indices: &mut [u32],
     work: &mut [u64],
 ) -> CadTurned
-    ensures work_after { leftAfterTurn result normals.new indices.new work.new
+    ensures work_after { left_after_turn result normals.new indices.new work.new
         ≡ turn_of Points.key rows.now positions.now normals.old indices.old work.old }
     ensures keeps_volume { result.refusal ≡ 0 → KeepsVolume Points.key rows.now positions.now normals.old
         indices.old normals.new indices.new }

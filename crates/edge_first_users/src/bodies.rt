@@ -3,7 +3,7 @@
 ghost use Rattle.std.specs.Prelude.{◌≡◌, map, length, drop, replicate};
 ghost use Rattle.std.proofs.lemmas.List.Edits.{sets};
 ghost use Rattle.body_rows.specs.Body.{rows_of};
-ghost use Rattle.edge_uses.specs.Named.{useName, useRun, rowNumbers, rowUses, BodyReady, NamesReady, RowsRoom};
+ghost use Rattle.edge_uses.specs.Named.{use_name, use_run, row_numbers, row_uses, BodyReady, NamesReady, RowsRoom};
 
 use edge_use_words::{name_row, run_row};
 use slice_fill::fill;
@@ -19,7 +19,7 @@ pub fn name_uses(
 )
     requires { NamesReady rows.now indices.now w.old points shells at }
     ensures { w.new ≡ sets w.old at
-        (map useName (rowUses (drop shells w.old) 0 (drop points w.old) (rows_of rows.now) indices.now)) }
+        (map use_name (row_uses (drop shells w.old) 0 (drop points w.old) (rows_of rows.now) indices.now)) }
 {
     let n = body_rows::row_count(rows);
     let mut k = 0;
@@ -40,7 +40,7 @@ pub fn name_uses(
 pub fn list_runs(rows: &[u32], indices: &[u32], w: &mut [u64], points: usize, at: usize)
     requires { BodyReady rows.now indices.now w.old points at }
     ensures { w.new ≡ sets w.old at
-        (map useRun (rowUses (replicate (length (rows_of rows.now)) 0) 0 (drop points w.old) (rows_of rows.now)
+        (map use_run (row_uses (replicate (length (rows_of rows.now)) 0) 0 (drop points w.old) (rows_of rows.now)
         indices.now)) }
 {
     let n = body_rows::row_count(rows);
@@ -60,7 +60,7 @@ pub fn list_runs(rows: &[u32], indices: &[u32], w: &mut [u64], points: usize, at
 // The row of each use.
 pub fn list_rows(rows: &[u32], w: &mut [u64], at: usize)
     requires { RowsRoom rows.now w.old at }
-    ensures { w.new ≡ sets w.old at (rowNumbers 0 (rows_of rows.now)) }
+    ensures { w.new ≡ sets w.old at (row_numbers 0 (rows_of rows.now)) }
 {
     let n = body_rows::row_count(rows);
     let mut k = 0;

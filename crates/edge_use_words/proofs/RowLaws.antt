@@ -5,19 +5,19 @@ use Prim.Native.Nat.{ℕ, suc, ◌+◌, ◌-◌, ◌%◌, ◌≤◌, ◌<◌}
 use native.Mathlib.Omega.{arith}
 use lib.ListN.{length, get_or, set, take, drop, length-append}
 use lib.Seq.{sets, length-sets, drop-cons, get_or-drop}
-use Rattle.lists.specs.Sets.{getD-sets-below, sets-append, three-stored}
-use Rattle.body_rows.specs.Body.{trianglesOf}
-use Rattle.edge_uses.specs.Edges.{Use, triangleUses}
+use Rattle.lists.specs.Sets.{get_d_sets_below, sets_append, three_stored}
+use Rattle.body_rows.specs.Body.{triangles_of}
+use Rattle.edge_uses.specs.Edges.{Use, triangle_uses}
 use Rattle.edge_uses.specs.Named.{PointReady, Low, RowReady}
-use Rattle.edge_uses.specs.UseLaws.{length-named}
+use Rattle.edge_uses.specs.UseLaws.{length_named}
 
 -- the uses of the triangles whose indices stand from k up to `to`
-abbrev pub usesBetween : List ℕ → List ℕ → ℕ → ℕ → ℕ → List Use
-usesBetween is P shell k to = triangleUses shell 0 P (trianglesOf (take (to - k) (drop k is)))
+abbrev pub uses_between : List ℕ → List ℕ → ℕ → ℕ → ℕ → List Use
+uses_between is P shell k to = triangle_uses shell 0 P (triangles_of (take (to - k) (drop k is)))
 
 -- three stores in turn of what equals three words are a run of these
-pub three-written : (W : List ℕ) (at : ℕ) {x y z x' y' z' : ℕ} → x ≡ x' → y ≡ y' → z ≡ z' → set (set (set W at x) (at + 1) y) (at + 2) z ≡ sets W at (x' ∷ y' ∷ z' ∷ [])
-three-written W at {x} {y} {z} ex ey ez = three-stored W at x y z ∙ (λ j. sets W at (ex j ∷ ey j ∷ ez j ∷ []))
+pub three_written : (W : List ℕ) (at : ℕ) {x y z x' y' z' : ℕ} → x ≡ x' → y ≡ y' → z ≡ z' → set (set (set W at x) (at + 1) y) (at + 2) z ≡ sets W at (x' ∷ y' ∷ z' ∷ [])
+three_written W at {x} {y} {z} ex ey ez = three_stored W at x y z ∙ (λ j. sets W at (ex j ∷ ey j ∷ ez j ∷ []))
 
 -- with the words of the triangles before index k written: W became w
 pub record Writing (word : Use → ℕ) (is W : List ℕ) (points from to at shell k : ℕ) (w : List ℕ) : Type 0 where
@@ -28,15 +28,15 @@ pub record Writing (word : Use → ℕ) (is W : List ℕ) (points from to at she
   pub count : from + length done ≡ k
   pub list : w ≡ sets W (at + from) (map word done)
   pub long : length w ≡ length W
-  pub rest : done ++ usesBetween is (drop points W) shell k to ≡ usesBetween is (drop points W) shell from to
+  pub rest : done ++ uses_between is (drop points W) shell k to ≡ uses_between is (drop points W) shell from to
 
-pub writing-none : (word : Use → ℕ) (shell : ℕ) {is W : List ℕ} {points vertices from to at : ℕ} → RowReady is W points vertices from to at → Writing word is W points from to at shell from W
-writing-none word shell r = record { done = []; low = omega arith; high = r.ordered; whole = r.whole; count = omega arith; list = refl; long = refl; rest = refl }
+pub writing_none : (word : Use → ℕ) (shell : ℕ) {is W : List ℕ} {points vertices from to at : ℕ} → RowReady is W points vertices from to at → Writing word is W points from to at shell from W
+writing_none word shell r = record { done = []; low = omega arith; high = r.ordered; whole = r.whole; count = omega arith; list = refl; long = refl; rest = refl }
 
 -- three indices, and those after them
-take-three : (is : List ℕ) (k to : ℕ) → k + 3 ≤ to → to ≤ length is
+take_three : (is : List ℕ) (k to : ℕ) → k + 3 ≤ to → to ≤ length is
     → take (to - k) (drop k is) ≡ get_or is k 0 ∷ get_or is (k + 1) 0 ∷ get_or is (k + 2) 0 ∷ take (to - (k + 3)) (drop (k + 3) is)
-take-three is k to h l =
+take_three is k to h l =
     let e : to - k ≡ suc (suc (suc (to - (k + 3)))) = omega arith in
     let a : k < length is = omega arith in
     let b : suc k < length is = omega arith in
@@ -53,18 +53,18 @@ take-three is k to h l =
     ∙ ap (λ (n : ℕ). get_or is k 0 ∷ get_or is (k + 1) 0 ∷ get_or is (k + 2) 0 ∷ take (to - (k + 3)) (drop n is)) e3
 
 -- a use between two points
-abbrev pub useOf : ℕ → ℕ → ℕ → Use
-useOf shell a b = record { shell = shell; row = 0; start = a; end = b }
+abbrev pub use_of : ℕ → ℕ → ℕ → Use
+use_of shell a b = record { shell = shell; row = 0; start = a; end = b }
 
 -- the uses of the triangle at index k, and those after it
-uses-three : (is P : List ℕ) (shell k to : ℕ) → k + 3 ≤ to → to ≤ length is
-    → usesBetween is P shell k to
-    ≡ useOf shell (get_or P (get_or is k 0) 0) (get_or P (get_or is (k + 1) 0) 0)
-    ∷ useOf shell (get_or P (get_or is (k + 1) 0) 0) (get_or P (get_or is (k + 2) 0) 0)
-    ∷ useOf shell (get_or P (get_or is (k + 2) 0) 0) (get_or P (get_or is k 0) 0)
-    ∷ usesBetween is P shell (k + 3) to
-unfolding triangleUses trianglesOf
-uses-three is P shell k to h l = ap (λ (xs : List ℕ). triangleUses shell 0 P (trianglesOf xs)) (take-three is k to h l)
+uses_three : (is P : List ℕ) (shell k to : ℕ) → k + 3 ≤ to → to ≤ length is
+    → uses_between is P shell k to
+    ≡ use_of shell (get_or P (get_or is k 0) 0) (get_or P (get_or is (k + 1) 0) 0)
+    ∷ use_of shell (get_or P (get_or is (k + 1) 0) 0) (get_or P (get_or is (k + 2) 0) 0)
+    ∷ use_of shell (get_or P (get_or is (k + 2) 0) 0) (get_or P (get_or is k 0) 0)
+    ∷ uses_between is P shell (k + 3) to
+unfolding triangle_uses triangles_of
+uses_three is P shell k to h l = ap (λ (xs : List ℕ). triangle_uses shell 0 P (triangles_of xs)) (take_three is k to h l)
 
 module _ {word : Use → ℕ} {is W w : List ℕ} {points vertices from to at shell k : ℕ} (r : RowReady is W points vertices from to at) (n : Writing word is W points from to at shell k w)
     (more : k < to) where
@@ -75,7 +75,7 @@ module _ {word : Use → ℕ} {is W w : List ℕ} {points vertices from to at sh
   read : (j : ℕ) → k ≤ j → j < k + 3 → get_or w (points + get_or is j 0) 0 ≡ get_or W (points + get_or is j 0) 0
   read j a b =
       ap (λ (l : List ℕ). get_or l (points + get_or is j 0) 0) n.list
-      ∙ getD-sets-below W (at + from) (map word n.done) (points + get_or is j 0) 0 (omega (arith, r.apart, r.below j (omega (arith, n.low)) (omega (arith, three))))
+      ∙ get_d_sets_below W (at + from) (map word n.done) (points + get_or is j 0) 0 (omega (arith, r.apart, r.below j (omega (arith, n.low)) (omega (arith, three))))
 
   ready : (j : ℕ) → k ≤ j → j < k + 3 → PointReady is w points j
   ready j a b =
@@ -84,31 +84,31 @@ module _ {word : Use → ℕ} {is W w : List ℕ} {points vertices from to at sh
         room = omega (arith, r.room, r.apart, n.low, n.long, r.below j (omega (arith, n.low)) (omega (arith, three)));
       }
 
-  pub point-ready-0 : PointReady is w points k
-  point-ready-0 = ready k (omega arith) (omega arith)
+  pub point_ready_0 : PointReady is w points k
+  point_ready_0 = ready k (omega arith) (omega arith)
 
-  pub point-ready-1 : PointReady is w points (k + 1)
-  point-ready-1 = ready (k + 1) (omega arith) (omega arith)
+  pub point_ready_1 : PointReady is w points (k + 1)
+  point_ready_1 = ready (k + 1) (omega arith) (omega arith)
 
-  pub point-ready-2 : PointReady is w points (k + 2)
-  point-ready-2 = ready (k + 2) (omega arith) (omega arith)
+  pub point_ready_2 : PointReady is w points (k + 2)
+  point_ready_2 = ready (k + 2) (omega arith) (omega arith)
 
-  pub three-room : at + k + 3 ≤ length w
-  three-room = omega (arith, r.room, three, n.long)
+  pub three_room : at + k + 3 ≤ length w
+  three_room = omega (arith, r.room, three, n.long)
 
-  point-low : (j : ℕ) → k ≤ j → j < k + 3 → get_or w (points + get_or is j 0) 0 < 262144
-  point-low j a b = subst (λ (x : ℕ). x < 262144) (sym (read j a b)) (r.low (get_or is j 0) (r.below j (omega (arith, n.low)) (omega (arith, three))))
+  point_low : (j : ℕ) → k ≤ j → j < k + 3 → get_or w (points + get_or is j 0) 0 < 262144
+  point_low j a b = subst (λ (x : ℕ). x < 262144) (sym (read j a b)) (r.low (get_or is j 0) (r.below j (omega (arith, n.low)) (omega (arith, three))))
 
   module _ {a b c : ℕ} (ea : a ≡ get_or w (points + get_or is k 0) 0) (eb : b ≡ get_or w (points + get_or is (k + 1) 0) 0) (ec : c ≡ get_or w (points + get_or is (k + 2) 0) 0) where
-    pub points-low : Low a b c
-    points-low =
+    pub points_low : Low a b c
+    points_low =
         record {
-          a-low = subst (λ (x : ℕ). x < 262144) (sym ea) (point-low k (omega arith) (omega arith));
-          b-low = subst (λ (x : ℕ). x < 262144) (sym eb) (point-low (k + 1) (omega arith) (omega arith));
-          c-low = subst (λ (x : ℕ). x < 262144) (sym ec) (point-low (k + 2) (omega arith) (omega arith));
+          a_low = subst (λ (x : ℕ). x < 262144) (sym ea) (point_low k (omega arith) (omega arith));
+          b_low = subst (λ (x : ℕ). x < 262144) (sym eb) (point_low (k + 1) (omega arith) (omega arith));
+          c_low = subst (λ (x : ℕ). x < 262144) (sym ec) (point_low (k + 2) (omega arith) (omega arith));
         }
 
-    pub writing_more : {v : List ℕ} → v ≡ sets w (at + k) (word (useOf shell a b) ∷ word (useOf shell b c) ∷ word (useOf shell c a) ∷ [])
+    pub writing_more : {v : List ℕ} → v ≡ sets w (at + k) (word (use_of shell a b) ∷ word (use_of shell b c) ∷ word (use_of shell c a) ∷ [])
         → Writing word is W points from to at shell (k + 3) v
     writing_more {v} e =
         record {
@@ -121,40 +121,40 @@ module _ {word : Use → ℕ} {is W w : List ℕ} {points vertices from to at sh
               e
               ∙ ap (λ (l : List ℕ). sets l (at + k) (map word us)) n.list
               ∙ ap (λ (m : ℕ). sets (sets W (at + from) (map word n.done)) m (map word us)) place
-              ∙ sym (sets-append W (at + from) (map word n.done) (map word us))
+              ∙ sym (sets_append W (at + from) (map word n.done) (map word us))
               ∙ ap (sets W (at + from)) (sym (map-append word n.done us));
           long = ap length e ∙ length-sets w (at + k) (map word us) ∙ n.long;
-          rest = append_assoc n.done us (usesBetween is P shell (k + 3) to) ∙ ap (λ (l : List Use). n.done ++ l) (sym here) ∙ n.rest;
+          rest = append_assoc n.done us (uses_between is P shell (k + 3) to) ∙ ap (λ (l : List Use). n.done ++ l) (sym here) ∙ n.rest;
         }
       where
         P : List ℕ
         P = drop points W
 
         us : List Use
-        us = useOf shell a b ∷ useOf shell b c ∷ useOf shell c a ∷ []
+        us = use_of shell a b ∷ use_of shell b c ∷ use_of shell c a ∷ []
 
         point : (j : ℕ) → k ≤ j → j < k + 3 → (x : ℕ) → x ≡ get_or w (points + get_or is j 0) 0 → get_or P (get_or is j 0) 0 ≡ x
         point j p q x g = get_or-drop points W (get_or is j 0) 0 ∙ sym (g ∙ read j p q)
 
         place : at + k ≡ at + from + length (map word n.done)
-        place = omega (arith, n.count, length-named word n.done)
+        place = omega (arith, n.count, length_named word n.done)
 
-        here : usesBetween is P shell k to ≡ us ++ usesBetween is P shell (k + 3) to
+        here : uses_between is P shell k to ≡ us ++ uses_between is P shell (k + 3) to
         here =
-            uses-three is P shell k to three r.inside
-            ∙ ap (λ (x : ℕ). useOf shell x (get_or P (get_or is (k + 1) 0) 0) ∷ useOf shell (get_or P (get_or is (k + 1) 0) 0) (get_or P (get_or is (k + 2) 0) 0) ∷ useOf shell (get_or P (get_or is (k + 2) 0) 0) x
-            ∷ usesBetween is P shell (k + 3) to) (point k (omega arith) (omega arith) a ea)
-            ∙ ap (λ (x : ℕ). useOf shell a x ∷ useOf shell x (get_or P (get_or is (k + 2) 0) 0) ∷ useOf shell (get_or P (get_or is (k + 2) 0) 0) a ∷ usesBetween is P shell (k + 3) to)
+            uses_three is P shell k to three r.inside
+            ∙ ap (λ (x : ℕ). use_of shell x (get_or P (get_or is (k + 1) 0) 0) ∷ use_of shell (get_or P (get_or is (k + 1) 0) 0) (get_or P (get_or is (k + 2) 0) 0) ∷ use_of shell (get_or P (get_or is (k + 2) 0) 0) x
+            ∷ uses_between is P shell (k + 3) to) (point k (omega arith) (omega arith) a ea)
+            ∙ ap (λ (x : ℕ). use_of shell a x ∷ use_of shell x (get_or P (get_or is (k + 2) 0) 0) ∷ use_of shell (get_or P (get_or is (k + 2) 0) 0) a ∷ uses_between is P shell (k + 3) to)
             (point (k + 1) (omega arith) (omega arith) b eb)
-            ∙ ap (λ (x : ℕ). useOf shell a b ∷ useOf shell b x ∷ useOf shell x a ∷ usesBetween is P shell (k + 3) to) (point (k + 2) (omega arith) (omega arith) c ec)
+            ∙ ap (λ (x : ℕ). use_of shell a b ∷ use_of shell b x ∷ use_of shell x a ∷ uses_between is P shell (k + 3) to) (point (k + 2) (omega arith) (omega arith) c ec)
 
-pub writing-all : {word : Use → ℕ} {is W w : List ℕ} {points from to at shell k : ℕ} → Writing word is W points from to at shell k w → to ≤ k
-    → w ≡ sets W (at + from) (map word (usesBetween is (drop points W) shell from to))
-unfolding triangleUses trianglesOf
-writing-all {word} {is} {W} {w} {points} {from} {to} {at} {shell} {k} n h =
+pub writing_all : {word : Use → ℕ} {is W w : List ℕ} {points from to at shell k : ℕ} → Writing word is W points from to at shell k w → to ≤ k
+    → w ≡ sets W (at + from) (map word (uses_between is (drop points W) shell from to))
+unfolding triangle_uses triangles_of
+writing_all {word} {is} {W} {w} {points} {from} {to} {at} {shell} {k} n h =
     n.list ∙ ap (λ (l : List Use). sets W (at + from) (map word l)) (sym (append-nil n.done) ∙ ap (λ (l : List Use). n.done ++ l) (sym none) ∙ n.rest)
   where
-    none : usesBetween is (drop points W) shell k to ≡ []
+    none : uses_between is (drop points W) shell k to ≡ []
     none =
         let e : to - k ≡ 0 = omega arith in
-        ap (λ (m : ℕ). triangleUses shell 0 (drop points W) (trianglesOf (take m (drop k is)))) e
+        ap (λ (m : ℕ). triangle_uses shell 0 (drop points W) (triangles_of (take m (drop k is)))) e

@@ -4,9 +4,9 @@ use Prim.Native.Nat.{ℕ, ◌≤◌, ◌<◌}
 use borrow.Author.Tests.{eq-eqb, ne_eqb, lt-ltb, le-ltb}
 use Rattle.edge_uses.specs.Named.{run_of}
 
-pub run-equal : {a b : ℕ} → a ≡ b → 2 ≡ run_of a b
+pub run_equal : {a b : ℕ} → a ≡ b → 2 ≡ run_of a b
 unfolding run_of
-run-equal {a} {b} e = rw (eq-eqb a b e)
+run_equal {a} {b} e = rw (eq-eqb a b e)
 
 pub run_up : {a b : ℕ} → (a ≡ b → ⊥) → a < b → 0 ≡ run_of a b
 unfolding run_of

@@ -2,9 +2,9 @@
 
 ghost use Rattle.std.specs.Prelude.{◌≡◌, map, ◌+◌, ◌-◌, take, drop};
 ghost use Rattle.std.proofs.lemmas.List.Edits.{sets};
-ghost use Rattle.body_rows.specs.Body.{trianglesOf};
-ghost use Rattle.edge_uses.specs.Edges.{triangleUses};
-ghost use Rattle.edge_uses.specs.Named.{useName, useRun, RowReady, NameReady};
+ghost use Rattle.body_rows.specs.Body.{triangles_of};
+ghost use Rattle.edge_uses.specs.Edges.{triangle_uses};
+ghost use Rattle.edge_uses.specs.Named.{use_name, use_run, RowReady, NameReady};
 
 use crate::words::{name_triangle, point_at, run_triangle};
 
@@ -22,7 +22,7 @@ pub fn name_row(
 )
     requires { NameReady indices.now w.old points vertices from to at shell }
     ensures { w.new ≡ sets w.old (at + from)
-        (map useName (triangleUses shell 0 (drop points w.old) (trianglesOf (take (to - from) (drop from indices.now))))) }
+        (map use_name (triangle_uses shell 0 (drop points w.old) (triangles_of (take (to - from) (drop from indices.now))))) }
 {
     let mut k = from;
     while k < to {
@@ -46,7 +46,7 @@ pub fn run_row(
 )
     requires { RowReady indices.now w.old points vertices from to at }
     ensures { w.new ≡ sets w.old (at + from)
-        (map useRun (triangleUses 0 0 (drop points w.old) (trianglesOf (take (to - from) (drop from indices.now))))) }
+        (map use_run (triangle_uses 0 0 (drop points w.old) (triangles_of (take (to - from) (drop from indices.now))))) }
 {
     let mut k = from;
     while k < to {

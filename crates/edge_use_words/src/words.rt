@@ -2,14 +2,14 @@
 
 ghost use Rattle.std.specs.Prelude.{◌≡◌, [], ◌∷◌, ◌+◌, ◌≤◌, length, get_or};
 ghost use Rattle.std.proofs.lemmas.List.Edits.{sets};
-ghost use Rattle.edge_uses.specs.Named.{Ends, edgeName, run_of, PointReady, TriangleReady};
+ghost use Rattle.edge_uses.specs.Named.{Ends, edge_name, run_of, PointReady, TriangleReady};
 
 use edge_uses::{DOWNWARD, EQUAL_ENDS, MOST_POINTS, UPWARD};
 
 // The name of the edge between two points of a shell, the same both ways round.
 pub fn edge_name(shell: u64, a: u64, b: u64) -> u64
     requires { Ends shell a b }
-    ensures { result ≡ edgeName shell a b }
+    ensures { result ≡ edge_name shell a b }
 {
     if a < b {
         return (shell * MOST_POINTS + a) * MOST_POINTS + b;
@@ -41,7 +41,7 @@ pub fn point_at(indices: &[u32], w: &[u64], points: usize, k: usize) -> u64
 // The names of the three uses of one triangle.
 pub fn name_triangle(w: &mut [u64], at: usize, shell: u64, a: u64, b: u64, c: u64)
     requires { TriangleReady w.old at shell a b c }
-    ensures { w.new ≡ sets w.old at (edgeName shell a b ∷ edgeName shell b c ∷ edgeName shell c a ∷ []) }
+    ensures { w.new ≡ sets w.old at (edge_name shell a b ∷ edge_name shell b c ∷ edge_name shell c a ∷ []) }
 {
     w[at] = edge_name(shell, a, b);
     w[at + 1] = edge_name(shell, b, c);

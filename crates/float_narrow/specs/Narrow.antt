@@ -10,5 +10,5 @@ narrow nan = nan
 narrow (inf s) = inf s
 narrow (fin s m e) = round binary32 s (m * up e) (down e)
 
-abbrev pub narrowBits : ℕ → ℕ
-narrowBits b = bits32 (narrow (f64 b))
+abbrev pub narrow_bits : ℕ → ℕ
+narrow_bits b = bits32 (narrow (f64 b))

@@ -6,23 +6,23 @@ use Rattle.std.specs.Float.Ieee.{up, down, round}
 use Rattle.std.specs.Float.Ieee.Exact.{HasValue}
 use Rattle.std.specs.Float.Ieee.Fits.{down_pos}
 use Rattle.std.specs.Float.Ieee.Scale.{round_same, grid, overflow}
-use Rattle.float_rounding.specs.Near.{Within, grid-near, round_val}
+use Rattle.float_rounding.specs.Near.{Within, grid_near, round_val}
 use Rattle.float_narrow.specs.Narrow.{narrow}
 
 -- a / c, whatever the fraction
-pub narrow-value : (x : Float) (s : Bool) (a c : ℕ) → 0 < c → HasValue x s a c → narrow x ≡ round binary32 s a c
+pub narrow_value : (x : Float) (s : Bool) (a c : ℕ) → 0 < c → HasValue x s a c → narrow x ≡ round binary32 s a c
 unfolding narrow
-narrow-value nan s a c C h = absurd h
-narrow-value (inf t) s a c C h = absurd h
-narrow-value (fin t m e) s a c C h = ap (λ (b : Bool). round binary32 b (m * up e) (down e)) h.0 ∙ round_same binary32 s (m * up e) (down e) a c (down_pos e) C h.1
+narrow_value nan s a c C h = absurd h
+narrow_value (inf t) s a c C h = absurd h
+narrow_value (fin t m e) s a c C h = ap (λ (b : Bool). round binary32 b (m * up e) (down e)) h.0 ∙ round_same binary32 s (m * up e) (down e) a c (down_pos e) C h.1
 
 -- The narrowed value of a / c is `grid` of the smallest f32 values. It is off by a part in 2 ^ 24 of a / c at most, or by half of the smallest value.
 pub record Narrowed (x : Float) (s : Bool) (a c : ℕ) : Type 0 where
   pub is : HasValue (narrow x) s (grid binary32 a c) (2 ^ 149)
   pub near : Within (grid binary32 a c * c * 2 ^ 24) (a * 2 ^ 149 * 2 ^ 24) (a * 2 ^ 149) ⊎ Within (grid binary32 a c * c * 2) (a * 2 ^ 149 * 2) c
 
-pub narrow-near : (x : Float) (s : Bool) (a c : ℕ) → 0 < c → HasValue x s a c → grid binary32 a c < overflow binary32 → Narrowed x s a c
-narrow-near x s a c C h l = record {
-  is = subst (λ (y : Float). HasValue y s (grid binary32 a c) (2 ^ 149)) (sym (narrow-value x s a c C h)) (round_val binary32 s a c l);
-  near = grid-near binary32 a c C;
+pub narrow_near : (x : Float) (s : Bool) (a c : ℕ) → 0 < c → HasValue x s a c → grid binary32 a c < overflow binary32 → Narrowed x s a c
+narrow_near x s a c C h l = record {
+  is = subst (λ (y : Float). HasValue y s (grid binary32 a c) (2 ^ 149)) (sym (narrow_value x s a c C h)) (round_val binary32 s a c l);
+  near = grid_near binary32 a c C;
 }

@@ -2,7 +2,7 @@
 
 ghost use Rattle.std.specs.Prelude.{◌≡◌, ◌^◌, ◌<◌};
 ghost use Rattle.std.specs.Float.Ieee.Nearest.{closest};
-ghost use Rattle.float_narrow.specs.Narrow.{narrow, narrowBits};
+ghost use Rattle.float_narrow.specs.Narrow.{narrow, narrow_bits};
 
 use float_steps::{bits_of_f64, f32_of_bits, power};
 
@@ -20,7 +20,7 @@ fn nearest(m: u64, k: u64) -> u64
 // The bits of the f32 nearest to the f64 with the bits b. From an exponent's field of 897 on it is normal or an infinity, from 872 on subnormal, and
 // below that a zero.
 pub fn narrow(b: u64) -> u32
-    ensures { result ≡ narrowBits b }
+    ensures { result ≡ narrow_bits b }
 {
     let s = b / 0x8000_0000_0000_0000 * 0x8000_0000;
     let e = b % 0x8000_0000_0000_0000 / 0x10_0000_0000_0000;

@@ -5,14 +5,14 @@ use Rattle.std.specs.Float.Ieee.{up, down, round}
 use Rattle.float_steps.specs.Floats.{f64, bits64}
 
 -- a / c to the nearest whole number, halves up
-abbrev pub halfUp : ℕ → ℕ → ℕ
-halfUp a c = (a * 2 + c) / (c * 2)
+abbrev pub half_up : ℕ → ℕ → ℕ
+half_up a c = (a * 2 + c) / (c * 2)
 
 -- Rounding is to the nearest whole number, halves away from zero, with the sign kept (5.9, roundToIntegralTiesToAway).
-unfoldable pub roundAway : Float → Float
-roundAway nan = nan
-roundAway (inf s) = inf s
-roundAway (fin s m e) = round binary64 s (halfUp (m * up e) (down e)) 1
+unfoldable pub round_away : Float → Float
+round_away nan = nan
+round_away (inf s) = inf s
+round_away (fin s m e) = round binary64 s (half_up (m * up e) (down e)) 1
 
-abbrev pub roundBits : ℕ → ℕ
-roundBits b = bits64 (roundAway (f64 b))
+abbrev pub round_bits : ℕ → ℕ
+round_bits b = bits64 (round_away (f64 b))

@@ -1,7 +1,7 @@
 // Rounding an f64 to the nearest whole number, halves away from zero, in integers.
 
 ghost use Rattle.std.specs.Prelude.{◌≡◌, ◌*◌, ◌^◌, ◌<◌, ◌≤◌};
-ghost use Rattle.float_round.specs.Integral.{halfUp, roundAway, roundBits};
+ghost use Rattle.float_round.specs.Integral.{half_up, round_away, round_bits};
 
 use float_steps::{bits_of_f64, f64_of_bits, power};
 
@@ -9,7 +9,7 @@ use float_steps::{bits_of_f64, f64_of_bits, power};
 fn rounded(m: u64, k: u64) -> u64
     requires m_bound { m < 2 ^ 53 }
     requires k_bound { k ≤ 53 }
-    ensures { result ≡ halfUp m (2 ^ k) * 2 ^ k }
+    ensures { result ≡ half_up m (2 ^ k) * 2 ^ k }
 {
     let u = power(k);
     ((m * 2 + u) >> (k + 1)) * u
@@ -17,7 +17,7 @@ fn rounded(m: u64, k: u64) -> u64
 
 // The bits of the whole number nearest to the f64 with the bits b. Below an exponent's field of 1022 it is a zero, and from 1075 on the value is whole.
 pub fn round(b: u64) -> u64
-    ensures { result ≡ roundBits b }
+    ensures { result ≡ round_bits b }
 {
     let s = b / 0x8000_0000_0000_0000 * 0x8000_0000_0000_0000;
     let e = b % 0x8000_0000_0000_0000 / 0x10_0000_0000_0000;
@@ -36,7 +36,7 @@ pub fn round(b: u64) -> u64
 
 // The whole number nearest to x, as a float.
 pub fn round_f64(x: f64) -> f64
-    ensures { result ≡ roundAway x }
+    ensures { result ≡ round_away x }
 {
     f64_of_bits(round(bits_of_f64(x)))
 }

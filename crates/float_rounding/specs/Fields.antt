@@ -27,16 +27,16 @@ fields_value f s (suc x) t h =
     pred x = omega arith
 
 -- the highest field: an infinity with no digits, else a NaN
-pub fields-inf : (f : Format) (s : Bool) (x t : ℕ) → suc x ≡ ones f → t ≡ 0 → of_fields f s (suc x) t ≡ inf s
+pub fields_inf : (f : Format) (s : Bool) (x t : ℕ) → suc x ≡ ones f → t ≡ 0 → of_fields f s (suc x) t ≡ inf s
 unfolding of_fields
-fields-inf f s x t p q =
+fields_inf f s x t p q =
     ap (λ (b : Bool). cond b (cond (eqb t 0) (inf s) nan) (odd (prec f) s (hid f + t) x (low f))) (is_true (eqb (suc x) (ones f)) (eq→eqb p))
     ∙ ap (λ (b : Bool). cond b (inf s) nan) (is_true (eqb t 0) (eq→eqb q))
 
 -- the digits of a field above 0
-pub digits-normal : (f : Format) (e t : ℕ) → 0 < e → digits f e t ≡ hid f + t
-digits-normal f zero t h = absurd (lt_irrefl 0 h)
-digits-normal f (suc x) t h = refl
+pub digits_normal : (f : Format) (e t : ℕ) → 0 < e → digits f e t ≡ hid f + t
+digits_normal f zero t h = absurd (lt_irrefl 0 h)
+digits_normal f (suc x) t h = refl
 
 pub digits_lt : (f : Format) (e t : ℕ) → t < hid f → digits f e t < 2 ^ prec f
 digits_lt f e t h = go e (twice (prec f) (two-le_pos (prec f) (two f)))
@@ -46,25 +46,25 @@ digits_lt f e t h = go e (twice (prec f) (two-le_pos (prec f) (two f)))
     go (suc x) w = omega arith
 
 -- ---- any pattern
-pub bits-fields : (f : Format) (b : ℕ) → of_bits f b ≡ of_fields f (leb (top f) b) (b % top f / hid f) (b % hid f)
+pub bits_fields : (f : Format) (b : ℕ) → of_bits f b ≡ of_fields f (leb (top f) b) (b % top f / hid f) (b % hid f)
 unfolding of_bits
-bits-fields f b = refl
+bits_fields f b = refl
 
 -- a NaN's pattern is above the infinity's, the sign aside
-is-nan : (x : Float) → is_nan x ≡ true → x ≡ nan
+is_nan_lem : (x : Float) → is_nan x ≡ true → x ≡ nan
 unfolding is_nan
-is-nan nan e = refl
-is-nan (inf s) e = absurd (true≢false (sym e))
-is-nan (fin s m d) e = absurd (true≢false (sym e))
+is_nan_lem nan e = refl
+is_nan_lem (inf s) e = absurd (true≢false (sym e))
+is_nan_lem (fin s m d) e = absurd (true≢false (sym e))
 
-pub nan-above : (f : Format) (b : ℕ) → ones f * hid f < b % top f → of_bits f b ≡ nan
-nan-above f b h = is-nan (of_bits f b) (sym (nan_bits_is f b) ∙ nan_bits_above f b ∙ lt-ltb (ones f * hid f) (b % top f) h)
+pub nan_above : (f : Format) (b : ℕ) → ones f * hid f < b % top f → of_bits f b ≡ nan
+nan_above f b h = is_nan_lem (of_bits f b) (sym (nan_bits_is f b) ∙ nan_bits_above f b ∙ lt-ltb (ones f * hid f) (b % top f) h)
 
-pub no-nan-bits : (f : Format) (b : ℕ) → b % top f ≤ ones f * hid f → T (not (nan_bits f b))
-no-nan-bits f b h = subst (λ (t : Bool). T (not t)) (sym (nan_bits_above f b ∙ le-ltb (ones f * hid f) (b % top f) h)) tt
+pub no_nan_bits : (f : Format) (b : ℕ) → b % top f ≤ ones f * hid f → T (not (nan_bits f b))
+no_nan_bits f b h = subst (λ (t : Bool). T (not t)) (sym (nan_bits_above f b ∙ le-ltb (ones f * hid f) (b % top f) h)) tt
 
-pub no-nan-below : (f : Format) (b : ℕ) → b % top f ≤ ones f * hid f → T (not (is_nan (of_bits f b)))
-no-nan-below f b h = subst (λ (t : Bool). T (not t)) (nan_bits_is f b) (no-nan-bits f b h)
+pub no_nan_below : (f : Format) (b : ℕ) → b % top f ≤ ones f * hid f → T (not (is_nan (of_bits f b)))
+no_nan_below f b h = subst (λ (t : Bool). T (not t)) (nan_bits_is f b) (no_nan_bits f b h)
 
 -- only a NaN differs from itself
 pub equals_itself : (x : Float) → ne x x ≡ false → T (not (is_nan x))

@@ -71,13 +71,13 @@ held f (fin s (suc m) e) h k =
     (ltb→lt (suc m * up e) (2 ^ suc (emax f) * down e) (and_r (A && B && C) D h))
 
 -- ---- the product by the factors' fractions
-pub mul-same : (f : Format) (x y : Float) (s : Bool) (a c : ℕ) (t : Bool) (b d : ℕ) → 0 < c → 0 < d → HasValue x s a c → HasValue y t b d → mul f x y ≡ round f (unlike s t) (a * b) (c * d)
+pub mul_same : (f : Format) (x y : Float) (s : Bool) (a c : ℕ) (t : Bool) (b d : ℕ) → 0 < c → 0 < d → HasValue x s a c → HasValue y t b d → mul f x y ≡ round f (unlike s t) (a * b) (c * d)
 unfolding mul
-mul-same f nan y s a c t b d C D p q = absurd p
-mul-same f (inf u) y s a c t b d C D p q = absurd p
-mul-same f (fin u m e) nan s a c t b d C D p q = absurd q
-mul-same f (fin u m e) (inf v) s a c t b d C D p q = absurd q
-mul-same f (fin u m e) (fin v n g) s a c t b d C D p q =
+mul_same f nan y s a c t b d C D p q = absurd p
+mul_same f (inf u) y s a c t b d C D p q = absurd p
+mul_same f (fin u m e) nan s a c t b d C D p q = absurd q
+mul_same f (fin u m e) (inf v) s a c t b d C D p q = absurd q
+mul_same f (fin u m e) (fin v n g) s a c t b d C D p q =
     ap (λ (z : Bool). round f (unlike z v) (m * up e * (n * up g)) (down e * down g)) p.0
     ∙ ap (λ (z : Bool). round f (unlike s z) (m * up e * (n * up g)) (down e * down g)) q.0
     ∙ round_same f (unlike s t) (m * up e * (n * up g)) (down e * down g) (a * b) (c * d) (mul-pos (down_pos e) (down_pos g)) (mul-pos C D)
@@ -85,12 +85,12 @@ mul-same f (fin u m e) (fin v n g) s a c t b d C D p q =
 
 -- ---- two f32, as f64
 -- the product of two numbers below N, where N * N is no more than K
-product-below : (a b N K : ℕ) → N * N ≤ K → a < N → b < N → a * b < K
-product-below a b N K l h k = omega (arith, mul-le-mul h k)
+product_below : (a b N K : ℕ) → N * N ≤ K → a < N → b < N → a * b < K
+product_below a b N K l h k = omega (arith, mul-le-mul h k)
 
-pub mul-exact : (x y : Float) (hx : Held binary32 x) (hy : Held binary32 y)
+pub mul_exact : (x y : Float) (hx : Held binary32 x) (hy : Held binary32 y)
     → HasValue (mul binary64 x y) (unlike hx.sign hy.sign) (hx.digits * 2 ^ hx.shift * (hy.digits * 2 ^ hy.shift)) (2 ^ 149 * 2 ^ 149)
-mul-exact x y hx hy =
+mul_exact x y hx hy =
     let m = hx.digits in
     let n = hy.digits in
     let j = hx.shift in
@@ -100,7 +100,7 @@ mul-exact x y hx hy =
     let b = n * 2 ^ k in
     let e : a * b ≡ m * n * 2 ^ (j + k) = mul-mul-mul_comm m (2 ^ j) n (2 ^ k) ∙ ap (λ (z : ℕ). m * n * z) (sym (pow-add 2 j k)) in
     let g : a * b * 2 ^ 776 ≡ m * n * 2 ^ (j + k + 776) = ap (λ (z : ℕ). z * 2 ^ 776) e ∙ mul_assoc (m * n) (2 ^ (j + k)) (2 ^ 776) ∙ ap (λ (z : ℕ). m * n * z) (sym (pow-add 2 (j + k) 776)) in
-    subst (λ (z : Float). HasValue z r (a * b) (2 ^ 149 * 2 ^ 149)) (sym (mul-same binary64 x y hx.sign a (2 ^ 149) hy.sign b (2 ^ 149) (pow_pos 149) (pow_pos 149) hx.is hy.is))
-    (round_exact binary64 r (a * b) (2 ^ 149 * 2 ^ 149) (m * n) (j + k + 776) (mul-pos (pow_pos 149) (pow_pos 149)) (product-below m n (2 ^ 24) (2 ^ 53) (lit≤ tt) hx.small hy.small)
-    (subst (λ (z : ℕ). z < 2 ^ 2098) g (lt_of_lt_of_le (mul-lt-mul_of_pos_right (product-below a b (2 ^ 277) (2 ^ 554) (lit≤ tt) hx.under hy.under) (pow_pos 776)) (lit≤ tt)))
+    subst (λ (z : Float). HasValue z r (a * b) (2 ^ 149 * 2 ^ 149)) (sym (mul_same binary64 x y hx.sign a (2 ^ 149) hy.sign b (2 ^ 149) (pow_pos 149) (pow_pos 149) hx.is hy.is))
+    (round_exact binary64 r (a * b) (2 ^ 149 * 2 ^ 149) (m * n) (j + k + 776) (mul-pos (pow_pos 149) (pow_pos 149)) (product_below m n (2 ^ 24) (2 ^ 53) (lit≤ tt) hx.small hy.small)
+    (subst (λ (z : ℕ). z < 2 ^ 2098) g (lt_of_lt_of_le (mul-lt-mul_of_pos_right (product_below a b (2 ^ 277) (2 ^ 554) (lit≤ tt) hx.under hy.under) (pow_pos 776)) (lit≤ tt)))
     (sym (mul_assoc (a * b) (2 ^ 776) (2 ^ 298)) ∙ ap (λ (z : ℕ). z * 2 ^ 298) g))

@@ -7,8 +7,8 @@ use Rattle.std.specs.Float.Ieee.{prec, low, unlike, up, down, round, mul, div}
 use Rattle.std.specs.Float.Ieee.Fits.{up_pos, down_pos, two, two-le_pos}
 use Rattle.std.specs.Float.Ieee.Exact.{HasValue}
 use Rattle.std.specs.Float.Ieee.Scale.{round_same, grid, overflow}
-use Rattle.float_rounding.specs.Near.{Within, plus, less, Off, grid-near, round_val}
-use Rattle.float_rounding.specs.Held.{mul-same}
+use Rattle.float_rounding.specs.Near.{Within, plus, less, Off, grid_near, round_val}
+use Rattle.float_rounding.specs.Held.{mul_same}
 
 -- x, of the format f, is a whole number of units near (A - B) / c: the error is a part in 2 ^ prec of any e that bounds the size of A - B, and c * 2 ^ (prec - 1) too unless A - B is 0.
 pub record Scaled (f : Format) (x : Float) (c A B : ℕ) : Type 0 where
@@ -27,16 +27,16 @@ module _ (f : Format) (w c : ℕ) (C : 0 < c) where
   q = grid f w (c * 2 ^ low f)
 
   near : Within (q * c * 2 ^ prec f) (w * 2 ^ prec f) w ⊎ Within (q * c * 2) (w * 2) c
-  near = cancel (2 ^ prec f) (2 ^ low f) q c w (pow_pos (low f)) (grid-near f w (c * 2 ^ low f) (mul-pos C (pow_pos (low f))))
+  near = cancel (2 ^ prec f) (2 ^ low f) q c w (pow_pos (low f)) (grid_near f w (c * 2 ^ low f) (mul-pos C (pow_pos (low f))))
 
   -- below twice, and one more
   bound : (P q : ℕ) → 2 ≤ P → Within (q * c * P) (w * P) w ⊎ Within (q * c * 2) (w * 2) c → q * c ≤ w * 2 + c
   bound P r t (inl h) =
-      let k : r * c ≤ w * 2 = le_of_mul-le-mul_right (omega (arith, h.hi, mul-le-mul_left w t)) pos-P in
+      let k : r * c ≤ w * 2 = le_of_mul-le-mul_right (omega (arith, h.hi, mul-le-mul_left w t)) pos_P in
       omega arith
     where
-      pos-P : 0 < P
-      pos-P = omega arith
+      pos_P : 0 < P
+      pos_P = omega arith
   bound P r t (inr h) = omega (arith, h.hi)
 
   under : w * 2 + c < overflow f * c → q < overflow f
@@ -55,14 +55,14 @@ module _ (f : Format) (w c : ℕ) (C : 0 < c) where
       none zero k = record { hi = omega arith; lo = omega (arith, ap (λ (x : ℕ). x * P) z) }
       none (suc q) k = omega arith
 
-  pub round-scaled : (s : Bool) → w * 2 + c < overflow f * c → Scaled f (round f s w (c * 2 ^ low f)) c (plus s w) (less s w)
-  round-scaled false h = record {
+  pub round_scaled : (s : Bool) → w * 2 + c < overflow f * c → Scaled f (round f s w (c * 2 ^ low f)) c (plus s w) (less s w)
+  round_scaled false h = record {
     sign = false;
     size = q;
     is = round_val f false w (c * 2 ^ low f) (under h);
     off = λ e z k. let n = within (2 ^ prec f) q e (omega (arith, z.hi)) k near in record { hi = omega (arith, n.hi); lo = omega (arith, n.lo) };
   }
-  round-scaled true h = record {
+  round_scaled true h = record {
     sign = true;
     size = q;
     is = round_val f true w (c * 2 ^ low f) (under h);
@@ -74,40 +74,40 @@ module _ (f : Format) (w c : ℕ) (C : 0 < c) where
       flip (inr x) = inr x
 
 -- ---- the product: x is a / c, and y is b units
-pub mul-scaled : (f : Format) (x y : Float) (s : Bool) (a c : ℕ) (t : Bool) (b : ℕ) → 0 < c → HasValue x s a c → HasValue y t b (2 ^ low f) → a * b * 2 + c < overflow f * c
+pub mul_scaled : (f : Format) (x y : Float) (s : Bool) (a c : ℕ) (t : Bool) (b : ℕ) → 0 < c → HasValue x s a c → HasValue y t b (2 ^ low f) → a * b * 2 + c < overflow f * c
     → Scaled f (mul f x y) c (plus (unlike s t) (a * b)) (less (unlike s t) (a * b))
-mul-scaled f x y s a c t b C p q h =
-    subst (λ (z : Float). Scaled f z c (plus (unlike s t) (a * b)) (less (unlike s t) (a * b))) (sym (mul-same f x y s a c t b (2 ^ low f) C (pow_pos (low f)) p q))
-    (round-scaled f (a * b) c C (unlike s t) h)
+mul_scaled f x y s a c t b C p q h =
+    subst (λ (z : Float). Scaled f z c (plus (unlike s t) (a * b)) (less (unlike s t) (a * b))) (sym (mul_same f x y s a c t b (2 ^ low f) C (pow_pos (low f)) p q))
+    (round_scaled f (a * b) c C (unlike s t) h)
 
 -- ---- the quotient by a whole number c above 0: x is a units
-cond-zero : {X : Type 0} (n : ℕ) (x y : X) → 0 < n → cond (eqb n 0) x y ≡ y
-cond-zero zero x y h = absurd (lt_irrefl 0 h)
-cond-zero (suc n) x y h = ap (λ (b : Bool). cond b x y) (eqb-suc-zero n)
+cond_zero : {X : Type 0} (n : ℕ) (x y : X) → 0 < n → cond (eqb n 0) x y ≡ y
+cond_zero zero x y h = absurd (lt_irrefl 0 h)
+cond_zero (suc n) x y h = ap (λ (b : Bool). cond b x y) (eqb-suc-zero n)
 
-left-pos : (n u c d : ℕ) → 0 < c → 0 < d → n * u * 1 ≡ c * d → 0 < n
-left-pos zero u c d C D e = absurd (lt_irrefl 0 (subst (λ (x : ℕ). 0 < x) (sym e ∙ ap (λ (x : ℕ). x * 1) (zero-mul u) ∙ zero-mul 1) (mul-pos C D)))
-left-pos (suc n) u c d C D e = zero-lt-suc n
+left_pos : (n u c d : ℕ) → 0 < c → 0 < d → n * u * 1 ≡ c * d → 0 < n
+left_pos zero u c d C D e = absurd (lt_irrefl 0 (subst (λ (x : ℕ). 0 < x) (sym e ∙ ap (λ (x : ℕ). x * 1) (zero-mul u) ∙ zero-mul 1) (mul-pos C D)))
+left_pos (suc n) u c d C D e = zero-lt-suc n
 
-pub div-scaled : (f : Format) (x y : Float) (s : Bool) (a c : ℕ) → 0 < c → HasValue x s a (2 ^ low f) → HasValue y false c 1 → a * 2 + c < overflow f * c
+pub div_scaled : (f : Format) (x y : Float) (s : Bool) (a c : ℕ) → 0 < c → HasValue x s a (2 ^ low f) → HasValue y false c 1 → a * 2 + c < overflow f * c
     → Scaled f (div f x y) c (plus s a) (less s a)
 unfolding div
-div-scaled f nan y s a c C p q h = absurd p
-div-scaled f (inf u) y s a c C p q h = absurd p
-div-scaled f (fin u m e) nan s a c C p q h = absurd q
-div-scaled f (fin u m e) (inf v) s a c C p q h = absurd q
-div-scaled f (fin u m e) (fin v n d) s a c C p q h =
+div_scaled f nan y s a c C p q h = absurd p
+div_scaled f (inf u) y s a c C p q h = absurd p
+div_scaled f (fin u m e) nan s a c C p q h = absurd q
+div_scaled f (fin u m e) (inf v) s a c C p q h = absurd q
+div_scaled f (fin u m e) (fin v n d) s a c C p q h =
     let L = 2 ^ low f in
-    let N : 0 < n = left-pos n (up d) c (down d) C (down_pos d) q.1 in
+    let N : 0 < n = left_pos n (up d) c (down d) C (down_pos d) q.1 in
     let x : m * up e * down d * (c * L) ≡ a * (n * up d * down e) =
     omega (arith, ap (λ (z : ℕ). z * (c * down d)) p.1, ap (λ (z : ℕ). a * down e * z) q.1) in
     let k : cond (eqb n 0) (cond (eqb m 0) nan (inf (unlike u v))) (round f (unlike u v) (m * up e * down d) (n * up d * down e)) ≡ round f s a (c * L) =
-    cond-zero n (cond (eqb m 0) nan (inf (unlike u v))) (round f (unlike u v) (m * up e * down d) (n * up d * down e)) N
+    cond_zero n (cond (eqb m 0) nan (inf (unlike u v))) (round f (unlike u v) (m * up e * down d) (n * up d * down e)) N
     ∙ ap (λ (z : Bool). round f (unlike z v) (m * up e * down d) (n * up d * down e)) p.0
     ∙ ap (λ (z : Bool). round f (unlike s z) (m * up e * down d) (n * up d * down e)) q.0
     ∙ ap (λ (z : Bool). round f z (m * up e * down d) (n * up d * down e)) (like s)
     ∙ round_same f s (m * up e * down d) (n * up d * down e) a (c * L) (mul-pos (mul-pos N (up_pos d)) (down_pos e)) (mul-pos C (pow_pos (low f))) x in
-    subst (λ (z : Float). Scaled f z c (plus s a) (less s a)) (sym k) (round-scaled f a c C s h)
+    subst (λ (z : Float). Scaled f z c (plus s a) (less s a)) (sym k) (round_scaled f a c C s h)
   where
     like : (s : Bool) → unlike s false ≡ s
     like true = refl

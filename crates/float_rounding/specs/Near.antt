@@ -33,33 +33,33 @@ pub record Within (x y e : ℕ) : Type 0 where
   pub lo : y ≤ x + e
 
 -- ---- the nearest whole number is off by half at most
-tie-half : (q b r : ℕ) → r * 2 ≡ b → Within ((q + q % 2) * b * 2) ((q * b + r) * 2) b
-tie-half q b r e = go (q % 2) (le-one q)
+tie_half : (q b r : ℕ) → r * 2 ≡ b → Within ((q + q % 2) * b * 2) ((q * b + r) * 2) b
+tie_half q b r e = go (q % 2) (le_one q)
   where
-    le-one : (q : ℕ) → q % 2 < 2
-    le-one q = omega arith
+    le_one : (q : ℕ) → q % 2 < 2
+    le_one q = omega arith
 
     go : (t : ℕ) → t < 2 → Within ((q + t) * b * 2) ((q * b + r) * 2) b
     go zero h = omega arith
     go (suc zero) h = omega arith
     go (suc (suc t)) h = omega arith
 
-near-half : (q b r : ℕ) (o : Ordering) → r < b → Cmp o (r * 2) b → Within (nearest q o * b * 2) ((q * b + r) * 2) b
-near-half q b r Ordering.lt h c = omega arith
-near-half q b r Ordering.eq h c = tie-half q b r c
-near-half q b r Ordering.gt h c = omega arith
+near_half : (q b r : ℕ) (o : Ordering) → r < b → Cmp o (r * 2) b → Within (nearest q o * b * 2) ((q * b + r) * 2) b
+near_half q b r Ordering.lt h c = omega arith
+near_half q b r Ordering.eq h c = tie_half q b r c
+near_half q b r Ordering.gt h c = omega arith
 
-pub closest-half : (a b : ℕ) → 0 < b → Within (closest a b * b * 2) (a * 2) b
-closest-half a b B =
+pub closest_half : (a b : ℕ) → 0 < b → Within (closest a b * b * 2) (a * 2) b
+closest_half a b B =
     subst (λ (x : ℕ). Within (closest a b * b * 2) (x * 2) b) (div-add-mod' a b)
-    (near-half (a / b) b (a % b) (compare (a % b * 2) b) (mod-lt a B) (cmp (a % b * 2) b))
+    (near_half (a / b) b (a % b) (compare (a % b * 2) b) (mod-lt a B) (cmp (a % b * 2) b))
 
 -- ---- n / den in units, for a format of p digits: `grid` is off by half of 2 ^ drop, and 2 ^ drop is 1 or at most a part in 2 ^ (p - 1) of the whole
 all_in_use : (z p : ℕ) → 0 < p → 0 < z - p → p - 1 + (z - p) < z
 all_in_use z p P h = omega arith
 
-pub drop-small : (p n den : ℕ) → 0 < p → 0 < den → (drop p n den ≡ 0) ⊎ (2 ^ (p - 1) * (den * 2 ^ drop p n den) ≤ n)
-drop-small p n den P D = go (eq-zero-or-pos (drop p n den))
+pub drop_small : (p n den : ℕ) → 0 < p → 0 < den → (drop p n den ≡ 0) ⊎ (2 ^ (p - 1) * (den * 2 ^ drop p n den) ≤ n)
+drop_small p n den P D = go (eq-zero-or-pos (drop p n den))
   where
     go : (drop p n den ≡ 0) ⊎ (0 < drop p n den) → (drop p n den ≡ 0) ⊎ (2 ^ (p - 1) * (den * 2 ^ drop p n den) ≤ n)
     go (inl z) = inl z
@@ -73,22 +73,22 @@ pub at_drop : (p n den : ℕ) → 0 < den → Within (kept p n den * 2 ^ drop p 
 at_drop p n den D =
     let k = drop p n den in
     subst (λ (x : ℕ). Within (x * 2) (n * 2) (den * 2 ^ k)) (simp (mul_assoc, mul_comm, mul_left_comm))
-    (closest-half n (den * 2 ^ k) (mul-pos D (pow_pos k)))
+    (closest_half n (den * 2 ^ k) (mul-pos D (pow_pos k)))
 
 -- a power of two is twice the one before
 pub twice : (p : ℕ) → 0 < p → 2 ^ p ≡ 2 * 2 ^ (p - 1)
-twice p h = ap (λ (x : ℕ). 2 ^ x) (sym (pred p h)) ∙ two-pow (p - 1)
+twice p h = ap (λ (x : ℕ). 2 ^ x) (sym (pred p h)) ∙ two_pow (p - 1)
   where
     pred : (p : ℕ) → 0 < p → suc (p - 1) ≡ p
     pred p h = omega arith
 
-    two-pow : (k : ℕ) → 2 ^ suc k ≡ 2 * 2 ^ k
-    two-pow k = omega arith
+    two_pow : (k : ℕ) → 2 ^ suc k ≡ 2 * 2 ^ k
+    two_pow k = omega arith
 
 -- The error of the rounding, times 2 ^ p: at most the fraction itself, or half of the smallest value (both have 2 ^ p in them), and so at most their sum.
 pub kept_near : (p n den : ℕ) → 0 < p → 0 < den
     → Within (kept p n den * 2 ^ drop p n den * den * 2 ^ p) (n * 2 ^ p) n ⊎ Within (kept p n den * 2 ^ drop p n den * den * 2) (n * 2) den
-kept_near p n den P D = go (drop-small p n den P D)
+kept_near p n den P D = go (drop_small p n den P D)
   where
     half : (h : ℕ) → 2 ^ p ≡ 2 * h → (x u : ℕ) → Within (x * 2) (n * 2) u → h * u ≤ n → Within (x * 2 ^ p) (n * 2 ^ p) n
     half h e x u w l = subst (λ (z : ℕ). Within (x * z) (n * z) n) (sym e) (record { hi = omega (arith, mul-le-mul_right h w.hi); lo = omega (arith, mul-le-mul_right h w.lo) })
@@ -103,35 +103,35 @@ pub round_val : (f : Format) (s : Bool) (a c : ℕ) → grid f a c < overflow f 
 round_val f s a c h = subst (λ (z : Float). HasValue z s (grid f a c) (2 ^ low f)) (sym (round_is f s a c)) (units_val f s (kept (prec f) (a * 2 ^ low f) c) (drop (prec f) (a * 2 ^ low f) c) h)
 
 -- |q * den - n| * 2 ^ p ≤ max n (2 ^ (p - 1) * den), in one line: B is any bound of n, and of half the smallest value where n is not 0
-pub grid-near : (f : Format) (a c : ℕ) → 0 < c
+pub grid_near : (f : Format) (a c : ℕ) → 0 < c
     → Within (grid f a c * c * 2 ^ prec f) (a * 2 ^ low f * 2 ^ prec f) (a * 2 ^ low f) ⊎ Within (grid f a c * c * 2) (a * 2 ^ low f * 2) c
-grid-near f a c C = kept_near (prec f) (a * 2 ^ low f) c (two-le_pos (prec f) (two f)) C
+grid_near f a c C = kept_near (prec f) (a * 2 ^ low f) c (two-le_pos (prec f) (two f)) C
 
 -- ---- a whole number of units: the error is relative, whatever the number's size
-whole-near : (P L q w : ℕ) → 0 < L → Within (q * L * P) (w * L * P) (w * L) ⊎ Within (q * L * 2) (w * L * 2) L → Within (q * P) (w * P) w
-whole-near P L q w Z (inl h) = record {
+whole_near : (P L q w : ℕ) → 0 < L → Within (q * L * P) (w * L * P) (w * L) ⊎ Within (q * L * 2) (w * L * 2) L → Within (q * P) (w * P) w
+whole_near P L q w Z (inl h) = record {
   hi = le_of_mul-le-mul_right (omega (arith, h.hi)) Z;
   lo = le_of_mul-le-mul_right (omega (arith, h.lo)) Z;
 }
-whole-near P L q w Z (inr h) =
+whole_near P L q w Z (inr h) =
     let a : q * 2 ≤ w * 2 + 1 = le_of_mul-le-mul_right (omega (arith, h.hi)) Z in
     let b : w * 2 ≤ q * 2 + 1 = le_of_mul-le-mul_right (omega (arith, h.lo)) Z in
     let e : q ≡ w = omega arith in
     subst (λ (x : ℕ). Within (x * P) (w * P) w) (sym e) (omega arith)
 
-pub units-near : (f : Format) (w : ℕ) → Within (grid f w (2 ^ low f) * 2 ^ prec f) (w * 2 ^ prec f) w
-units-near f w = whole-near (2 ^ prec f) (2 ^ low f) (grid f w (2 ^ low f)) w (pow_pos (low f)) (grid-near f w (2 ^ low f) (pow_pos (low f)))
+pub units_near : (f : Format) (w : ℕ) → Within (grid f w (2 ^ low f) * 2 ^ prec f) (w * 2 ^ prec f) w
+units_near f w = whole_near (2 ^ prec f) (2 ^ low f) (grid f w (2 ^ low f)) w (pow_pos (low f)) (grid_near f w (2 ^ low f) (pow_pos (low f)))
 
 -- at most twice
-two-pow-pos : (p : ℕ) → 0 < p → 2 ≤ 2 ^ p
-two-pow-pos p h = pow_mono {i = 1} h
+two_pow_pos : (p : ℕ) → 0 < p → 2 ≤ 2 ^ p
+two_pow_pos p h = pow_mono {i = 1} h
 
-pub units-le : (f : Format) (w : ℕ) → grid f w (2 ^ low f) ≤ w * 2
-units-le f w =
+pub units_le : (f : Format) (w : ℕ) → grid f w (2 ^ low f) ≤ w * 2
+units_le f w =
     let P = 2 ^ prec f in
     let q = grid f w (2 ^ low f) in
-    let h = (units-near f w).hi in
-    let t : w * 2 ≤ w * P = mul-le-mul_left w (two-pow-pos (prec f) (two-le_pos (prec f) (two f))) in
+    let h = (units_near f w).hi in
+    let t : w * 2 ≤ w * P = mul-le-mul_left w (two_pow_pos (prec f) (two-le_pos (prec f) (two f))) in
     le_of_mul-le-mul_right (omega (arith, h, t)) (pow_pos (prec f))
 
 -- ---- what a sign and a size come to: a value is the difference of two numbers, one of them 0
@@ -152,47 +152,47 @@ pub record Rounded (f : Format) (x : Float) (c d : ℕ) : Type 0 where
   pub is : HasValue x sign size (2 ^ low f)
   pub off : (e : ℕ) → Within c d e → Off (2 ^ prec f) (plus sign size) (less sign size) c d e
 
-pub round-rounded : (f : Format) (s : Bool) (w : ℕ) → w * 2 < overflow f → Rounded f (round f s w (2 ^ low f)) (plus s w) (less s w)
-round-rounded f s w h = go s
+pub round_rounded : (f : Format) (s : Bool) (w : ℕ) → w * 2 < overflow f → Rounded f (round f s w (2 ^ low f)) (plus s w) (less s w)
+round_rounded f s w h = go s
   where
     n : Within (grid f w (2 ^ low f) * 2 ^ prec f) (w * 2 ^ prec f) w
-    n = units-near f w
+    n = units_near f w
 
     go : (s : Bool) → Rounded f (round f s w (2 ^ low f)) (plus s w) (less s w)
     go false = record {
       sign = false;
       size = grid f w (2 ^ low f);
       is = round_val f false w (2 ^ low f)
-          (lt_of_le_of_lt (units-le f w) h);
+          (lt_of_le_of_lt (units_le f w) h);
       off = λ e z. record { hi = omega (arith, n.hi, z.hi); lo = omega (arith, n.lo, z.hi) };
     }
     go true = record {
       sign = true;
       size = grid f w (2 ^ low f);
       is = round_val f true w (2 ^ low f)
-          (lt_of_le_of_lt (units-le f w) h);
+          (lt_of_le_of_lt (units_le f w) h);
       off = λ e z. record { hi = omega (arith, n.lo, z.lo); lo = omega (arith, n.hi, z.lo) };
     }
 
 -- ---- `closest` by the three cases
-pub closest-below : (a b : ℕ) → a % b * 2 < b → closest a b ≡ a / b
-closest-below a b h = go (compare (a % b * 2) b) (cmp (a % b * 2) b)
+pub closest_below : (a b : ℕ) → a % b * 2 < b → closest a b ≡ a / b
+closest_below a b h = go (compare (a % b * 2) b) (cmp (a % b * 2) b)
   where
     go : (o : Ordering) → Cmp o (a % b * 2) b → nearest (a / b) o ≡ a / b
     go Ordering.lt c = refl
     go Ordering.eq c = omega arith
     go Ordering.gt c = omega arith
 
-pub closest-tie : (a b : ℕ) → a % b * 2 ≡ b → closest a b ≡ a / b + a / b % 2
-closest-tie a b h = go (compare (a % b * 2) b) (cmp (a % b * 2) b)
+pub closest_tie : (a b : ℕ) → a % b * 2 ≡ b → closest a b ≡ a / b + a / b % 2
+closest_tie a b h = go (compare (a % b * 2) b) (cmp (a % b * 2) b)
   where
     go : (o : Ordering) → Cmp o (a % b * 2) b → nearest (a / b) o ≡ a / b + a / b % 2
     go Ordering.lt c = omega arith
     go Ordering.eq c = refl
     go Ordering.gt c = omega arith
 
-pub closest-above : (a b : ℕ) → b < a % b * 2 → closest a b ≡ a / b + 1
-closest-above a b h = go (compare (a % b * 2) b) (cmp (a % b * 2) b)
+pub closest_above : (a b : ℕ) → b < a % b * 2 → closest a b ≡ a / b + 1
+closest_above a b h = go (compare (a % b * 2) b) (cmp (a % b * 2) b)
   where
     go : (o : Ordering) → Cmp o (a % b * 2) b → nearest (a / b) o ≡ a / b + 1
     go Ordering.lt c = omega arith

@@ -16,7 +16,7 @@ use Rattle.std.specs.Float.Ieee.Exact.{HasValue, odd_sign}
 use Rattle.std.specs.Float.Ieee.Nearest.{closest, nearest-ge}
 use Rattle.std.specs.Float.Ieee.Order.{drop, kept}
 use Rattle.std.specs.Float.Ieee.Scale.{overflow}
-use Rattle.float_rounding.specs.Near.{twice, drop-small}
+use Rattle.float_rounding.specs.Near.{twice, drop_small}
 use Rattle.float_rounding.specs.Held.{pow_le_back}
 
 -- ---- how many digits a number has
@@ -27,11 +27,11 @@ size_exact a n lo hi = le_antisymm (size-le n (suc a) hi) (reach (size n) (size-
     reach z h = lt_of_not-le (λ (g : z ≤ a). lt_irrefl n (lt_of_lt_of_le h (le_trans (pow_mono g) lo)))
 
 -- ---- the pattern of a finite value, which is n of the smallest values
-pub value-bits : (f : Format) (x : Float) (s : Bool) (n : ℕ) → HasValue x s n (2 ^ low f) → to_bits f x ≡ cond s (top f) 0 + ((size n - prec f) * hid f + n / 2 ^ (size n - prec f))
+pub value_bits : (f : Format) (x : Float) (s : Bool) (n : ℕ) → HasValue x s n (2 ^ low f) → to_bits f x ≡ cond s (top f) 0 + ((size n - prec f) * hid f + n / 2 ^ (size n - prec f))
 unfolding to_bits
-value-bits f nan s n h = absurd h
-value-bits f (inf t) s n h = absurd h
-value-bits f (fin t m e) s n h =
+value_bits f nan s n h = absurd h
+value_bits f (inf t) s n h = absurd h
+value_bits f (fin t m e) s n h =
     ap (λ (b : Bool). cond b (top f) 0 + (size (m * up e * 2 ^ low f / down e) - prec f) * hid f + m * up e * 2 ^ low f / down e / 2 ^ (size (m * up e * 2 ^ low f / down e) - prec f)) h.0
     ∙ ap (λ (x : ℕ). cond s (top f) 0 + (size x - prec f) * hid f + x / 2 ^ (size x - prec f)) (ap (λ (x : ℕ). x / down e) h.1 ∙ mul-div_cancel n (down_pos e))
     ∙ add_assoc (cond s (top f) 0) ((size n - prec f) * hid f) (n / 2 ^ (size n - prec f))
@@ -44,8 +44,8 @@ module _ (p q k : ℕ) (P : 0 < p) (lead : (k ≡ 0) ⊎ (2 ^ (p - 1) ≤ q)) (m
   one_more : (p k : ℕ) → 0 < p → p + k ≡ suc (p - 1 + k)
   one_more p k h = omega arith
 
-  drop-is : (z p k : ℕ) → 0 < p → z ≡ suc (p - 1 + k) → z - p ≡ k
-  drop-is z p k h e = omega arith
+  drop_is : (z p k : ℕ) → 0 < p → z ≡ suc (p - 1 + k) → z - p ≡ k
+  drop_is z p k h e = omega arith
 
   drop_more : (z p k : ℕ) → 0 < p → z ≡ suc (p + k) → z - p ≡ suc k
   drop_more z p k h e = omega arith
@@ -76,7 +76,7 @@ module _ (p q k : ℕ) (P : 0 < p) (lead : (k ≡ 0) ⊎ (2 ^ (p - 1) ≤ q)) (m
           at 0 (none (size (q * 2 ^ k)) p (size-le (q * 2 ^ k) p (subst (λ (x : ℕ). q * 2 ^ x < 2 ^ p) (sym z) (subst (λ (x : ℕ). x < 2 ^ p) (sym (mul-one q)) h)))) q (ap (λ (x : ℕ). q * 2 ^ x) z)
           ∙ ap (λ (x : ℕ). x * 2 ^ (p - 1) + q) (sym z)
       go (inr h) (inr l) =
-          at k (drop-is (size (q * 2 ^ k)) p k P (size_exact (p - 1 + k) (q * 2 ^ k)
+          at k (drop_is (size (q * 2 ^ k)) p k P (size_exact (p - 1 + k) (q * 2 ^ k)
           (subst (λ (x : ℕ). x ≤ q * 2 ^ k) (sym (pow-add 2 (p - 1) k)) (mul-le-mul_right (2 ^ k) l))
           (subst (λ (x : ℕ). q * 2 ^ k < 2 ^ x) (one_more p k P) (shl_lt p k h)))) q refl
 
@@ -117,23 +117,23 @@ module _ (h E q k : ℕ) (H : 0 < h) (one : 1 < E) (lead : (k ≡ 0) ⊎ (h ≤ 
           subst (λ (x : ℕ). suc x * h ≤ k * h + q) (sym e) (omega (arith, v))
 
 -- ---- the pattern of q * 2 ^ k of the smallest values, q having the format's digits, or one more by a carry
-pub exact-bits : (f : Format) (x : Float) (s : Bool) (q k : ℕ) → HasValue x s (q * 2 ^ k) (2 ^ low f) → (k ≡ 0) ⊎ (hid f ≤ q) → q ≤ 2 ^ prec f
+pub exact_bits : (f : Format) (x : Float) (s : Bool) (q k : ℕ) → HasValue x s (q * 2 ^ k) (2 ^ low f) → (k ≡ 0) ⊎ (hid f ≤ q) → q ≤ 2 ^ prec f
     → to_bits f x ≡ cond s (top f) 0 + (k * hid f + q)
-exact-bits f x s q k v lead most =
-    value-bits f x s (q * 2 ^ k) v ∙ ap (λ (z : ℕ). cond s (top f) 0 + z) (fields (prec f) q k (two-le_pos (prec f) (two f)) lead most)
+exact_bits f x s q k v lead most =
+    value_bits f x s (q * 2 ^ k) v ∙ ap (λ (z : ℕ). cond s (top f) 0 + z) (fields (prec f) q k (two-le_pos (prec f) (two f)) lead most)
 
 inf_bits : (f : Format) (s : Bool) → to_bits f (inf s) ≡ cond s (top f) 0 + ones f * hid f
 unfolding to_bits
 inf_bits f s = refl
 
 module _ (f : Format) (s : Bool) (q k : ℕ) (lead : (k ≡ 0) ⊎ (hid f ≤ q)) (most : q ≤ 2 ^ prec f) where
-  over-is : (f : Format) → overflow f ≡ hid f * 2 ^ (2 * emax f)
-  over-is binary32 = refl
-  over-is binary64 = refl
+  over_is : (f : Format) → overflow f ≡ hid f * 2 ^ (2 * emax f)
+  over_is binary32 = refl
+  over_is binary64 = refl
 
-  one-lt : (f : Format) → 1 < 2 * emax f
-  one-lt binary32 = lit< tt
-  one-lt binary64 = lit< tt
+  one_lt : (f : Format) → 1 < 2 * emax f
+  one_lt binary32 = lit< tt
+  one_lt binary64 = lit< tt
 
   ones_is : (e : ℕ) → suc (2 * e) ≡ 2 * e + 1
   ones_is e = omega arith
@@ -141,37 +141,37 @@ module _ (f : Format) (s : Bool) (q k : ℕ) (lead : (k ≡ 0) ⊎ (hid f ≤ q)
   most' : q ≤ 2 * hid f
   most' = subst (λ (x : ℕ). q ≤ x) (twice (prec f) (two-le_pos (prec f) (two f))) most
 
-  min-l : (a b : ℕ) → a ≤ b → a ≡ min a b
-  min-l a b h = omega arith
+  min_l : (a b : ℕ) → a ≤ b → a ≡ min a b
+  min_l a b h = omega arith
 
-  min-r : (a b : ℕ) → b ≤ a → b ≡ min a b
-  min-r a b h = omega arith
+  min_r : (a b : ℕ) → b ≤ a → b ≡ min a b
+  min_r a b h = omega arith
 
-  pub units-bits : to_bits f (units f s q k) ≡ cond s (top f) 0 + min (k * hid f + q) (ones f * hid f)
+  pub units_bits : to_bits f (units f s q k) ≡ cond s (top f) 0 + min (k * hid f + q) (ones f * hid f)
   unfolding units
-  units-bits = go (ltb (q * 2 ^ k) (overflow f)) (ltb→lt (q * 2 ^ k) (overflow f)) (nltb→le (q * 2 ^ k) (overflow f))
+  units_bits = go (ltb (q * 2 ^ k) (overflow f)) (ltb→lt (q * 2 ^ k) (overflow f)) (nltb→le (q * 2 ^ k) (overflow f))
     where
       go : (b : Bool) → (T b → q * 2 ^ k < overflow f) → (T (not b) → overflow f ≤ q * 2 ^ k)
           → to_bits f (cond b (odd (suc (prec f)) s q k (low f)) (inf s)) ≡ cond s (top f) 0 + min (k * hid f + q) (ones f * hid f)
       go true l g =
           let le : k * hid f + q ≤ ones f * hid f = subst (λ (z : ℕ). k * hid f + q ≤ z * hid f) (ones_is (emax f))
-          (stays (hid f) (2 * emax f) q k (pow_pos (prec f - 1)) (one-lt f) lead most' (subst (λ (z : ℕ). q * 2 ^ k < z) (over-is f) (l tt))) in
-          exact-bits f (odd (suc (prec f)) s q k (low f)) s q k (odd_sign (suc (prec f)) s q k (low f)) lead most
-          ∙ ap (λ (z : ℕ). cond s (top f) 0 + z) (min-l (k * hid f + q) (ones f * hid f) le)
+          (stays (hid f) (2 * emax f) q k (pow_pos (prec f - 1)) (one_lt f) lead most' (subst (λ (z : ℕ). q * 2 ^ k < z) (over_is f) (l tt))) in
+          exact_bits f (odd (suc (prec f)) s q k (low f)) s q k (odd_sign (suc (prec f)) s q k (low f)) lead most
+          ∙ ap (λ (z : ℕ). cond s (top f) 0 + z) (min_l (k * hid f + q) (ones f * hid f) le)
       go false l g =
           let ge : ones f * hid f ≤ k * hid f + q = subst (λ (z : ℕ). z * hid f ≤ k * hid f + q) (ones_is (emax f))
-          (leaves (hid f) (2 * emax f) q k (pow_pos (prec f - 1)) (one-lt f) lead most' (subst (λ (z : ℕ). z ≤ q * 2 ^ k) (over-is f) (g tt))) in
-          inf_bits f s ∙ ap (λ (z : ℕ). cond s (top f) 0 + z) (min-r (k * hid f + q) (ones f * hid f) ge)
+          (leaves (hid f) (2 * emax f) q k (pow_pos (prec f - 1)) (one_lt f) lead most' (subst (λ (z : ℕ). z ≤ q * 2 ^ k) (over_is f) (g tt))) in
+          inf_bits f s ∙ ap (λ (z : ℕ). cond s (top f) 0 + z) (min_r (k * hid f + q) (ones f * hid f) ge)
 
 -- ---- the pattern of a rounded fraction: K digits dropped and Q kept
-kept-le : (p n den : ℕ) → kept p n den ≤ 2 ^ p
-kept-le p n den =
+kept_le : (p n den : ℕ) → kept p n den ≤ 2 ^ p
+kept_le p n den =
     let k = drop p n den in
     let u = den * 2 ^ k in
     le_trans (nearest-le (n / u) (compare (n % u * 2) u)) (subst (λ (x : ℕ). x < 2 ^ p) (div-div-eq-div-mul n den (2 ^ k)) (kept-lt p (n / den)))
 
-kept-lead : (p n den : ℕ) → 0 < p → 0 < den → (drop p n den ≡ 0) ⊎ (2 ^ (p - 1) ≤ kept p n den)
-kept-lead p n den P D = go (drop-small p n den P D)
+kept_lead : (p n den : ℕ) → 0 < p → 0 < den → (drop p n den ≡ 0) ⊎ (2 ^ (p - 1) ≤ kept p n den)
+kept_lead p n den P D = go (drop_small p n den P D)
   where
     go : (drop p n den ≡ 0) ⊎ (2 ^ (p - 1) * (den * 2 ^ drop p n den) ≤ n) → (drop p n den ≡ 0) ⊎ (2 ^ (p - 1) ≤ kept p n den)
     go (inl z) = inl z
@@ -179,11 +179,11 @@ kept-lead p n den P D = go (drop-small p n den P D)
         let u = den * 2 ^ drop p n den in
         inr (le_trans ((le-div_iff_mul-le (mul-pos D (pow_pos (drop p n den)))).1 l) (nearest-ge (n / u) (compare (n % u * 2) u)))
 
-pub round-bits : (f : Format) (s : Bool) (a c K Q : ℕ) → 0 < c → drop (prec f) (a * 2 ^ low f) c ≡ K → closest (a * 2 ^ low f) (c * 2 ^ K) ≡ Q
+pub round_bits : (f : Format) (s : Bool) (a c K Q : ℕ) → 0 < c → drop (prec f) (a * 2 ^ low f) c ≡ K → closest (a * 2 ^ low f) (c * 2 ^ K) ≡ Q
     → to_bits f (round f s a c) ≡ cond s (top f) 0 + min (K * hid f + Q) (ones f * hid f)
-round-bits f s a c K Q C k q =
+round_bits f s a c K Q C k q =
     let n = a * 2 ^ low f in
     ap (to_bits f) (round_is f s a c)
-    ∙ units-bits f s (kept (prec f) n c) (drop (prec f) n c) (kept-lead (prec f) n c (two-le_pos (prec f) (two f)) C) (kept-le (prec f) n c)
+    ∙ units_bits f s (kept (prec f) n c) (drop (prec f) n c) (kept_lead (prec f) n c (two-le_pos (prec f) (two f)) C) (kept_le (prec f) n c)
     ∙ ap (λ (z : ℕ). cond s (top f) 0 + min (z * hid f + closest n (c * 2 ^ z)) (ones f * hid f)) k
     ∙ ap (λ (z : ℕ). cond s (top f) 0 + min (K * hid f + z) (ones f * hid f)) q

@@ -5,12 +5,12 @@ use Rattle.std.specs.Float.Ieee.{size}
 use Rattle.std.specs.Float.Ieee.Digits.{size-le}
 use Rattle.std.specs.Float.Ieee.Nearest.{closest}
 use Rattle.std.specs.Float.Ieee.Order.{drop}
-use Rattle.float_rounding.specs.Near.{closest-half}
+use Rattle.float_rounding.specs.Near.{closest_half}
 use Rattle.float_rounding.specs.Pattern.{size_exact}
 
 -- ---- less than a half rounds to 0
-pub closest-zero : (a b : ℕ) → a * 2 < b → closest a b ≡ 0
-closest-zero a b h = none (closest a b) (lt_of_mul-lt-mul_right b (few (closest a b) (closest-half a b (omega arith)).hi))
+pub closest_zero : (a b : ℕ) → a * 2 < b → closest a b ≡ 0
+closest_zero a b h = none (closest a b) (lt_of_mul-lt-mul_right b (few (closest a b) (closest_half a b (omega arith)).hi))
   where
     few : (c : ℕ) → c * b * 2 ≤ a * 2 + b → c * b < 1 * b
     few c l = omega arith
@@ -36,26 +36,26 @@ module _ (M x g l : ℕ) where
       ∙ mul_assoc M (2 ^ (x + g)) (2 ^ sh)
       ∙ ap (λ (z : ℕ). M * z) (pows (x + g) sh l k e)
 
-  pub n-lt : (p z : ℕ) → M < 2 ^ p → p + (x + g) ≤ z + l → n < 2 ^ z * 2 ^ l
-  n-lt p z h e =
+  pub n_lt : (p z : ℕ) → M < 2 ^ p → p + (x + g) ≤ z + l → n < 2 ^ z * 2 ^ l
+  n_lt p z h e =
       subst (λ (y : ℕ). y < 2 ^ z * 2 ^ l) (sym (mul_assoc M (2 ^ x) (2 ^ g) ∙ ap (λ (y : ℕ). M * y) (sym (pow-add 2 x g))))
       (lt_of_lt_of_le (shl_lt p (x + g) h) (le_trans (pow_mono e) (le_of_eq (pow-add 2 z l))))
 
-  n-ge : (p z : ℕ) → 2 ^ p ≤ M → z + l ≤ p + (x + g) → 2 ^ z * 2 ^ l ≤ n
-  n-ge p z h e =
+  n_ge : (p z : ℕ) → 2 ^ p ≤ M → z + l ≤ p + (x + g) → 2 ^ z * 2 ^ l ≤ n
+  n_ge p z h e =
       subst (λ (y : ℕ). 2 ^ z * 2 ^ l ≤ y) (sym (mul_assoc M (2 ^ x) (2 ^ g) ∙ ap (λ (y : ℕ). M * y) (sym (pow-add 2 x g))))
       (le_trans (le_of_eq (sym (pow-add 2 z l))) (le_trans (pow_mono e) (le_trans (le_of_eq (pow-add 2 p (x + g))) (mul-le-mul_right (2 ^ (x + g)) h))))
 
-  pub drop-many : (p q k : ℕ) → 0 < q → 2 ^ p ≤ M → M < 2 ^ suc p → q - 1 + k + l ≡ p + (x + g) → drop q n (2 ^ l) ≡ k
-  drop-many p q k Q lo hi e =
-      many (size (n / 2 ^ l)) (size_exact (q - 1 + k) (n / 2 ^ l) ((le-div_iff_mul-le (pow_pos l)).1 (n-ge p (q - 1 + k) lo (le_of_eq e)))
-      ((div-lt_iff_lt-mul (pow_pos l)).1 (n-lt (suc p) (suc (q - 1 + k)) hi (omega arith))))
+  pub drop_many : (p q k : ℕ) → 0 < q → 2 ^ p ≤ M → M < 2 ^ suc p → q - 1 + k + l ≡ p + (x + g) → drop q n (2 ^ l) ≡ k
+  drop_many p q k Q lo hi e =
+      many (size (n / 2 ^ l)) (size_exact (q - 1 + k) (n / 2 ^ l) ((le-div_iff_mul-le (pow_pos l)).1 (n_ge p (q - 1 + k) lo (le_of_eq e)))
+      ((div-lt_iff_lt-mul (pow_pos l)).1 (n_lt (suc p) (suc (q - 1 + k)) hi (omega arith))))
     where
       many : (z : ℕ) → z ≡ suc (q - 1 + k) → z - q ≡ k
       many z h = omega arith
 
-  pub drop-none : (p q : ℕ) → M < 2 ^ p → p + (x + g) ≤ q + l → drop q n (2 ^ l) ≡ 0
-  drop-none p q h e = none (size (n / 2 ^ l)) (size-le (n / 2 ^ l) q ((div-lt_iff_lt-mul (pow_pos l)).1 (n-lt p q h e)))
+  pub drop_none : (p q : ℕ) → M < 2 ^ p → p + (x + g) ≤ q + l → drop q n (2 ^ l) ≡ 0
+  drop_none p q h e = none (size (n / 2 ^ l)) (size-le (n / 2 ^ l) q ((div-lt_iff_lt-mul (pow_pos l)).1 (n_lt p q h e)))
     where
       none : (z : ℕ) → z ≤ q → z - q ≡ 0
       none z h = omega arith

@@ -5,9 +5,9 @@ use Rattle.std.specs.Float.{nan, inf, fin, Format}
 use Rattle.std.specs.Float.Ieee.{neg, add, sub, mul, div, lt}
 use Rattle.std.specs.Float.Ieee.Positive.{above}
 use Rattle.std.specs.Float.Ieee.Scale.{finite}
-use Rattle.float_spans.specs.Rounds.{number, neg-le}
-use Rattle.float_spans.specs.Monotone.{add-le, div-le}
-use Rattle.float_spans.specs.Orders.{NotBelow, not-below, refuted, lt-le, le-of-not}
+use Rattle.float_spans.specs.Rounds.{number, neg_le}
+use Rattle.float_spans.specs.Monotone.{add_le, div_le}
+use Rattle.float_spans.specs.Orders.{NotBelow, not_below, refuted, lt_le, le_of_not}
 
 -- ---- nothing is above the infinity, below the negative one, or below a NaN
 pub top : (z : Float) → T (lt (inf false) z) → ⊥
@@ -32,9 +32,9 @@ tail (inf t) h = h
 tail (fin t n d) h = h
 
 -- a product by a NaN is one
-pub nan-mul : (f : Format) (c : Float) → mul f nan c ≡ nan
+pub nan_mul : (f : Format) (c : Float) → mul f nan c ≡ nan
 unfolding mul
-nan-mul f c = refl
+nan_mul f c = refl
 
 -- a finite float is a number
 pub finite_number : (x : Float) → T (finite x) → T (number x)
@@ -54,10 +54,10 @@ passes true h = tt
 passes false h = h (λ x. x)
 
 -- ---- the sum
-finite-add : (f : Format) (a c b d : Float) → T (finite a) → T (finite c) → T (finite b) → T (finite d) → T (lt (add f a c) (add f b d)) → T (lt a b) ⊎ T (lt c d)
-finite-add f a c b d p q r s h = either (lt a b) (lt c d) (λ u v.
-    lt-le (add f a c) (add f b d) h
-    (add-le f b a d c r p s q (le-of-not a b (finite_number a p) (finite_number b r) u) (le-of-not c d (finite_number c q) (finite_number d s) v)))
+finite_add : (f : Format) (a c b d : Float) → T (finite a) → T (finite c) → T (finite b) → T (finite d) → T (lt (add f a c) (add f b d)) → T (lt a b) ⊎ T (lt c d)
+finite_add f a c b d p q r s h = either (lt a b) (lt c d) (λ u v.
+    lt_le (add f a c) (add f b d) h
+    (add_le f b a d c r p s q (le_of_not a b (finite_number a p) (finite_number b r) u) (le_of_not c d (finite_number c q) (finite_number d s) v)))
 
 -- a sum above the negative infinity has both its parts above it
 least : (f : Format) (b d : Float) → T (lt (inf true) (add f b d)) → T (lt (inf true) b) × T (lt (inf true) d)
@@ -75,59 +75,59 @@ least f (fin s m e) (inf true) h = absurd h
 least f (fin s m e) (inf false) h = (tt, tt)
 least f (fin s m e) (fin t n g) h = (tt, tt)
 
-add-below : (f : Format) (a c b d : Float) → T (lt (add f a c) (add f b d)) → T (lt a b) ⊎ T (lt c d)
+add_below : (f : Format) (a c b d : Float) → T (lt (add f a c) (add f b d)) → T (lt a b) ⊎ T (lt c d)
 unfolding add lt
-add-below f nan c b d h = absurd h
-add-below f (inf s) nan b d h = absurd h
-add-below f (inf true) (inf true) b d h = inl (least f b d h).0
-add-below f (inf true) (inf false) b d h = absurd h
-add-below f (inf true) (fin t n g) b d h = inl (least f b d h).0
-add-below f (inf false) (inf true) b d h = absurd h
-add-below f (inf false) (inf false) b d h = absurd (top (add f b d) h)
-add-below f (inf false) (fin t n g) b d h = absurd (top (add f b d) h)
-add-below f (fin s m e) nan b d h = absurd h
-add-below f (fin s m e) (inf true) b d h = inr (least f b d h).1
-add-below f (fin s m e) (inf false) b d h = absurd (top (add f b d) h)
-add-below f (fin s m e) (fin t n g) nan d h = absurd (tail (add f (fin s m e) (fin t n g)) h)
-add-below f (fin s m e) (fin t n g) (inf true) nan h = absurd (tail (add f (fin s m e) (fin t n g)) h)
-add-below f (fin s m e) (fin t n g) (inf true) (inf true) h = absurd (bottom (add f (fin s m e) (fin t n g)) h)
-add-below f (fin s m e) (fin t n g) (inf true) (inf false) h = absurd (tail (add f (fin s m e) (fin t n g)) h)
-add-below f (fin s m e) (fin t n g) (inf true) (fin v j l) h = absurd (bottom (add f (fin s m e) (fin t n g)) h)
-add-below f (fin s m e) (fin t n g) (inf false) d h = inl tt
-add-below f (fin s m e) (fin t n g) (fin u i k) nan h = absurd (tail (add f (fin s m e) (fin t n g)) h)
-add-below f (fin s m e) (fin t n g) (fin u i k) (inf true) h = absurd (bottom (add f (fin s m e) (fin t n g)) h)
-add-below f (fin s m e) (fin t n g) (fin u i k) (inf false) h = inr tt
-add-below f (fin s m e) (fin t n g) (fin u i k) (fin v j l) h = finite-add f (fin s m e) (fin t n g) (fin u i k) (fin v j l) tt tt tt tt h
+add_below f nan c b d h = absurd h
+add_below f (inf s) nan b d h = absurd h
+add_below f (inf true) (inf true) b d h = inl (least f b d h).0
+add_below f (inf true) (inf false) b d h = absurd h
+add_below f (inf true) (fin t n g) b d h = inl (least f b d h).0
+add_below f (inf false) (inf true) b d h = absurd h
+add_below f (inf false) (inf false) b d h = absurd (top (add f b d) h)
+add_below f (inf false) (fin t n g) b d h = absurd (top (add f b d) h)
+add_below f (fin s m e) nan b d h = absurd h
+add_below f (fin s m e) (inf true) b d h = inr (least f b d h).1
+add_below f (fin s m e) (inf false) b d h = absurd (top (add f b d) h)
+add_below f (fin s m e) (fin t n g) nan d h = absurd (tail (add f (fin s m e) (fin t n g)) h)
+add_below f (fin s m e) (fin t n g) (inf true) nan h = absurd (tail (add f (fin s m e) (fin t n g)) h)
+add_below f (fin s m e) (fin t n g) (inf true) (inf true) h = absurd (bottom (add f (fin s m e) (fin t n g)) h)
+add_below f (fin s m e) (fin t n g) (inf true) (inf false) h = absurd (tail (add f (fin s m e) (fin t n g)) h)
+add_below f (fin s m e) (fin t n g) (inf true) (fin v j l) h = absurd (bottom (add f (fin s m e) (fin t n g)) h)
+add_below f (fin s m e) (fin t n g) (inf false) d h = inl tt
+add_below f (fin s m e) (fin t n g) (fin u i k) nan h = absurd (tail (add f (fin s m e) (fin t n g)) h)
+add_below f (fin s m e) (fin t n g) (fin u i k) (inf true) h = absurd (bottom (add f (fin s m e) (fin t n g)) h)
+add_below f (fin s m e) (fin t n g) (fin u i k) (inf false) h = inr tt
+add_below f (fin s m e) (fin t n g) (fin u i k) (fin v j l) h = finite_add f (fin s m e) (fin t n g) (fin u i k) (fin v j l) tt tt tt tt h
 
 -- a sum is not below another whose parts its own are not below
-pub add-keeps : (f : Format) {a b c d : Float} → NotBelow a b → NotBelow c d → NotBelow (add f a c) (add f b d)
-add-keeps f {a} {b} {c} {d} h k = not-below (add f a c) (add f b d) (λ l. elim (add-below f a c b d l) [ inl x ↦ refuted h x | inr x ↦ refuted k x ])
+pub add_keeps : (f : Format) {a b c d : Float} → NotBelow a b → NotBelow c d → NotBelow (add f a c) (add f b d)
+add_keeps f {a} {b} {c} {d} h k = not_below (add f a c) (add f b d) (λ l. elim (add_below f a c b d l) [ inl x ↦ refuted h x | inr x ↦ refuted k x ])
 
 -- ---- the difference
-pub neg-below : (x y : Float) → T (lt (neg x) (neg y)) → T (lt y x)
+pub neg_below : (x y : Float) → T (lt (neg x) (neg y)) → T (lt y x)
 unfolding neg lt
-neg-below nan y h = absurd h
-neg-below (inf s) nan h = absurd h
-neg-below (inf true) (inf true) h = absurd h
-neg-below (inf true) (inf false) h = absurd h
-neg-below (inf false) (inf true) h = tt
-neg-below (inf false) (inf false) h = absurd h
-neg-below (inf true) (fin t n d) h = absurd h
-neg-below (inf false) (fin t n d) h = tt
-neg-below (fin s m e) nan h = absurd h
-neg-below (fin s m e) (inf true) h = tt
-neg-below (fin s m e) (inf false) h = absurd h
-neg-below (fin s m e) (fin t n d) h =
-    passes (lt (fin t n d) (fin s m e)) (λ u. lt-le (neg (fin s m e)) (neg (fin t n d)) h (neg-le (fin t n d) (fin s m e) (le-of-not (fin t n d) (fin s m e) tt tt u)))
+neg_below nan y h = absurd h
+neg_below (inf s) nan h = absurd h
+neg_below (inf true) (inf true) h = absurd h
+neg_below (inf true) (inf false) h = absurd h
+neg_below (inf false) (inf true) h = tt
+neg_below (inf false) (inf false) h = absurd h
+neg_below (inf true) (fin t n d) h = absurd h
+neg_below (inf false) (fin t n d) h = tt
+neg_below (fin s m e) nan h = absurd h
+neg_below (fin s m e) (inf true) h = tt
+neg_below (fin s m e) (inf false) h = absurd h
+neg_below (fin s m e) (fin t n d) h =
+    passes (lt (fin t n d) (fin s m e)) (λ u. lt_le (neg (fin s m e)) (neg (fin t n d)) h (neg_le (fin t n d) (fin s m e) (le_of_not (fin t n d) (fin s m e) tt tt u)))
 
 -- opposites turn it
-pub neg-turns : {x y : Float} → NotBelow x y → NotBelow (neg y) (neg x)
-neg-turns {x} {y} h = not-below (neg y) (neg x) (λ l. refuted h (neg-below y x l))
+pub neg_turns : {x y : Float} → NotBelow x y → NotBelow (neg y) (neg x)
+neg_turns {x} {y} h = not_below (neg y) (neg x) (λ l. refuted h (neg_below y x l))
 
 -- a difference, by what it is taken from and what is taken
-pub sub-keeps : (f : Format) {a b c d : Float} → NotBelow a b → NotBelow d c → NotBelow (sub f a c) (sub f b d)
+pub sub_keeps : (f : Format) {a b c d : Float} → NotBelow a b → NotBelow d c → NotBelow (sub f a c) (sub f b d)
 unfolding sub
-sub-keeps f h k = add-keeps f h (neg-turns k)
+sub_keeps f h k = add_keeps f h (neg_turns k)
 
 -- ---- the quotient by a float above zero
 div_below : (f : Format) (x y c : Float) → T (above c) → T (lt (div f x c) (div f y c)) → T (lt x y)
@@ -154,8 +154,8 @@ div_below f (fin s m e) (inf true) (fin false i g) p h = absurd (bottom (div f (
 div_below f (fin s m e) (inf false) (fin false i g) p h = tt
 div_below f (fin s m e) (fin t n d) (fin false i g) p h =
     passes (lt (fin s m e) (fin t n d)) (λ u.
-    lt-le (div f (fin s m e) (fin false i g)) (div f (fin t n d) (fin false i g)) h (div-le f (fin t n d) (fin s m e) (fin false i g) tt tt p (le-of-not (fin s m e) (fin t n d) tt tt u)))
+    lt_le (div f (fin s m e) (fin false i g)) (div f (fin t n d) (fin false i g)) h (div_le f (fin t n d) (fin s m e) (fin false i g) tt tt p (le_of_not (fin s m e) (fin t n d) tt tt u)))
 
 -- quotients by one float above zero
-pub div-keeps : (f : Format) {x y : Float} (c : Float) → T (above c) → NotBelow x y → NotBelow (div f x c) (div f y c)
-div-keeps f {x} {y} c p h = not-below (div f x c) (div f y c) (λ l. refuted h (div_below f x y c p l))
+pub div_keeps : (f : Format) {x y : Float} (c : Float) → T (above c) → NotBelow x y → NotBelow (div f x c) (div f y c)
+div_keeps f {x} {y} c p h = not_below (div f x c) (div f y c) (λ l. refuted h (div_below f x y c p l))

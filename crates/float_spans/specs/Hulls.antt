@@ -5,10 +5,10 @@ use Rattle.std.specs.Float.{nan, inf, fin}
 use Rattle.std.specs.Float.Ieee.{lt}
 use Rattle.std.specs.Float.Ieee.Scale.{finite}
 use Rattle.float_spans.specs.Rounds.{number}
-use Rattle.float_spans.specs.Orders.{NotBelow, refuted, not-self, le_trans}
+use Rattle.float_spans.specs.Orders.{NotBelow, refuted, not_self, le_trans}
 use Rattle.float_spans.specs.Everywhere.{finite_number}
 use Rattle.float_spans.specs.declared.Span.{Span}
-use Rattle.float_spans.specs.Spans.{Holds, lower, higher, lower-le, le-higher, low-le, le-high, holds-of-le}
+use Rattle.float_spans.specs.Spans.{Holds, lower, higher, lower_le, le_higher, low_le, le_high, holds_of_le}
 use Rattle.float_spans.specs.Small.{Single}
 
 -- the span of nothing
@@ -34,57 +34,57 @@ pub record Ends (X : Span) : Type 0 where
   pub high : End true X.high
 
 -- the empty span has such ends
-pub empty-ends : Ends empty
-empty-ends = record { low = none refl; high = none refl }
+pub empty_ends : Ends empty
+empty_ends = record { low = none refl; high = none refl }
 
 -- so has that of a finite f32
-pub one-ends : {x : Float} → Single x → Ends (one x)
-one-ends h = record { low = at h; high = at h }
+pub one_ends : {x : Float} → Single x → Ends (one x)
+one_ends h = record { low = at h; high = at h }
 
 chosen : {s : Bool} {x y : Float} (b : Bool) → End s x → End s y → End s (cond b x y)
 chosen true h k = h
 chosen false h k = k
 
 -- and a hull of two that have
-pub hull-ends : {X Y : Span} → Ends X → Ends Y → Ends (hull X Y)
-hull-ends {X} {Y} h k = record { low = chosen (lt X.low Y.low) h.low k.low; high = chosen (lt Y.high X.high) h.high k.high }
+pub hull_ends : {X Y : Span} → Ends X → Ends Y → Ends (hull X Y)
+hull_ends {X} {Y} h k = record { low = chosen (lt X.low Y.low) h.low k.low; high = chosen (lt Y.high X.high) h.high k.high }
 
-end-number : {s : Bool} {x : Float} → End s x → T (number x)
-end-number {s} {x} (at h) = finite_number x h.real
-end-number (none e) = subst (λ (z : Float). T (number z)) (sym e) tt
+end_number : {s : Bool} {x : Float} → End s x → T (number x)
+end_number {s} {x} (at h) = finite_number x h.real
+end_number (none e) = subst (λ (z : Float). T (number z)) (sym e) tt
 
 -- ---- membership
 -- x lies in the span of x
 pub one_holds : (x : Float) → Holds (one x) x
-one_holds x = record { least = not-self x; most = not-self x }
+one_holds x = record { least = not_self x; most = not_self x }
 
 -- what lies in the first of two spans lies in their hull
-pub hull-left : {X Y : Span} {x : Float} → T (number x) → Ends X → Ends Y → Holds X x → Holds (hull X Y) x
-hull-left {X} {Y} {x} n p q h =
-    holds-of-le (hull X Y) x
-    (le_trans (lower X.low Y.low) X.low x (lower-le X.low Y.low (end-number p.low) (end-number q.low)).0 (low-le X x (end-number p.low) n h))
-    (le_trans x X.high (higher X.high Y.high) (le-high X x (end-number p.high) n h) (le-higher X.high Y.high (end-number p.high) (end-number q.high)).0)
+pub hull_left : {X Y : Span} {x : Float} → T (number x) → Ends X → Ends Y → Holds X x → Holds (hull X Y) x
+hull_left {X} {Y} {x} n p q h =
+    holds_of_le (hull X Y) x
+    (le_trans (lower X.low Y.low) X.low x (lower_le X.low Y.low (end_number p.low) (end_number q.low)).0 (low_le X x (end_number p.low) n h))
+    (le_trans x X.high (higher X.high Y.high) (le_high X x (end_number p.high) n h) (le_higher X.high Y.high (end_number p.high) (end_number q.high)).0)
 
 -- what lies in the second does too
-pub hull-right : {X Y : Span} {x : Float} → T (number x) → Ends X → Ends Y → Holds Y x → Holds (hull X Y) x
-hull-right {X} {Y} {x} n p q h =
-    holds-of-le (hull X Y) x
-    (le_trans (lower X.low Y.low) Y.low x (lower-le X.low Y.low (end-number p.low) (end-number q.low)).1 (low-le Y x (end-number q.low) n h))
-    (le_trans x Y.high (higher X.high Y.high) (le-high Y x (end-number q.high) n h) (le-higher X.high Y.high (end-number p.high) (end-number q.high)).1)
+pub hull_right : {X Y : Span} {x : Float} → T (number x) → Ends X → Ends Y → Holds Y x → Holds (hull X Y) x
+hull_right {X} {Y} {x} n p q h =
+    holds_of_le (hull X Y) x
+    (le_trans (lower X.low Y.low) Y.low x (lower_le X.low Y.low (end_number p.low) (end_number q.low)).1 (low_le Y x (end_number q.low) n h))
+    (le_trans x Y.high (higher X.high Y.high) (le_high Y x (end_number q.high) n h) (le_higher X.high Y.high (end_number p.high) (end_number q.high)).1)
 
 -- ---- of a span that holds a finite float both ends are finite f32 values
-low-single : (l x : Float) → End false l → T (finite x) → NotBelow x l → Single l
-low-single l x (at h) p k = h
-low-single l x (none e) p k = absurd (no x p (subst (λ (z : Float). NotBelow x z) e k))
+low_single : (l x : Float) → End false l → T (finite x) → NotBelow x l → Single l
+low_single l x (at h) p k = h
+low_single l x (none e) p k = absurd (no x p (subst (λ (z : Float). NotBelow x z) e k))
   where
     no : (x : Float) → T (finite x) → NotBelow x (inf false) → ⊥
     no nan p k = p
     no (inf s) p k = p
     no (fin s m e) p k = refuted k (unfold lt in tt)
 
-high-single : (u x : Float) → End true u → T (finite x) → NotBelow u x → Single u
-high-single u x (at h) p k = h
-high-single u x (none e) p k = absurd (no x p (subst (λ (z : Float). NotBelow z x) e k))
+high_single : (u x : Float) → End true u → T (finite x) → NotBelow u x → Single u
+high_single u x (at h) p k = h
+high_single u x (none e) p k = absurd (no x p (subst (λ (z : Float). NotBelow z x) e k))
   where
     no : (x : Float) → T (finite x) → NotBelow (inf true) x → ⊥
     no nan p k = p
@@ -98,4 +98,4 @@ pub record Singles (X : Span) : Type 0 where
 
 -- so it is where the span holds a finite float
 pub singles : {X : Span} (x : Float) → Ends X → T (finite x) → Holds X x → Singles X
-singles {X} x e p h = record { low = low-single X.low x e.low p h.least; high = high-single X.high x e.high p h.most }
+singles {X} x e p h = record { low = low_single X.low x e.low p h.least; high = high_single X.high x e.high p h.most }

@@ -6,10 +6,10 @@ use Rattle.std.specs.Float.Ieee.{fits, lt}
 use Rattle.std.specs.Float.Ieee.Bits.{is_true}
 use Rattle.float_sqrt.specs.Roots.{sqrt}
 use Rattle.float_sqrt.specs.RootOrder.{below_root}
-use Rattle.float_spans.specs.Orders.{NotBelow, not-below, refuted, not-self}
+use Rattle.float_spans.specs.Orders.{NotBelow, not_below, refuted, not_self}
 
 -- the root of the higher of two f64 is not below that of the lower; the root is of f64 alone, so this is not over the format
-pub root-keeps : (x y : Float) → T (fits binary64 x) → T (fits binary64 y) → T (lt x y) → NotBelow (sqrt y) (sqrt x)
-root-keeps x y f g l =
-    not-below (sqrt y) (sqrt x)
-    (λ h. refuted (not-self (sqrt y)) (subst T (sym (below_root (sqrt y) x y f g (is_true (lt (sqrt y) (sqrt x)) h) (is_true (lt x y) l))) tt))
+pub root_keeps : (x y : Float) → T (fits binary64 x) → T (fits binary64 y) → T (lt x y) → NotBelow (sqrt y) (sqrt x)
+root_keeps x y f g l =
+    not_below (sqrt y) (sqrt x)
+    (λ h. refuted (not_self (sqrt y)) (subst T (sym (below_root (sqrt y) x y f g (is_true (lt (sqrt y) (sqrt x)) h) (is_true (lt x y) l))) tt))

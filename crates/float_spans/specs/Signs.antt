@@ -77,14 +77,14 @@ abbrev pub Lt : Float → Float → Type 0
 Lt x y = over x * den y + under y * den x < over y * den x + under x * den y
 
 -- a part of a signed product
-pub plus-mul : (s : Bool) (a k : ℕ) → plus s (a * k) ≡ plus s a * k
-plus-mul false a k = refl
-plus-mul true a k = omega arith
+pub plus_mul : (s : Bool) (a k : ℕ) → plus s (a * k) ≡ plus s a * k
+plus_mul false a k = refl
+plus_mul true a k = omega arith
 
 -- the same below zero
-pub less-mul : (s : Bool) (a k : ℕ) → less s (a * k) ≡ less s a * k
-less-mul false a k = omega arith
-less-mul true a k = refl
+pub less_mul : (s : Bool) (a k : ℕ) → less s (a * k) ≡ less s a * k
+less_mul false a k = omega arith
+less_mul true a k = refl
 
 -- of finite floats, lt is the order of the fractions
 pub lt→Lt : (x y : Float) → T (finite x) → T (finite y) → T (lt x y) → Lt x y
@@ -94,7 +94,7 @@ lt→Lt (inf s) y p q h = absurd p
 lt→Lt (fin s m e) nan p q h = absurd q
 lt→Lt (fin s m e) (inf t) p q h = absurd q
 lt→Lt (fin s m e) (fin t n d) p q h =
-    omega (arith, below→ s t (m * up e * down d) (n * up d * down e) h, plus-mul s (m * up e) (down d), less-mul s (m * up e) (down d), plus-mul t (n * up d) (down e), less-mul t (n * up d) (down e))
+    omega (arith, below→ s t (m * up e * down d) (n * up d * down e) h, plus_mul s (m * up e) (down d), less_mul s (m * up e) (down d), plus_mul t (n * up d) (down e), less_mul t (n * up d) (down e))
 
 -- and back
 pub Lt→lt : (x y : Float) → T (finite x) → T (finite y) → Lt x y → T (lt x y)
@@ -104,7 +104,7 @@ Lt→lt (inf s) y p q h = absurd p
 Lt→lt (fin s m e) nan p q h = absurd q
 Lt→lt (fin s m e) (inf t) p q h = absurd q
 Lt→lt (fin s m e) (fin t n d) p q h =
-    →below s t (m * up e * down d) (n * up d * down e) (omega (arith, plus-mul s (m * up e) (down d), less-mul s (m * up e) (down d), plus-mul t (n * up d) (down e), less-mul t (n * up d) (down e)))
+    →below s t (m * up e * down d) (n * up d * down e) (omega (arith, plus_mul s (m * up e) (down d), less_mul s (m * up e) (down d), plus_mul t (n * up d) (down e), less_mul t (n * up d) (down e)))
 
 -- and le is theirs
 pub le→Le : (x y : Float) → T (finite x) → T (finite y) → T (le x y) → Le x y
@@ -114,7 +114,7 @@ le→Le (inf s) y p q h = absurd p
 le→Le (fin s m e) nan p q h = absurd q
 le→Le (fin s m e) (inf t) p q h = absurd q
 le→Le (fin s m e) (fin t n d) p q h =
-    omega (arith, order→ s t (m * up e * down d) (n * up d * down e) h, plus-mul s (m * up e) (down d), less-mul s (m * up e) (down d), plus-mul t (n * up d) (down e), less-mul t (n * up d) (down e))
+    omega (arith, order→ s t (m * up e * down d) (n * up d * down e) h, plus_mul s (m * up e) (down d), less_mul s (m * up e) (down d), plus_mul t (n * up d) (down e), less_mul t (n * up d) (down e))
 
 -- and back
 pub Le→le : (x y : Float) → T (finite x) → T (finite y) → Le x y → T (le x y)
@@ -125,4 +125,4 @@ Le→le (fin s m e) nan p q h = absurd q
 Le→le (fin s m e) (inf t) p q h = absurd q
 Le→le (fin s m e) (fin t n d) p q h =
     →order s t (m * up e * down d) (n * up d * down e)
-    (omega (arith, plus-mul s (m * up e) (down d), less-mul s (m * up e) (down d), plus-mul t (n * up d) (down e), less-mul t (n * up d) (down e)))
+    (omega (arith, plus_mul s (m * up e) (down d), less_mul s (m * up e) (down d), plus_mul t (n * up d) (down e), less_mul t (n * up d) (down e)))

@@ -7,10 +7,10 @@ use Rattle.std.specs.Float.Ieee.Positive.{above}
 use Rattle.std.specs.Float.Ieee.Scale.{finite}
 use Rattle.float_spans.specs.declared.Span.{Span}
 use Rattle.float_spans.specs.Rounds.{number}
-use Rattle.float_spans.specs.Monotone.{nought, mul-le, mul-ge}
-use Rattle.float_spans.specs.Orders.{NotBelow, not-below, le-of-not, below-of-le, le-of-below, le_trans, le_of_lt, le-self, not-self, number-le}
-use Rattle.float_spans.specs.Everywhere.{finite_number, tail, nan-mul, add-keeps, sub-keeps, div-keeps}
-use Rattle.float_spans.specs.Squares.{nought-le, upper-square, square_above, square-under, finite-between}
+use Rattle.float_spans.specs.Monotone.{nought, mul_le, mul_ge}
+use Rattle.float_spans.specs.Orders.{NotBelow, not_below, le_of_not, below_of_le, le_of_below, le_trans, le_of_lt, le_self, not_self, number_le}
+use Rattle.float_spans.specs.Everywhere.{finite_number, tail, nan_mul, add_keeps, sub_keeps, div_keeps}
+use Rattle.float_spans.specs.Squares.{nought_le, upper_square, square_above, square_under, finite_between}
 
 -- x lies in X: it is not below the low end and not above the high one. An end that is a NaN says nothing, and a NaN lies in every span.
 pub record Holds (X : Span) (x : Float) : Type 0 where
@@ -23,16 +23,16 @@ pub record Finite (X : Span) : Type 0 where
   pub high : T (finite X.high)
 
 -- low ≤ x ≤ high gives it
-pub holds-of-le : (X : Span) (x : Float) → T (le X.low x) → T (le x X.high) → Holds X x
-holds-of-le X x h k = record { least = below-of-le x X.low h; most = below-of-le X.high x k }
+pub holds_of_le : (X : Span) (x : Float) → T (le X.low x) → T (le x X.high) → Holds X x
+holds_of_le X x h k = record { least = below_of_le x X.low h; most = below_of_le X.high x k }
 
 -- and is given by it, of numbers
-pub low-le : (X : Span) (x : Float) → T (number X.low) → T (number x) → Holds X x → T (le X.low x)
-low-le X x p q h = le-of-below x X.low q p h.least
+pub low_le : (X : Span) (x : Float) → T (number X.low) → T (number x) → Holds X x → T (le X.low x)
+low_le X x p q h = le_of_below x X.low q p h.least
 
 -- the same of the high end
-pub le-high : (X : Span) (x : Float) → T (number X.high) → T (number x) → Holds X x → T (le x X.high)
-le-high X x p q h = le-of-below X.high x p q h.most
+pub le_high : (X : Span) (x : Float) → T (number X.high) → T (number x) → Holds X x → T (le x X.high)
+le_high X x p q h = le_of_below X.high x p q h.most
 
 -- ---- the operations on spans
 -- x - c for x in X
@@ -64,69 +64,69 @@ abbrev pub times : Format → Span → Float → Span
 times f X c = record { low = lower (mul f X.low c) (mul f X.high c); high = higher (mul f X.low c) (mul f X.high c) }
 
 -- the float of X that is nearest to 0
-abbrev pub nearestToZero : Span → Float
-nearestToZero X = cond (lt nought X.low) X.low (cond (lt X.high nought) X.high nought)
+abbrev pub nearest_to_zero : Span → Float
+nearest_to_zero X = cond (lt nought X.low) X.low (cond (lt X.high nought) X.high nought)
 
 -- what x * x is not below for x in X
-abbrev pub leastSquare : Format → Span → Float
-leastSquare f X = cond (lt nought X.low) (mul f X.low X.low) (cond (lt X.high nought) (mul f X.high X.high) nought)
+abbrev pub least_square : Format → Span → Float
+least_square f X = cond (lt nought X.low) (mul f X.low X.low) (cond (lt X.high nought) (mul f X.high X.high) nought)
 
 -- ---- the laws of membership that need no premise
 -- x - c lies in X less c
-pub less-holds : (f : Format) {X : Span} {x : Float} (c : Float) → Holds X x → Holds (less f X c) (sub f x c)
-less-holds f c h = record { least = sub-keeps f h.least (not-self c); most = sub-keeps f h.most (not-self c) }
+pub less_holds : (f : Format) {X : Span} {x : Float} (c : Float) → Holds X x → Holds (less f X c) (sub f x c)
+less_holds f c h = record { least = sub_keeps f h.least (not_self c); most = sub_keeps f h.most (not_self c) }
 
 -- x + y lies in the sum of the spans
-pub plus-holds : (f : Format) {X Y : Span} {x y : Float} → Holds X x → Holds Y y → Holds (plus f X Y) (add f x y)
-plus-holds f h k = record { least = add-keeps f h.least k.least; most = add-keeps f h.most k.most }
+pub plus_holds : (f : Format) {X Y : Span} {x y : Float} → Holds X x → Holds Y y → Holds (plus f X Y) (add f x y)
+plus_holds f h k = record { least = add_keeps f h.least k.least; most = add_keeps f h.most k.most }
 
 -- x - y lies in the difference of the spans
-pub minus-holds : (f : Format) {X Y : Span} {x y : Float} → Holds X x → Holds Y y → Holds (minus f X Y) (sub f x y)
-minus-holds f h k = record { least = sub-keeps f h.least k.most; most = sub-keeps f h.most k.least }
+pub minus_holds : (f : Format) {X Y : Span} {x y : Float} → Holds X x → Holds Y y → Holds (minus f X Y) (sub f x y)
+minus_holds f h k = record { least = sub_keeps f h.least k.most; most = sub_keeps f h.most k.least }
 
 -- c is above zero, the infinity included
-pub over-holds : (f : Format) {X : Span} {x : Float} (c : Float) → T (above c) → Holds X x → Holds (over f X c) (div f x c)
-over-holds f c p h = record { least = div-keeps f c p h.least; most = div-keeps f c p h.most }
+pub over_holds : (f : Format) {X : Span} {x : Float} (c : Float) → T (above c) → Holds X x → Holds (over f X c) (div f x c)
+over_holds f c p h = record { least = div_keeps f c p h.least; most = div_keeps f c p h.most }
 
 -- ---- the product, for finite ends and a finite c
 -- the lower of two is not above either
-pub lower-le : (a b : Float) → T (number a) → T (number b) → T (le (lower a b) a) × T (le (lower a b) b)
-lower-le a b p q = go (lt a b) (le_of_lt a b) (le-of-not a b p q)
+pub lower_le : (a b : Float) → T (number a) → T (number b) → T (le (lower a b) a) × T (le (lower a b) b)
+lower_le a b p q = go (lt a b) (le_of_lt a b) (le_of_not a b p q)
   where
     go : (t : Bool) → (T t → T (le a b)) → ((T t → ⊥) → T (le b a)) → T (le (cond t a b) a) × T (le (cond t a b) b)
-    go true h k = (le-self a p, h tt)
-    go false h k = (k (λ x. x), le-self b q)
+    go true h k = (le_self a p, h tt)
+    go false h k = (k (λ x. x), le_self b q)
 
 -- the higher of two is not below either
-pub le-higher : (a b : Float) → T (number a) → T (number b) → T (le a (higher a b)) × T (le b (higher a b))
-le-higher a b p q = go (lt b a) (le_of_lt b a) (le-of-not b a q p)
+pub le_higher : (a b : Float) → T (number a) → T (number b) → T (le a (higher a b)) × T (le b (higher a b))
+le_higher a b p q = go (lt b a) (le_of_lt b a) (le_of_not b a q p)
   where
     go : (t : Bool) → (T t → T (le b a)) → ((T t → ⊥) → T (le a b)) → T (le a (cond t a b)) × T (le b (cond t a b))
-    go true h k = (le-self a p, h tt)
-    go false h k = (k (λ x. x), le-self b q)
+    go true h k = (le_self a p, h tt)
+    go false h k = (k (λ x. x), le_self b q)
 
 -- what lies between a and b, either way round
 between : (a b x : Float) → (T (le a x) × T (le x b)) ⊎ (T (le b x) × T (le x a)) → T (le (lower a b) x) × T (le x (higher a b))
 between a b x (inl (h, k)) =
-    let p = (number-le a x h).0 in
-    let q = (number-le x b k).1 in
-    (le_trans (lower a b) a x (lower-le a b p q).0 h, le_trans x b (higher a b) k (le-higher a b p q).1)
+    let p = (number_le a x h).0 in
+    let q = (number_le x b k).1 in
+    (le_trans (lower a b) a x (lower_le a b p q).0 h, le_trans x b (higher a b) k (le_higher a b p q).1)
 between a b x (inr (h, k)) =
-    let p = (number-le x a k).1 in
-    let q = (number-le b x h).0 in
-    (le_trans (lower a b) b x (lower-le a b p q).1 h, le_trans x a (higher a b) k (le-higher a b p q).0)
+    let p = (number_le x a k).1 in
+    let q = (number_le b x h).0 in
+    (le_trans (lower a b) b x (lower_le a b p q).1 h, le_trans x a (higher a b) k (le_higher a b p q).0)
 
 -- a finite float is not below zero, or not above it
 signed : (c : Float) → T (finite c) → T (le nought c) ⊎ T (le c nought)
-signed c p = go (lt c nought) (le_of_lt c nought) (le-of-not c nought (finite_number c p) tt)
+signed c p = go (lt c nought) (le_of_lt c nought) (le_of_not c nought (finite_number c p) tt)
   where
     go : (t : Bool) → (T t → T (le c nought)) → ((T t → ⊥) → T (le nought c)) → T (le nought c) ⊎ T (le c nought)
     go true h k = inr (h tt)
     go false h k = inl (k (λ x. x))
 
 -- a NaN lies in every span
-pub nan-holds : (X : Span) → Holds X nan
-nan-holds X = record { least = not-below nan X.low (λ h. unfold lt in h); most = not-below X.high nan (tail X.high) }
+pub nan_holds : (X : Span) → Holds X nan
+nan_holds X = record { least = not_below nan X.low (λ h. unfold lt in h); most = not_below X.high nan (tail X.high) }
 
 -- a float of a span is a NaN, or a number
 cases : (x : Float) → (x ≡ nan) ⊎ T (number x)
@@ -135,41 +135,41 @@ cases (inf s) = inr tt
 cases (fin s m e) = inr tt
 
 -- x * c lies in X times c, for finite ends and a finite c
-pub times-holds : (f : Format) {X : Span} {x : Float} (c : Float) → Finite X → T (finite c) → Holds X x → Holds (times f X c) (mul f x c)
-times-holds f {X} {x} c g r h = go (cases x)
+pub times_holds : (f : Format) {X : Span} {x : Float} (c : Float) → Finite X → T (finite c) → Holds X x → Holds (times f X c) (mul f x c)
+times_holds f {X} {x} c g r h = go (cases x)
   where
     numbers : T (number x) → Holds (times f X c) (mul f x c)
     numbers q =
-        let p = finite-between X.low x X.high g.low g.high q h.least h.most in
-        let a = low-le X x (finite_number X.low g.low) q h in
-        let b = le-high X x (finite_number X.high g.high) q h in
+        let p = finite_between X.low x X.high g.low g.high q h.least h.most in
+        let a = low_le X x (finite_number X.low g.low) q h in
+        let b = le_high X x (finite_number X.high g.high) q h in
         let ends = between (mul f X.low c) (mul f X.high c) (mul f x c) (elim (signed c r) [
-          | inl s ↦ inl (mul-le f X.low x c g.low p r s a, mul-le f x X.high c p g.high r s b)
-          | inr s ↦ inr (mul-ge f x X.high c p g.high r s b, mul-ge f X.low x c g.low p r s a)
+          | inl s ↦ inl (mul_le f X.low x c g.low p r s a, mul_le f x X.high c p g.high r s b)
+          | inr s ↦ inr (mul_ge f x X.high c p g.high r s b, mul_ge f X.low x c g.low p r s a)
         ]) in
-        holds-of-le (times f X c) (mul f x c) ends.0 ends.1
+        holds_of_le (times f X c) (mul f x c) ends.0 ends.1
 
     go : (x ≡ nan) ⊎ T (number x) → Holds (times f X c) (mul f x c)
-    go (inl e) = subst (λ (z : Float). Holds (times f X c) (mul f z c)) (sym e) (subst (λ (z : Float). Holds (times f X c) z) (sym (nan-mul f c)) (nan-holds (times f X c)))
+    go (inl e) = subst (λ (z : Float). Holds (times f X c) (mul f z c)) (sym e) (subst (λ (z : Float). Holds (times f X c) z) (sym (nan_mul f c)) (nan_holds (times f X c)))
     go (inr q) = numbers q
 
 -- ---- the square
 -- of a number in a span
-pub square_le : (f : Format) (X : Span) (x : Float) → T (number x) → Holds X x → T (le (leastSquare f X) (mul f x x))
-square_le f X x p h = go (lt nought X.low) (lt X.high nought) (λ t. square_above f X.low x t p h.least) (λ t. square-under f X.high x t p h.most)
+pub square_le : (f : Format) (X : Span) (x : Float) → T (number x) → Holds X x → T (le (least_square f X) (mul f x x))
+square_le f X x p h = go (lt nought X.low) (lt X.high nought) (λ t. square_above f X.low x t p h.least) (λ t. square_under f X.high x t p h.most)
   where
     go : (a b : Bool) → (T a → T (le (mul f X.low X.low) (mul f x x))) → (T b → T (le (mul f X.high X.high) (mul f x x)))
         → T (le (cond a (mul f X.low X.low) (cond b (mul f X.high X.high) nought)) (mul f x x))
     go true b k l = k tt
     go false true k l = l tt
-    go false false k l = nought-le (mul f x x) (upper-square f x p)
+    go false false k l = nought_le (mul f x x) (upper_square f x p)
 
 -- of any float in a span
-pub square-holds : (f : Format) (X : Span) (x : Float) → Holds X x → NotBelow (mul f x x) (leastSquare f X)
-square-holds f X x h = go (cases x)
+pub square_holds : (f : Format) (X : Span) (x : Float) → Holds X x → NotBelow (mul f x x) (least_square f X)
+square_holds f X x h = go (cases x)
   where
-    go : (x ≡ nan) ⊎ T (number x) → NotBelow (mul f x x) (leastSquare f X)
+    go : (x ≡ nan) ⊎ T (number x) → NotBelow (mul f x x) (least_square f X)
     go (inl e) =
-        subst (λ (z : Float). NotBelow (mul f z z) (leastSquare f X)) (sym e)
-        (subst (λ (z : Float). NotBelow z (leastSquare f X)) (sym (nan-mul f nan)) (nan-holds (record { low = leastSquare f X; high = nought })).least)
-    go (inr p) = below-of-le (mul f x x) (leastSquare f X) (square_le f X x p h)
+        subst (λ (z : Float). NotBelow (mul f z z) (least_square f X)) (sym e)
+        (subst (λ (z : Float). NotBelow z (least_square f X)) (sym (nan_mul f nan)) (nan_holds (record { low = least_square f X; high = nought })).least)
+    go (inr p) = below_of_le (mul f x x) (least_square f X) (square_le f X x p h)

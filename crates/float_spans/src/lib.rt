@@ -2,7 +2,7 @@
 
 ghost use Rattle.std.specs.Prelude.{◌≡◌};
 ghost use Rattle.std.specs.Float.{binary64};
-ghost use Rattle.float_spans.specs.Spans.{less, plus, minus, over, lower, higher, times, leastSquare, nearestToZero};
+ghost use Rattle.float_spans.specs.Spans.{less, plus, minus, over, lower, higher, times, least_square, nearest_to_zero};
 ghost use Rattle.float_spans.specs.Hulls.{empty, one, hull};
 
 // The values from low up to high.
@@ -115,7 +115,7 @@ impl Span {
 
     // The float of the span that is nearest to 0.
     fn nearest_to_zero(self) -> f64
-        ensures { result ≡ nearestToZero self }
+        ensures { result ≡ nearest_to_zero self }
     {
         if self.low > 0.0 {
             return self.low;
@@ -128,7 +128,7 @@ impl Span {
 
     // What x * x is not below for x in the span: one float is chosen and then squared, so that there is no jump to foresee.
     pub fn least_square(self) -> f64
-        ensures { result ≡ leastSquare binary64 self }
+        ensures { result ≡ least_square binary64 self }
     {
         let x = self.nearest_to_zero();
         x * x

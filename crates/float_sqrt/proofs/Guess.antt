@@ -7,10 +7,10 @@ use native.Mathlib.Omega.{arith}
 use borrow.Author.Tests.{leb-true}
 use lib.Dec.{leb}
 use lib.Ieee.{binary64, to_bits}
-use Rattle.float_sqrt.specs.Roots.{nearestRoot, rootOf}
-use Rattle.float_sqrt.specs.Root.{Near, near-unique, nearest-near}
-use Rattle.float_sqrt.specs.SquareRoot.{root-left}
-use Rattle.float_sqrt.proofs.SqrtBits.{root-pattern}
+use Rattle.float_sqrt.specs.Roots.{nearest_root, root_of}
+use Rattle.float_sqrt.specs.Root.{Near, near_unique, nearest_near}
+use Rattle.float_sqrt.specs.SquareRoot.{root_left}
+use Rattle.float_sqrt.proofs.SqrtBits.{root_pattern}
 
 -- a root's high and low part
 abbrev pub high : ℕ → ℕ
@@ -26,14 +26,14 @@ module _ (q : ℕ) (h : q < 2 ^ 53) where
   rest_lt : rest q ≤ 2 ^ 27
   rest_lt = omega arith
 
-  pub square-high : high q * high q ≤ 2 ^ 52
-  square-high = mul-le-mul high_lt high_lt
+  pub square_high : high q * high q ≤ 2 ^ 52
+  square_high = mul-le-mul high_lt high_lt
 
-  pub square-mixed : high q * rest q ≤ 2 ^ 53
-  square-mixed = mul-le-mul high_lt rest_lt
+  pub square_mixed : high q * rest q ≤ 2 ^ 53
+  square_mixed = mul-le-mul high_lt rest_lt
 
-  pub square-rest : rest q * rest q ≤ 2 ^ 54
-  square-rest = mul-le-mul rest_lt rest_lt
+  pub square_rest : rest q * rest q ≤ 2 ^ 54
+  square_rest = mul-le-mul rest_lt rest_lt
 
 -- n + 2 less 4 * h * h is c, and c * 2 ^ 24 less h * l is t: so t * 2 ^ 28 is n * 2 ^ 52 + 2 ^ 53 less all of the square but l * l
 parts : (n q H D L c t : ℕ) → q * q ≡ H * 2 ^ 54 + D * 2 ^ 28 + L → c + 4 * H ≡ n + 2 → t + D ≡ c * 2 ^ 24 → L + 2 ^ 53 < t * 2 ^ 28 + q → t * 2 ^ 28 ≤ L + 2 ^ 53 + q → Near (n * 2 ^ 52) q
@@ -56,8 +56,8 @@ tested n q a b lo hi =
 pub refused : {X : Type 0} → false ≡ true → X
 refused e = absurd (true≢false (sym e))
 
-pub accepted : (n q : ℕ) → 2 ^ 52 ≤ n → n ≤ 2 ^ 54 - 2 → Near (n * 2 ^ 52) q → q ≡ nearestRoot (n * 2 ^ 52)
-accepted n q lo hi w = near-unique (n * 2 ^ 52) q (nearestRoot (n * 2 ^ 52)) w (nearest-near (n * 2 ^ 52) (omega arith) (omega arith))
+pub accepted : (n q : ℕ) → 2 ^ 52 ≤ n → n ≤ 2 ^ 54 - 2 → Near (n * 2 ^ 52) q → q ≡ nearest_root (n * 2 ^ 52)
+accepted n q lo hi w = near_unique (n * 2 ^ 52) q (nearest_root (n * 2 ^ 52)) w (nearest_near (n * 2 ^ 52) (omega arith) (omega arith))
 
 -- ---- the digits of the square that are kept, m or twice m
 pub record Kept (n : ℕ) : Type 0 where
@@ -70,5 +70,5 @@ kept m (suc zero) lo hi h = record { lo = omega arith; hi = omega arith }
 kept m (suc (suc p)) lo hi h = omega arith
 
 -- the pattern of the root of m * 2 ^ e, m having 53 digits
-pub pattern : (m e : ℕ) → 2 ^ 52 ≤ m → m < 2 ^ 53 → 52 ≤ e → e < 3120 → to_bits binary64 (rootOf (m * 2 ^ e)) ≡ (e - 52) / 2 * 2 ^ 52 + nearestRoot (m * (1 + e % 2) * 2 ^ 52)
-pattern m e lo hi few most = root-pattern (root-left m e lo hi few most)
+pub pattern : (m e : ℕ) → 2 ^ 52 ≤ m → m < 2 ^ 53 → 52 ≤ e → e < 3120 → to_bits binary64 (root_of (m * 2 ^ e)) ≡ (e - 52) / 2 * 2 ^ 52 + nearest_root (m * (1 + e % 2) * 2 ^ 52)
+pattern m e lo hi few most = root_pattern (root_left m e lo hi few most)

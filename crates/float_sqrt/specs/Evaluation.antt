@@ -1,9 +1,9 @@
 -- A claim that says `unfolding evaluation` has every definition of this crate and of those below it computed. Assumes nothing.
 use Rattle.std.specs.Prelude.{ℕ}
 use Rattle.float_steps.specs.Evaluation as Floats
-use Rattle.float_sqrt.specs.Roots.{isqrt, rootOf, sqrt}
+use Rattle.float_sqrt.specs.Roots.{isqrt, root_of, sqrt}
 
 -- every definition that computes
 unfoldable pub evaluation : ℕ
-unfolding Floats.evaluation isqrt rootOf sqrt
+unfolding Floats.evaluation isqrt root_of sqrt
 evaluation = 0

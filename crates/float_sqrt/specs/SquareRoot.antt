@@ -16,8 +16,8 @@ use Rattle.float_rounding.specs.Held.{Held, held, rescaled}
 use Rattle.float_rounding.specs.Pattern.{size_exact, pow_lt_back}
 use Rattle.float_rounding.specs.Shift.{product, pows}
 use Rattle.float_rounding.specs.Whole.{same_size}
-use Rattle.float_sqrt.specs.Roots.{nearestRoot, rootOf, sqrt}
-use Rattle.float_sqrt.specs.Root.{Near, nearest-near, near-from, near-below}
+use Rattle.float_sqrt.specs.Roots.{nearest_root, root_of, sqrt}
+use Rattle.float_sqrt.specs.Root.{Near, nearest_near, near_from, near_below}
 
 four : (k : ℕ) → 4 ^ k ≡ 2 ^ (2 * k)
 four zero = refl
@@ -33,7 +33,7 @@ pub record Rooted (n k N q : ℕ) : Type 0 where
   pub near : Near N q
   pub from : 2 ^ 52 ≤ q
   pub below : q < 2 ^ 53
-  pub is : HasValue (rootOf n) false (q * 2 ^ k) (2 ^ 1074)
+  pub is : HasValue (root_of n) false (q * 2 ^ k) (2 ^ 1074)
 
 -- ---- the root of m * 2 ^ e, m having 53 digits: 2 * k of the e are dropped, and N is left
 module _ (m e : ℕ) (lo : 2 ^ 52 ≤ m) (hi : m < 2 ^ 53) (few : 52 ≤ e) (most : e < 3120) where
@@ -49,14 +49,14 @@ module _ (m e : ℕ) (lo : 2 ^ 52 ≤ m) (hi : m < 2 ^ 53) (few : 52 ≤ e) (mos
       one_more : (e : ℕ) → 53 + e ≡ suc (52 + e)
       one_more e = omega arith
 
-  drop-is : (z : ℕ) → z ≡ suc (52 + e) → (z + 1) / 2 - 53 ≡ k
-  drop-is z h = omega arith
+  drop_is : (z : ℕ) → z ≡ suc (52 + e) → (z + 1) / 2 - 53 ≡ k
+  drop_is z h = omega arith
 
-  is : (N : ℕ) → m * 2 ^ e / 4 ^ k ≡ N → rootOf (m * 2 ^ e) ≡ round binary64 false (nearestRoot N * 2 ^ k) (2 ^ 1074)
-  unfolding rootOf
+  is : (N : ℕ) → m * 2 ^ e / 4 ^ k ≡ N → root_of (m * 2 ^ e) ≡ round binary64 false (nearest_root N * 2 ^ k) (2 ^ 1074)
+  unfolding root_of
   is N left =
-      ap (λ (z : ℕ). round binary64 false (nearestRoot (m * 2 ^ e / 4 ^ z) * 2 ^ z) (2 ^ 1074)) (drop-is (size (m * 2 ^ e)) size_is)
-      ∙ ap (λ (z : ℕ). round binary64 false (nearestRoot z * 2 ^ k) (2 ^ 1074)) left
+      ap (λ (z : ℕ). round binary64 false (nearest_root (m * 2 ^ e / 4 ^ z) * 2 ^ z) (2 ^ 1074)) (drop_is (size (m * 2 ^ e)) size_is)
+      ∙ ap (λ (z : ℕ). round binary64 false (nearest_root z * 2 ^ k) (2 ^ 1074)) left
 
   -- the digits of the square that are kept
   kept : (p N : ℕ) → e ≡ 52 + p + 2 * k → N ≡ m * 2 ^ p * 2 ^ 52 → m * 2 ^ e ≡ N * 4 ^ k
@@ -69,29 +69,29 @@ module _ (m e : ℕ) (lo : 2 ^ 52 ≤ m) (hi : m < 2 ^ 53) (few : 52 ≤ e) (mos
       turn : (m a b c : ℕ) → m * (a * b * c) ≡ m * b * a * c
       turn m a b c = omega arith
 
-  rooted : (N : ℕ) → m * 2 ^ e ≡ N * 4 ^ k → 2 ^ 104 ≤ N → N ≤ 2 ^ 106 - 2 ^ 53 → Rooted (m * 2 ^ e) k N (nearestRoot N)
+  rooted : (N : ℕ) → m * 2 ^ e ≡ N * 4 ^ k → 2 ^ 104 ≤ N → N ≤ 2 ^ 106 - 2 ^ 53 → Rooted (m * 2 ^ e) k N (nearest_root N)
   rooted N h lo hi =
-      let q = nearestRoot N in
-      let w : Near N q = nearest-near N (omega arith) (omega arith) in
-      let b : q < 2 ^ 53 = near-below N q hi w in
+      let q = nearest_root N in
+      let w : Near N q = nearest_near N (omega arith) (omega arith) in
+      let b : q < 2 ^ 53 = near_below N q hi w in
       record {
         split = h;
         least = lo;
         near = w;
-        from = near-from N q lo w;
+        from = near_from N q lo w;
         below = b;
         is = subst (λ (x : Float). HasValue x false (q * 2 ^ k) (2 ^ 1074)) (sym (is N (ap (λ (z : ℕ). z / 4 ^ k) h ∙ mul-div_cancel N (subst (λ (z : ℕ). 0 < z) (sym (four k)) (pow_pos (2 * k))))))
             (round_exact binary64 false (q * 2 ^ k) (2 ^ 1074) q k (pow_pos 1074) b (lt_of_lt_of_le (shl_lt 53 k b) (pow_mono {i = 53 + k} {j = 2098} (omega arith))) refl);
       }
 
   -- an even e leaves m * 2 ^ 52, and an odd one twice that
-  pub root-left : Rooted (m * 2 ^ e) k (m * (1 + e % 2) * 2 ^ 52) (nearestRoot (m * (1 + e % 2) * 2 ^ 52))
-  root-left = go (e % 2) refl (bit e)
+  pub root_left : Rooted (m * 2 ^ e) k (m * (1 + e % 2) * 2 ^ 52) (nearest_root (m * (1 + e % 2) * 2 ^ 52))
+  root_left = go (e % 2) refl (bit e)
     where
       bit : (e : ℕ) → e % 2 < 2
       bit e = omega arith
 
-      go : (p : ℕ) → p ≡ e % 2 → p < 2 → Rooted (m * 2 ^ e) k (m * (1 + p) * 2 ^ 52) (nearestRoot (m * (1 + p) * 2 ^ 52))
+      go : (p : ℕ) → p ≡ e % 2 → p < 2 → Rooted (m * 2 ^ e) k (m * (1 + p) * 2 ^ 52) (nearest_root (m * (1 + p) * 2 ^ 52))
       go zero h l = rooted (m * 1 * 2 ^ 52) (kept 0 (m * 1 * 2 ^ 52) (omega arith) refl) (omega arith) (omega arith)
       go (suc zero) h l = rooted (m * 2 * 2 ^ 52) (kept 1 (m * 2 * 2 ^ 52) (omega arith) refl) (omega arith) (omega arith)
       go (suc (suc p)) h l = absurd (no l)
@@ -100,13 +100,13 @@ module _ (m e : ℕ) (lo : 2 ^ 52 ≤ m) (hi : m < 2 ^ 53) (few : 52 ≤ e) (mos
           no l = omega arith
 
 -- ---- any positive value, a of the smallest ones
-pub sqrt-value : (x : Float) (a : ℕ) → HasValue x false a (2 ^ 1074) → 0 < a → sqrt x ≡ rootOf (a * 2 ^ 1074)
+pub sqrt_value : (x : Float) (a : ℕ) → HasValue x false a (2 ^ 1074) → 0 < a → sqrt x ≡ root_of (a * 2 ^ 1074)
 unfolding sqrt
-sqrt-value nan a h p = absurd h
-sqrt-value (inf s) a h p = absurd h
-sqrt-value (fin true m e) a h p = absurd (true≢false h.0)
-sqrt-value (fin false zero e) a h p = absurd (lt_irrefl 0 (subst (λ (z : ℕ). 0 < z) (sym h.1 ∙ ap (λ (z : ℕ). z * 2 ^ 1074) (zero-mul (up e)) ∙ zero-mul (2 ^ 1074)) (mul-pos p (down_pos e))))
-sqrt-value (fin false (suc m) e) a h p = ap rootOf (ap (λ (z : ℕ). z / down e) (rescaled (fin false (suc m) e) false a (2 ^ 1074) (2 ^ 1074) (4 ^ 1074) refl h).1
+sqrt_value nan a h p = absurd h
+sqrt_value (inf s) a h p = absurd h
+sqrt_value (fin true m e) a h p = absurd (true≢false h.0)
+sqrt_value (fin false zero e) a h p = absurd (lt_irrefl 0 (subst (λ (z : ℕ). 0 < z) (sym h.1 ∙ ap (λ (z : ℕ). z * 2 ^ 1074) (zero-mul (up e)) ∙ zero-mul (2 ^ 1074)) (mul-pos p (down_pos e))))
+sqrt_value (fin false (suc m) e) a h p = ap root_of (ap (λ (z : ℕ). z / down e) (rescaled (fin false (suc m) e) false a (2 ^ 1074) (2 ^ 1074) (4 ^ 1074) refl h).1
     ∙ mul-div_cancel (a * 2 ^ 1074) (down_pos e))
 
 -- ---- no other value is as near
@@ -149,15 +149,15 @@ module _ (N q k d i : ℕ) (w : Near N q) (least : 2 ^ 104 ≤ N) (from : 2 ^ 52
 
   -- the other value is D * 2 ^ k
   module _ (D : ℕ) (e : d * 2 ^ i ≡ D * K) where
-    same-below : d * 2 ^ i < q * K → (d * 2 ^ i + q * K) * (d * 2 ^ i + q * K) < 4 * (N * (K * K))
-    same-below l = go q (lt_of_mul-lt-mul_right K (subst (λ (z : ℕ). z < q * K) e l)) w.lo
+    same_below : d * 2 ^ i < q * K → (d * 2 ^ i + q * K) * (d * 2 ^ i + q * K) < 4 * (N * (K * K))
+    same_below l = go q (lt_of_mul-lt-mul_right K (subst (λ (z : ℕ). z < q * K) e l)) w.lo
       where
         go : (q : ℕ) → D < q → q * q < N + q → (d * 2 ^ i + q * K) * (d * 2 ^ i + q * K) < 4 * (N * (K * K))
         go zero h n = omega arith
-        go (suc p) h n = under (d * 2 ^ i + suc p * K) (2 * p + 1) N K (omega (arith, e, mul-le-mul_right K (le-of-suc h))) (omega arith) (pow_pos k)
+        go (suc p) h n = under (d * 2 ^ i + suc p * K) (2 * p + 1) N K (omega (arith, e, mul-le-mul_right K (le_of_suc h))) (omega arith) (pow_pos k)
           where
-            le-of-suc : D < suc p → D ≤ p
-            le-of-suc h = omega arith
+            le_of_suc : D < suc p → D ≤ p
+            le_of_suc h = omega arith
 
     same_above : q * K < d * 2 ^ i → 4 * (N * (K * K)) < (d * 2 ^ i + q * K) * (d * 2 ^ i + q * K)
     same_above l =
@@ -167,8 +167,8 @@ module _ (N q k d i : ℕ) (w : Near N q) (least : 2 ^ 104 ≤ N) (from : 2 ^ 52
   finer : i < k → d * 2 ^ i < 2 ^ 52 * K
   finer l = lt_of_lt_of_le (shl_lt 53 i small) (le_trans (pow_mono {i = 53 + i} {j = 52 + k} (omega arith)) (le_of_eq (pow-add 2 52 k)))
 
-  finer-below : i < k → (d * 2 ^ i + q * K) * (d * 2 ^ i + q * K) < 4 * (N * (K * K))
-  finer-below l = go (eq-or-lt_of_le from)
+  finer_below : i < k → (d * 2 ^ i + q * K) * (d * 2 ^ i + q * K) < 4 * (N * (K * K))
+  finer_below l = go (eq-or-lt_of_le from)
     where
       go : (2 ^ 52 ≡ q) ⊎ (2 ^ 52 < q) → (d * 2 ^ i + q * K) * (d * 2 ^ i + q * K) < 4 * (N * (K * K))
       go (inl e) = under_twice (d * 2 ^ i + q * K) q N K (omega (arith, finer l, ap (λ (z : ℕ). z * K) e)) (le_trans (le_of_eq (ap (λ (z : ℕ). z * z) (sym e))) least)
@@ -176,23 +176,23 @@ module _ (N q k d i : ℕ) (w : Near N q) (least : 2 ^ 104 ≤ N) (from : 2 ^ 52
         where
           at : (q : ℕ) → 2 ^ 52 < q → q * q < N + q → (d * 2 ^ i + q * K) * (d * 2 ^ i + q * K) < 4 * (N * (K * K))
           at zero h n = omega arith
-          at (suc p) h n = under (d * 2 ^ i + suc p * K) (2 * p + 1) N K (omega (arith, finer l, mul-le-mul_right K (le-of-suc h))) (omega arith) (pow_pos k)
+          at (suc p) h n = under (d * 2 ^ i + suc p * K) (2 * p + 1) N K (omega (arith, finer l, mul-le-mul_right K (le_of_suc h))) (omega arith) (pow_pos k)
             where
-              le-of-suc : 2 ^ 52 < suc p → 2 ^ 52 ≤ p
-              le-of-suc h = omega arith
+              le_of_suc : 2 ^ 52 < suc p → 2 ^ 52 ≤ p
+              le_of_suc h = omega arith
 
   coarse : k ≤ i → d * 2 ^ i ≡ d * 2 ^ (i - k) * K
   coarse l = ap (λ (z : ℕ). d * z) (sym (product (i - k) k i (omega arith))) ∙ sym (mul_assoc d (2 ^ (i - k)) K)
 
-  middle-below : d * 2 ^ i < q * K → (d * 2 ^ i + q * K) * (d * 2 ^ i + q * K) < 4 * (N * (K * K))
-  middle-below l = go (leb k i) (leb→le k i) (nleb→lt k i)
+  middle_below : d * 2 ^ i < q * K → (d * 2 ^ i + q * K) * (d * 2 ^ i + q * K) < 4 * (N * (K * K))
+  middle_below l = go (leb k i) (leb→le k i) (nleb→lt k i)
     where
       go : (b : Bool) → (T b → k ≤ i) → (T (not b) → i < k) → (d * 2 ^ i + q * K) * (d * 2 ^ i + q * K) < 4 * (N * (K * K))
-      go true g h = same-below (d * 2 ^ (i - k)) (coarse (g tt)) l
-      go false g h = finer-below (h tt)
+      go true g h = same_below (d * 2 ^ (i - k)) (coarse (g tt)) l
+      go false g h = finer_below (h tt)
 
-  middle-above : q * K < d * 2 ^ i → 4 * (N * (K * K)) < (d * 2 ^ i + q * K) * (d * 2 ^ i + q * K)
-  middle-above l = go (leb k i) (leb→le k i) (nleb→lt k i)
+  middle_above : q * K < d * 2 ^ i → 4 * (N * (K * K)) < (d * 2 ^ i + q * K) * (d * 2 ^ i + q * K)
+  middle_above l = go (leb k i) (leb→le k i) (nleb→lt k i)
     where
       no : i < k → ⊥
       no h = omega (arith, finer h, mul-le-mul_right K from)
@@ -202,16 +202,16 @@ module _ (N q k d i : ℕ) (w : Near N q) (least : 2 ^ 104 ≤ N) (from : 2 ^ 52
       go false g h = absurd (no (h tt))
 
 -- ---- the values that the format holds
-value-finite : (x : Float) (s : Bool) (a c : ℕ) → HasValue x s a c → T (finite x)
-value-finite nan s a c h = absurd h
-value-finite (inf t) s a c h = absurd h
-value-finite (fin t m e) s a c h = tt
+value_finite : (x : Float) (s : Bool) (a c : ℕ) → HasValue x s a c → T (finite x)
+value_finite nan s a c h = absurd h
+value_finite (inf t) s a c h = absurd h
+value_finite (fin t m e) s a c h = tt
 
-positive-sign : (x : Float) (s : Bool) (a c : ℕ) → T (positive x) → HasValue x s a c → s ≡ false
-positive-sign nan s a c p h = absurd p
-positive-sign (inf t) s a c p h = absurd p
-positive-sign (fin true m e) s a c p h = absurd p
-positive-sign (fin false m e) s a c p h = sym h.0
+positive_sign : (x : Float) (s : Bool) (a c : ℕ) → T (positive x) → HasValue x s a c → s ≡ false
+positive_sign nan s a c p h = absurd p
+positive_sign (inf t) s a c p h = absurd p
+positive_sign (fin true m e) s a c p h = absurd p
+positive_sign (fin false m e) s a c p h = sym h.0
 
 -- a value's digits d, of the weight 2 ^ j, moved up until they are 53
 record Moved (d j : ℕ) : Type 0 where
@@ -248,24 +248,24 @@ move d j p small under = go (size d) (size-lt d) (size-le d 53 small) (λ (i : �
         top = omega arith
 
 -- The square root of a value above zero is the nearest value.
-pub sqrt-nearest : (x : Float) → T (fits binary64 x) → T (positive x) → Nearest x (sqrt x)
-sqrt-nearest x f p = at h.sign (positive-sign x h.sign (h.digits * 2 ^ h.shift) (2 ^ 1074) p h.is) h.is
+pub sqrt_nearest : (x : Float) → T (fits binary64 x) → T (positive x) → Nearest x (sqrt x)
+sqrt_nearest x f p = at h.sign (positive_sign x h.sign (h.digits * 2 ^ h.shift) (2 ^ 1074) p h.is) h.is
   where
     h : Held binary64 x
     h = held binary64 x f (positive-finite x p)
 
     at : (s : Bool) → s ≡ false → HasValue x s (h.digits * 2 ^ h.shift) (2 ^ 1074) → Nearest x (sqrt x)
     at true e v = absurd (true≢false e)
-    at false e v = go (root-left w.m w.e w.lo w.hi w.few w.most)
+    at false e v = go (root_left w.m w.e w.lo w.hi w.few w.most)
       where
         a : ℕ
         a = h.digits * 2 ^ h.shift
 
-        a-pos : 0 < a
-        a-pos = value_pos x a (2 ^ 1074) p (pow_pos 1074) v
+        a_pos : 0 < a
+        a_pos = value_pos x a (2 ^ 1074) p (pow_pos 1074) v
 
         w : Moved h.digits h.shift
-        w = move h.digits h.shift (first_pos h.digits (2 ^ h.shift) a-pos) h.small h.under
+        w = move h.digits h.shift (first_pos h.digits (2 ^ h.shift) a_pos) h.small h.under
 
         go : {k N q : ℕ} → Rooted (w.m * 2 ^ w.e) k N q → Nearest x (sqrt x)
         go {k} {N} {q} r = record {
@@ -273,11 +273,11 @@ sqrt-nearest x f p = at h.sign (positive-sign x h.sign (h.digits * 2 ^ h.shift) 
           root = q * 2 ^ k;
           of = subst (λ (n : ℕ). HasValue x false n (4 ^ 1074)) (sym w.same ∙ r.split ∙ ap (λ (n : ℕ). N * n) (four k ∙ sym (product k k (2 * k) (double k))))
               (rescaled x false a (2 ^ 1074) (2 ^ 1074) (4 ^ 1074) refl v);
-          is = subst (λ (y : Float). HasValue y false (q * 2 ^ k) (2 ^ 1074)) (ap rootOf w.same ∙ sym (sqrt-value x a v a-pos)) r.is;
+          is = subst (λ (y : Float). HasValue y false (q * 2 ^ k) (2 ^ 1074)) (ap root_of w.same ∙ sym (sqrt_value x a v a_pos)) r.is;
           below = λ y b g u l. let o = other y b g u in subst (λ (n : ℕ). (n + q * 2 ^ k) * (n + q * 2 ^ k) < 4 * (N * (2 ^ k * 2 ^ k))) (sym o.1)
-              (middle-below N q k o.0.digits o.0.shift r.near r.least r.from o.0.small (subst (λ (n : ℕ). n < q * 2 ^ k) o.1 l));
+              (middle_below N q k o.0.digits o.0.shift r.near r.least r.from o.0.small (subst (λ (n : ℕ). n < q * 2 ^ k) o.1 l));
           above = λ y b g u l. let o = other y b g u in subst (λ (n : ℕ). 4 * (N * (2 ^ k * 2 ^ k)) < (n + q * 2 ^ k) * (n + q * 2 ^ k)) (sym o.1)
-              (middle-above N q k o.0.digits o.0.shift r.near r.least r.from o.0.small (subst (λ (n : ℕ). q * 2 ^ k < n) o.1 l));
+              (middle_above N q k o.0.digits o.0.shift r.near r.least r.from o.0.small (subst (λ (n : ℕ). q * 2 ^ k < n) o.1 l));
         }
           where
             double : (k : ℕ) → k + k ≡ 2 * k
@@ -285,5 +285,5 @@ sqrt-nearest x f p = at h.sign (positive-sign x h.sign (h.digits * 2 ^ h.shift) 
 
             other : (y : Float) (b : ℕ) → T (fits binary64 y) → HasValue y false b (2 ^ 1074) → (o : Held binary64 y) × (b ≡ o.digits * 2 ^ o.shift)
             other y b g u =
-                let o = held binary64 y g (value-finite y false b (2 ^ 1074) u) in
+                let o = held binary64 y g (value_finite y false b (2 ^ 1074) u) in
                 (o, same_size y false o.sign b (o.digits * 2 ^ o.shift) (2 ^ 1074) u o.is)

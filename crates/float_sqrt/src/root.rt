@@ -3,7 +3,7 @@
 ghost use Rattle.std.specs.Prelude.{◌≡◌, true, ◌-◌, ◌*◌, ◌^◌, ◌<◌, ◌≤◌};
 ghost use Rattle.float_sqrt.specs.Root.{Near};
 ghost use Rattle.float_steps.specs.Floats.{bits64};
-ghost use Rattle.float_sqrt.specs.Roots.{nearestRoot, rootOf, sqrt, sqrtBits};
+ghost use Rattle.float_sqrt.specs.Roots.{nearest_root, root_of, sqrt, sqrt_bits};
 
 use float_steps::{bits_of_f64, f64_of_bits, power};
 
@@ -11,7 +11,7 @@ use float_steps::{bits_of_f64, f64_of_bits, power};
 fn root_by_digits(n: u64) -> u64
     requires bound { 2 ^ 52 ≤ n }
     requires n_bound { n ≤ 2 ^ 54 - 2 }
-    ensures { result ≡ nearestRoot (n * 2 ^ 52) }
+    ensures { result ≡ nearest_root (n * 2 ^ 52) }
 {
     let mut left = n * 1024;
     let mut s: u64 = 0;
@@ -93,7 +93,7 @@ fn root(n: u64, q: u64) -> u64
     requires bound { 2 ^ 52 ≤ n }
     requires n_bound { n ≤ 2 ^ 54 - 2 }
     requires q_bound { q < 2 ^ 53 }
-    ensures { result ≡ nearestRoot (n * 2 ^ 52) }
+    ensures { result ≡ nearest_root (n * 2 ^ 52) }
 {
     if is_root(n, q) { q } else { root_by_digits(n) }
 }
@@ -104,7 +104,7 @@ fn root_bits(m: u64, e: u64) -> u64
     requires m_bound { m < 2 ^ 53 }
     requires le_e { 52 ≤ e }
     requires e_bound { e < 3120 }
-    ensures { result ≡ bits64 (rootOf (m * 2 ^ e)) }
+    ensures { result ≡ bits64 (root_of (m * 2 ^ e)) }
 {
     let p = e % 2;
     let q = root(m * (1 + p), guess(m, p));
@@ -113,7 +113,7 @@ fn root_bits(m: u64, e: u64) -> u64
 
 // The bits of the root of the f64 with the bits b.
 pub fn sqrt(b: u64) -> u64
-    ensures { result ≡ sqrtBits b }
+    ensures { result ≡ sqrt_bits b }
 {
     if b % 0x8000_0000_0000_0000 == 0 {
         return b;

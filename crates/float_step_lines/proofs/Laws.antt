@@ -11,14 +11,14 @@ use lib.ListN.{length, get_or, take}
 use Rattle.sheet_digits.specs.Bytes.{bytes}
 use Rattle.sheet_digit_writing.specs.Writing.{Wrote}
 use Rattle.sheet_lines.specs.Forms.{Piece, read}
-use Rattle.sheet_lines.specs.Counted.{countIn}
+use Rattle.sheet_lines.specs.Counted.{count_in}
 use Rattle.sheet_lines.specs.Exact.{read_fits}
-use Rattle.sheet_lines.specs.Pattern.{piece, pieces, read-split, split}
+use Rattle.sheet_lines.specs.Pattern.{piece, pieces, read_split, split}
 use Rattle.sheet_lines.specs.ReadBack.{fits}
 use Rattle.sheet_lines.specs.Scan.{Scanned}
 use Rattle.float_step_lines.specs.declared.Reply.{Reply}
 use Rattle.float_step_lines.specs.declared.Reply.TheVariants.{Refused}
-use Rattle.float_step_lines.specs.Lines.{Step, Widen, Narrow, Sqrt, Round, Larger, form, printed, replyAmong, replyOf, replyTo}
+use Rattle.float_step_lines.specs.Lines.{Step, Widen, Narrow, Sqrt, Round, Larger, form, printed, reply_among, reply_of, reply_to}
 
 -- the text of each step's form
 abbrev pub pattern : Step → List ℕ
@@ -28,13 +28,13 @@ pattern Sqrt = bytes "sqrt$"
 pattern Round = bytes "round$"
 pattern Larger = bytes "larger$$"
 
-pattern-form : (s : Step) → pieces (pattern s) ≡ split (form s)
+pattern_form : (s : Step) → pieces (pattern s) ≡ split (form s)
 unfolding piece split form
-pattern-form Widen = refl
-pattern-form Narrow = refl
-pattern-form Sqrt = refl
-pattern-form Round = refl
-pattern-form Larger = refl
+pattern_form Widen = refl
+pattern_form Narrow = refl
+pattern_form Sqrt = refl
+pattern_form Round = refl
+pattern_form Larger = refl
 
 -- how many operands a step has
 abbrev pub operands : Step → ℕ
@@ -44,18 +44,18 @@ operands Sqrt = 1
 operands Round = 1
 operands Larger = 2
 
-pattern-count : (s : Step) → countIn (pieces (pattern s)) ≡ operands s
-unfolding countIn piece
-pattern-count Widen = refl
-pattern-count Narrow = refl
-pattern-count Sqrt = refl
-pattern-count Round = refl
-pattern-count Larger = refl
+pattern_count : (s : Step) → count_in (pieces (pattern s)) ≡ operands s
+unfolding count_in piece
+pattern_count Widen = refl
+pattern_count Narrow = refl
+pattern_count Sqrt = refl
+pattern_count Round = refl
+pattern_count Larger = refl
 
 -- a line's operands, if it has a step's form
 scanned : (s : Step) (line N : List ℕ) (r : Bool) → Scanned (pieces (pattern s)) line N r → read (form s) line ≡ cond r (some (take (operands s) N)) none
 scanned s line N r v =
-    sym (ap (λ (ps : List Piece). read ps line) (pattern-form s) ∙ read-split (form s) line) ∙ sym v.is ∙ ap (λ (n : ℕ). cond r (some (take n N)) none) (pattern-count s)
+    sym (ap (λ (ps : List Piece). read ps line) (pattern_form s) ∙ read_split (form s) line) ∙ sym v.is ∙ ap (λ (n : ℕ). cond r (some (take n N)) none) (pattern_count s)
 
 -- the first of some numbers, and the first two
 first : (N : List ℕ) → 3 ≤ length N → take 1 N ≡ get_or N 0 0 ∷ []
@@ -69,33 +69,33 @@ first_two (a ∷ b ∷ N) h = refl
 
 -- the steps that are left, the line having the form of no earlier one
 pub record Left (line : List ℕ) (ss : List Step) : Type 0 where
-  pub is : replyTo line ≡ replyAmong ss line
+  pub is : reply_to line ≡ reply_among ss line
 
-pub left-all : (line : List ℕ) → Left line (Widen ∷ Narrow ∷ Sqrt ∷ Round ∷ Larger ∷ [])
-unfolding replyTo
-left-all line = record { is = refl }
+pub left_all : (line : List ℕ) → Left line (Widen ∷ Narrow ∷ Sqrt ∷ Round ∷ Larger ∷ [])
+unfolding reply_to
+left_all line = record { is = refl }
 
 module _ (s : Step) {line : List ℕ} {ss : List Step} {N : List ℕ} {r : Bool} (p : Left line (s ∷ ss)) (v : Scanned (pieces (pattern s)) line N r) where
-  step : (b : Bool) → r ≡ b → replyTo line ≡ elim (cond b (some (take (operands s) N)) none) as (λ o. Reply) [ none ↦ replyAmong ss line | some bits ↦ replyOf s bits ]
-  unfolding replyAmong
-  step b e = p.is ∙ ap (λ (o : Option (List ℕ)). elim o as (λ x. Reply) [ none ↦ replyAmong ss line | some bits ↦ replyOf s bits ])
+  step : (b : Bool) → r ≡ b → reply_to line ≡ elim (cond b (some (take (operands s) N)) none) as (λ o. Reply) [ none ↦ reply_among ss line | some bits ↦ reply_of s bits ]
+  unfolding reply_among
+  step b e = p.is ∙ ap (λ (o : Option (List ℕ)). elim o as (λ x. Reply) [ none ↦ reply_among ss line | some bits ↦ reply_of s bits ])
       (scanned s line N r v ∙ ap (λ (x : Bool). cond x (some (take (operands s) N)) none) e)
 
-  pub left-more : r ≡ false → Left line ss
-  left-more e = record { is = step false e }
+  pub left_more : r ≡ false → Left line ss
+  left_more e = record { is = step false e }
 
-  here : r ≡ true → replyOf s (take (operands s) N) ≡ replyTo line
+  here : r ≡ true → reply_of s (take (operands s) N) ≡ reply_to line
   here e = sym (step true e)
 
-  pub left_one : r ≡ true → 3 ≤ length N → operands s ≡ 1 → replyOf s (get_or N 0 0 ∷ []) ≡ replyTo line
-  left_one e h q = ap (replyOf s) (sym (ap (λ (n : ℕ). take n N) q ∙ first N h)) ∙ here e
+  pub left_one : r ≡ true → 3 ≤ length N → operands s ≡ 1 → reply_of s (get_or N 0 0 ∷ []) ≡ reply_to line
+  left_one e h q = ap (reply_of s) (sym (ap (λ (n : ℕ). take n N) q ∙ first N h)) ∙ here e
 
-  pub left-two : r ≡ true → 3 ≤ length N → operands s ≡ 2 → replyOf s (get_or N 0 0 ∷ get_or N 1 0 ∷ []) ≡ replyTo line
-  left-two e h q = ap (replyOf s) (sym (ap (λ (n : ℕ). take n N) q ∙ first_two N h)) ∙ here e
+  pub left_two : r ≡ true → 3 ≤ length N → operands s ≡ 2 → reply_of s (get_or N 0 0 ∷ get_or N 1 0 ∷ []) ≡ reply_to line
+  left_two e h q = ap (reply_of s) (sym (ap (λ (n : ℕ). take n N) q ∙ first_two N h)) ∙ here e
 
-pub left-none : (line : List ℕ) → Left line [] → Refused ≡ replyTo line
-unfolding replyAmong
-left-none line p = sym p.is
+pub left_none : (line : List ℕ) → Left line [] → Refused ≡ reply_to line
+unfolding reply_among
+left_none line p = sym p.is
 
 -- The operand of a line that widens is below 2 ^ 32.
 pub short : {line N : List ℕ} {r : Bool} → Scanned (pieces (pattern Widen)) line N r → r ≡ true → 3 ≤ length N → get_or N 0 0 < 2 ^ 32
@@ -106,5 +106,5 @@ short {line} {N} {r} v e h =
     ltb→lt (get_or N 0 0) (2 ^ 32) (and_l (ltb (get_or N 0 0) (2 ^ 32)) true t)
 
 -- The line for a reply is the line for the reply that it equals.
-pub print-as : (s : Reply) {r : Reply} {E W : List ℕ} {n : ℕ} → r ≡ s → Wrote E 0 (printed s) W n → Wrote E 0 (printed r) W n
-print-as s {r} {E} {W} {n} e w = subst (λ (z : Reply). Wrote E 0 (printed z) W n) (sym e) w
+pub print_as : (s : Reply) {r : Reply} {E W : List ℕ} {n : ℕ} → r ≡ s → Wrote E 0 (printed s) W n → Wrote E 0 (printed r) W n
+print_as s {r} {E} {W} {n} e w = subst (λ (z : Reply). Wrote E 0 (printed z) W n) (sym e) w

@@ -6,8 +6,8 @@ use Rattle.float_step_lines.specs.declared.Reply.{Reply}
 use Rattle.float_step_lines.specs.declared.Reply.TheVariants.{Long, Short, Refused}
 use Rattle.float_step_lines.specs.Lines.{printed}
 
-pub printed-length : (r : Reply) → length (printed r) ≤ 17
+pub printed_length : (r : Reply) → length (printed r) ≤ 17
 unfolding printed digits
-printed-length (Long b) = omega arith
-printed-length (Short b) = omega arith
-printed-length Refused = omega arith
+printed_length (Long b) = omega arith
+printed_length (Short b) = omega arith
+printed_length Refused = omega arith

@@ -4,10 +4,10 @@ use Rattle.std.proofs.Math.Option.{none, some}
 use Rattle.sheet_digits.specs.Bytes.{bytes}
 use Rattle.sheet_digits.specs.Digits.{hex}
 use Rattle.sheet_lines.specs.Forms.{Piece, Word, Bits, read}
-use Rattle.float_steps.specs.Floats.{widenBits, largerBits}
-use Rattle.float_narrow.specs.Narrow.{narrowBits}
-use Rattle.float_sqrt.specs.Roots.{sqrtBits}
-use Rattle.float_round.specs.Integral.{roundBits}
+use Rattle.float_steps.specs.Floats.{widen_bits, larger_bits}
+use Rattle.float_narrow.specs.Narrow.{narrow_bits}
+use Rattle.float_sqrt.specs.Roots.{sqrt_bits}
+use Rattle.float_round.specs.Integral.{round_bits}
 use Rattle.float_step_lines.specs.declared.Reply.{Reply}
 use Rattle.float_step_lines.specs.declared.Reply.TheVariants.{Long, Short, Refused}
 
@@ -28,34 +28,34 @@ form Round = Word (bytes "round") ∷ Bits 16 ∷ []
 form Larger = Word (bytes "larger") ∷ Bits 16 ∷ Bits 16 ∷ []
 
 -- what a step of one operand comes to
-abbrev pub ofOne : (ℕ → Reply) → List ℕ → Reply
-ofOne step [] = Refused
-ofOne step (a ∷ []) = step a
-ofOne step (a ∷ b ∷ more) = Refused
+abbrev pub of_one : (ℕ → Reply) → List ℕ → Reply
+of_one step [] = Refused
+of_one step (a ∷ []) = step a
+of_one step (a ∷ b ∷ more) = Refused
 
 -- what a step of two operands comes to
-abbrev pub ofTwo : (ℕ → ℕ → Reply) → List ℕ → Reply
-ofTwo step [] = Refused
-ofTwo step (a ∷ []) = Refused
-ofTwo step (a ∷ b ∷ []) = step a b
-ofTwo step (a ∷ b ∷ c ∷ more) = Refused
+abbrev pub of_two : (ℕ → ℕ → Reply) → List ℕ → Reply
+of_two step [] = Refused
+of_two step (a ∷ []) = Refused
+of_two step (a ∷ b ∷ []) = step a b
+of_two step (a ∷ b ∷ c ∷ more) = Refused
 
 -- what a step comes to, by its operands
-unfoldable pub replyOf : Step → List ℕ → Reply
-replyOf Widen bits = ofOne (λ a. Long (widenBits a)) bits
-replyOf Narrow bits = ofOne (λ a. Short (narrowBits a)) bits
-replyOf Sqrt bits = ofOne (λ a. Long (sqrtBits a)) bits
-replyOf Round bits = ofOne (λ a. Long (roundBits a)) bits
-replyOf Larger bits = ofTwo (λ a b. Long (largerBits a b)) bits
+unfoldable pub reply_of : Step → List ℕ → Reply
+reply_of Widen bits = of_one (λ a. Long (widen_bits a)) bits
+reply_of Narrow bits = of_one (λ a. Short (narrow_bits a)) bits
+reply_of Sqrt bits = of_one (λ a. Long (sqrt_bits a)) bits
+reply_of Round bits = of_one (λ a. Long (round_bits a)) bits
+reply_of Larger bits = of_two (λ a b. Long (larger_bits a b)) bits
 
 -- what a line comes to by the first of some steps whose form it has
-unfoldable pub replyAmong : List Step → List ℕ → Reply
-replyAmong [] line = Refused
-replyAmong (s ∷ ss) line = elim (read (form s) line) [ none ↦ replyAmong ss line | some bits ↦ replyOf s bits ]
+unfoldable pub reply_among : List Step → List ℕ → Reply
+reply_among [] line = Refused
+reply_among (s ∷ ss) line = elim (read (form s) line) [ none ↦ reply_among ss line | some bits ↦ reply_of s bits ]
 
 -- what a line comes to; at most one form fits
-unfoldable pub replyTo : List ℕ → Reply
-replyTo line = replyAmong (Widen ∷ Narrow ∷ Sqrt ∷ Round ∷ Larger ∷ []) line
+unfoldable pub reply_to : List ℕ → Reply
+reply_to line = reply_among (Widen ∷ Narrow ∷ Sqrt ∷ Round ∷ Larger ∷ []) line
 
 -- the line that is printed, with its line feed
 unfoldable pub printed : Reply → List ℕ

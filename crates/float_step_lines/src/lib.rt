@@ -3,7 +3,7 @@
 ghost use Rattle.std.specs.Prelude.{◌++◌, ◌∷◌, [], ◌≡◌, ◌≤◌};
 ghost use Rattle.sheet_digits.specs.Digits.{hex};
 ghost use Rattle.sheet_digit_writing.specs.Writing.{Wrote};
-ghost use Rattle.float_step_lines.specs.Lines.{printed, replyTo};
+ghost use Rattle.float_step_lines.specs.Lines.{printed, reply_to};
 
 use float_narrow::narrow;
 use float_round::round;
@@ -22,7 +22,7 @@ pub enum Reply {
 
 // What a line comes to.
 pub fn answer(line: &[u8]) -> Reply
-    ensures { result ≡ replyTo line.now }
+    ensures { result ≡ reply_to line.now }
 {
     let mut bits = [0u64; 3];
     if scan(line, b"widen*", &mut bits) {

@@ -6,34 +6,34 @@ use lib.Ieee.{Float, nan, inf, fin, Format, binary32, binary64, prec, low, up, d
 use lib.Ieee.Bits.{is_false, of_bits-to_bits}
 use lib.Ieee.Fits.{down_pos}
 use lib.Ieee.Scale.{round_same}
-use Rattle.float_rounding.specs.Fields.{bits-fields, equals_itself}
+use Rattle.float_rounding.specs.Fields.{bits_fields, equals_itself}
 use Rattle.float_steps.specs.Floats.{negative, larger, absolute, finite}
-use Rattle.float_steps.specs.Patterns.{test-holds, is-nan, sign, field, tail}
-use Rattle.float_steps.specs.Plus.{negative-odd}
+use Rattle.float_steps.specs.Patterns.{test_holds, is_nan_lem, sign, field, tail}
+use Rattle.float_steps.specs.Plus.{negative_odd}
 
 -- ---- the sign of a value is the highest bit of its pattern
 -- the sign of the value of some fields is the one given
-fields-negative : (f : Format) (s : Bool) (e t : ℕ) → T (not (is_nan (of_fields f s e t))) → negative (of_fields f s e t) ≡ s
+fields_negative : (f : Format) (s : Bool) (e t : ℕ) → T (not (is_nan (of_fields f s e t))) → negative (of_fields f s e t) ≡ s
 unfolding of_fields negative is_nan
-fields-negative f s zero t h = negative-odd (prec f) s t 0 (low f)
-fields-negative f s (suc x) t h = go (eqb (suc x) (ones f)) (eqb t 0) h
+fields_negative f s zero t h = negative_odd (prec f) s t 0 (low f)
+fields_negative f s (suc x) t h = go (eqb (suc x) (ones f)) (eqb t 0) h
   where
     go : (a b : Bool) → T (not (is_nan (cond a (cond b (inf s) nan) (odd (prec f) s (hid f + t) x (low f))))) → negative (cond a (cond b (inf s) nan) (odd (prec f) s (hid f + t) x (low f))) ≡ s
     go true true k = refl
     go true false k = absurd k
-    go false b k = negative-odd (prec f) s (hid f + t) x (low f)
+    go false b k = negative_odd (prec f) s (hid f + t) x (low f)
 
-negative-bits : (x : Float) → fits binary64 x ≡ true → ne x x ≡ false → negative x ≡ leb (2 ^ 63) (to_bits binary64 x)
-negative-bits x f n =
+negative_bits : (x : Float) → fits binary64 x ≡ true → ne x x ≡ false → negative x ≡ leb (2 ^ 63) (to_bits binary64 x)
+negative_bits x f n =
     let b = to_bits binary64 x in
-    let e : x ≡ of_fields binary64 (sign b) (field b) (tail b) = sym (of_bits-to_bits binary64 x (test-holds (fits binary64 x) f)) ∙ bits-fields binary64 b in
-    ap negative e ∙ fields-negative binary64 (sign b) (field b) (tail b) (subst (λ (z : Float). T (not (is_nan z))) e (equals_itself x n))
+    let e : x ≡ of_fields binary64 (sign b) (field b) (tail b) = sym (of_bits-to_bits binary64 x (test_holds (fits binary64 x) f)) ∙ bits_fields binary64 b in
+    ap negative e ∙ fields_negative binary64 (sign b) (field b) (tail b) (subst (λ (z : Float). T (not (is_nan z))) e (equals_itself x n))
 
 pub plus : (x : Float) → fits binary64 x ≡ true → ne x x ≡ false → to_bits binary64 x < 0x8000_0000_0000_0000 → negative x ≡ false
-plus x f n h = negative-bits x f n ∙ lt-leb (2 ^ 63) (to_bits binary64 x) h
+plus x f n h = negative_bits x f n ∙ lt-leb (2 ^ 63) (to_bits binary64 x) h
 
 pub minus : (x : Float) → fits binary64 x ≡ true → ne x x ≡ false → 0x8000_0000_0000_0000 ≤ to_bits binary64 x → negative x ≡ true
-minus x f n h = negative-bits x f n ∙ le-leb (2 ^ 63) (to_bits binary64 x) h
+minus x f n h = negative_bits x f n ∙ le-leb (2 ^ 63) (to_bits binary64 x) h
 
 -- ---- the larger of two
 no_nan : (x : Float) → ne x x ≡ false → is_nan x ≡ false
@@ -41,59 +41,59 @@ no_nan x e = is_false (is_nan x) (equals_itself x e)
 
 nan_is : (x : Float) → ne x x ≡ true → is_nan x ≡ true
 unfolding is_nan
-nan_is x e = ap is_nan (is-nan x e)
+nan_is x e = ap is_nan (is_nan_lem x e)
 
-pub larger-left-nan : (x y : Float) → ne x x ≡ true → y ≡ larger x y
+pub larger_left_nan : (x y : Float) → ne x x ≡ true → y ≡ larger x y
 unfolding larger
-larger-left-nan x y e = simp (nan_is x e)
+larger_left_nan x y e = simp (nan_is x e)
 
-pub larger-right-nan : (x y : Float) → ne x x ≡ false → ne y y ≡ true → x ≡ larger x y
+pub larger_right_nan : (x y : Float) → ne x x ≡ false → ne y y ≡ true → x ≡ larger x y
 unfolding larger
-larger-right-nan x y e d = simp (no_nan x e, nan_is y d)
+larger_right_nan x y e d = simp (no_nan x e, nan_is y d)
 
 module _ (x y : Float) (p : ne x x ≡ false) (q : ne y y ≡ false) where
-  pub larger-left : lt x y ≡ false → lt y x ≡ true → x ≡ larger x y
+  pub larger_left : lt x y ≡ false → lt y x ≡ true → x ≡ larger x y
   unfolding larger
-  larger-left h k = simp (no_nan x p, no_nan y q, h, k)
+  larger_left h k = simp (no_nan x p, no_nan y q, h, k)
 
-  pub equal-plus : lt x y ≡ false → lt y x ≡ false → negative x ≡ false → x ≡ larger x y
+  pub equal_plus : lt x y ≡ false → lt y x ≡ false → negative x ≡ false → x ≡ larger x y
   unfolding larger
-  equal-plus h k n = simp (no_nan x p, no_nan y q, h, k, n)
+  equal_plus h k n = simp (no_nan x p, no_nan y q, h, k, n)
 
-  pub equal-minus : lt x y ≡ false → lt y x ≡ false → negative x ≡ true → y ≡ larger x y
+  pub equal_minus : lt x y ≡ false → lt y x ≡ false → negative x ≡ true → y ≡ larger x y
   unfolding larger
-  equal-minus h k n = simp (no_nan x p, no_nan y q, h, k, n)
+  equal_minus h k n = simp (no_nan x p, no_nan y q, h, k, n)
 
 -- ---- the absolute value
-pub absolute-nan : (x : Float) → ne x x ≡ true → x ≡ absolute x
+pub absolute_nan : (x : Float) → ne x x ≡ true → x ≡ absolute x
 unfolding absolute
-absolute-nan x e = is-nan x e ∙ sym (ap absolute (is-nan x e))
+absolute_nan x e = is_nan_lem x e ∙ sym (ap absolute (is_nan_lem x e))
 
-pub absolute-plus : (x : Float) → negative x ≡ false → x ≡ absolute x
+pub absolute_plus : (x : Float) → negative x ≡ false → x ≡ absolute x
 unfolding absolute negative
-absolute-plus nan n = refl
-absolute-plus (inf s) n = ap inf n
-absolute-plus (fin s m e) n = ap (λ (t : Bool). fin t m e) n
+absolute_plus nan n = refl
+absolute_plus (inf s) n = ap inf n
+absolute_plus (fin s m e) n = ap (λ (t : Bool). fin t m e) n
 
-pub absolute-minus : (x : Float) → negative x ≡ true → neg x ≡ absolute x
+pub absolute_minus : (x : Float) → negative x ≡ true → neg x ≡ absolute x
 unfolding absolute negative neg
-absolute-minus nan n = refl
-absolute-minus (inf s) n = ap (λ (t : Bool). inf (not t)) n
-absolute-minus (fin s m e) n = ap (λ (t : Bool). fin (not t) m e) n
+absolute_minus nan n = refl
+absolute_minus (inf s) n = ap (λ (t : Bool). inf (not t)) n
+absolute_minus (fin s m e) n = ap (λ (t : Bool). fin (not t) m e) n
 
 -- ---- a finite value less itself is zero
-zero-difference : (f : Format) (s : Bool) (a c : ℕ) → 0 < c → sum f s a (not s) a c ≡ round f false 0 1
+zero_difference : (f : Format) (s : Bool) (a c : ℕ) → 0 < c → sum f s a (not s) a c ≡ round f false 0 1
 unfolding sum
-zero-difference f true a c h = simp (le-ltb a a (le_refl a), sub_self) (round_same f false 0 c 0 1 h (omega arith) (omega arith))
-zero-difference f false a c h = simp (le-ltb a a (le_refl a), sub_self) (round_same f false 0 c 0 1 h (omega arith) (omega arith))
+zero_difference f true a c h = simp (le-ltb a a (le_refl a), sub_self) (round_same f false 0 c 0 1 h (omega arith) (omega arith))
+zero_difference f false a c h = simp (le-ltb a a (le_refl a), sub_self) (round_same f false 0 c 0 1 h (omega arith) (omega arith))
 
 zero_is : eq (round binary32 false 0 1) (of_bits binary32 0) ≡ true
 unfolding eq round of_bits
 zero_is = refl
 
-pub finite-law : (x : Float) → eq (sub binary32 x x) (of_bits binary32 0) ≡ finite x
+pub finite_law : (x : Float) → eq (sub binary32 x x) (of_bits binary32 0) ≡ finite x
 unfolding eq sub add neg of_bits finite
-finite-law nan = refl
-finite-law (inf true) = refl
-finite-law (inf false) = refl
-finite-law (fin s m e) = rw (zero-difference binary32 s (m * up e * down e) (down e * down e) (mul-pos (down_pos e) (down_pos e))) zero_is
+finite_law nan = refl
+finite_law (inf true) = refl
+finite_law (inf false) = refl
+finite_law (fin s m e) = rw (zero_difference binary32 s (m * up e * down e) (down e * down e) (mul-pos (down_pos e) (down_pos e))) zero_is

@@ -45,8 +45,8 @@ finite (fin s m e) = true
 
 -- ---- the steps on bit patterns
 
-abbrev pub widenBits : ℕ → ℕ
-widenBits b = bits64 (widen (f32 b))
+abbrev pub widen_bits : ℕ → ℕ
+widen_bits b = bits64 (widen (f32 b))
 
-abbrev pub largerBits : ℕ → ℕ → ℕ
-largerBits a b = bits64 (larger (f64 a) (f64 b))
+abbrev pub larger_bits : ℕ → ℕ → ℕ
+larger_bits a b = bits64 (larger (f64 a) (f64 b))

@@ -14,81 +14,81 @@ pub record Plus (x : Float) : Type 0 where
 -- ---- a rounded value has the sign it was given
 
 -- a value with its digits made odd has the sign it was given
-pub negative-odd : (d : ℕ) (s : Bool) (q k l : ℕ) → negative (odd d s q k l) ≡ s
+pub negative_odd : (d : ℕ) (s : Bool) (q k l : ℕ) → negative (odd d s q k l) ≡ s
 unfolding negative odd
-negative-odd d s zero k l = refl
-negative-odd d s (suc q) k l = refl
+negative_odd d s zero k l = refl
+negative_odd d s (suc q) k l = refl
 
-negative-units : (f : Format) (s : Bool) (q k : ℕ) → negative (units f s q k) ≡ s
+negative_units : (f : Format) (s : Bool) (q k : ℕ) → negative (units f s q k) ≡ s
 unfolding negative units
-negative-units f s q k = go (nat_lt (q * 2 ^ k) (2 ^ (low f + suc (emax f))))
+negative_units f s q k = go (nat_lt (q * 2 ^ k) (2 ^ (low f + suc (emax f))))
   where
     go : (b : Bool) → negative (cond b (odd (suc (prec f)) s q k (low f)) (inf s)) ≡ s
-    go true = negative-odd (suc (prec f)) s q k (low f)
+    go true = negative_odd (suc (prec f)) s q k (low f)
     go false = refl
 
-pub negative-round : (f : Format) (s : Bool) (n d : ℕ) → negative (round f s n d) ≡ s
-negative-round f s n d = ap negative (round_is f s n d) ∙ negative-units f s _ _
+pub negative_round : (f : Format) (s : Bool) (n d : ℕ) → negative (round f s n d) ≡ s
+negative_round f s n d = ap negative (round_is f s n d) ∙ negative_units f s _ _
 
 -- ---- squares, sums, the larger
 
-square-sign : (x : Float) → negative (mul binary64 x x) ≡ false
+square_sign : (x : Float) → negative (mul binary64 x x) ≡ false
 unfolding negative mul
-square-sign nan = refl
-square-sign (inf true) = refl
-square-sign (inf false) = refl
-square-sign (fin true m e) = negative-round binary64 false (m * up e * (m * up e)) (down e * down e)
-square-sign (fin false m e) = negative-round binary64 false (m * up e * (m * up e)) (down e * down e)
+square_sign nan = refl
+square_sign (inf true) = refl
+square_sign (inf false) = refl
+square_sign (fin true m e) = negative_round binary64 false (m * up e * (m * up e)) (down e * down e)
+square_sign (fin false m e) = negative_round binary64 false (m * up e * (m * up e)) (down e * down e)
 
 -- a product with itself
-pub plus-square : (x : Float) → Plus (mul binary64 x x)
-plus-square x = record { f64 = mul-fits binary64 x x; plus = square-sign x }
+pub plus_square : (x : Float) → Plus (mul binary64 x x)
+plus_square x = record { f64 = mul-fits binary64 x x; plus = square_sign x }
 
-sum-sign : (x y : Float) → negative x ≡ false → negative y ≡ false → negative (add binary64 x y) ≡ false
+sum_sign : (x y : Float) → negative x ≡ false → negative y ≡ false → negative (add binary64 x y) ≡ false
 unfolding negative add sum
-sum-sign nan y p q = refl
-sum-sign (inf s) nan p q = refl
-sum-sign (inf true) (inf t) p q = absurd (true≢false p)
-sum-sign (inf false) (inf true) p q = refl
-sum-sign (inf false) (inf false) p q = refl
-sum-sign (inf s) (fin t n d) p q = p
-sum-sign (fin s m e) nan p q = refl
-sum-sign (fin s m e) (inf t) p q = q
-sum-sign (fin true m e) (fin t n d) p q = absurd (true≢false p)
-sum-sign (fin false m e) (fin true n d) p q = absurd (true≢false q)
-sum-sign (fin false m e) (fin false n d) p q = negative-round binary64 false (m * up e * down d + n * up d * down e) (down e * down d)
+sum_sign nan y p q = refl
+sum_sign (inf s) nan p q = refl
+sum_sign (inf true) (inf t) p q = absurd (true≢false p)
+sum_sign (inf false) (inf true) p q = refl
+sum_sign (inf false) (inf false) p q = refl
+sum_sign (inf s) (fin t n d) p q = p
+sum_sign (fin s m e) nan p q = refl
+sum_sign (fin s m e) (inf t) p q = q
+sum_sign (fin true m e) (fin t n d) p q = absurd (true≢false p)
+sum_sign (fin false m e) (fin true n d) p q = absurd (true≢false q)
+sum_sign (fin false m e) (fin false n d) p q = negative_round binary64 false (m * up e * down d + n * up d * down e) (down e * down d)
 
 -- a sum
-pub plus-sum : (x y : Float) → Plus x → Plus y → Plus (add binary64 x y)
-plus-sum x y p q = record { f64 = add-fits binary64 x y; plus = sum-sign x y p.plus q.plus }
+pub plus_sum : (x y : Float) → Plus x → Plus y → Plus (add binary64 x y)
+plus_sum x y p q = record { f64 = add-fits binary64 x y; plus = sum_sign x y p.plus q.plus }
 
 -- nothing is below a NaN
-pub not-below-nan : (x : Float) → lt x nan ≢ true
+pub not_below_nan : (x : Float) → lt x nan ≢ true
 unfolding lt
-not-below-nan nan h = true≢false (sym h)
-not-below-nan (inf s) h = true≢false (sym h)
-not-below-nan (fin s m e) h = true≢false (sym h)
+not_below_nan nan h = true≢false (sym h)
+not_below_nan (inf s) h = true≢false (sym h)
+not_below_nan (fin s m e) h = true≢false (sym h)
 
 -- of two, one below the other, the other is the larger
-pub larger-above : (x y : Float) → lt x y ≡ true → larger x y ≡ y
+pub larger_above : (x y : Float) → lt x y ≡ true → larger x y ≡ y
 unfolding larger is_nan
-larger-above nan y h = refl
-larger-above (inf s) nan h = absurd (not-below-nan (inf s) h)
-larger-above (inf s) (inf t) h = simp h
-larger-above (inf s) (fin t n d) h = simp h
-larger-above (fin s m e) nan h = absurd (not-below-nan (fin s m e) h)
-larger-above (fin s m e) (inf t) h = simp h
-larger-above (fin s m e) (fin t n d) h = simp h
+larger_above nan y h = refl
+larger_above (inf s) nan h = absurd (not_below_nan (inf s) h)
+larger_above (inf s) (inf t) h = simp h
+larger_above (inf s) (fin t n d) h = simp h
+larger_above (fin s m e) nan h = absurd (not_below_nan (fin s m e) h)
+larger_above (fin s m e) (inf t) h = simp h
+larger_above (fin s m e) (fin t n d) h = simp h
 
 -- what holds of each of two holds of the larger
-pub larger-either : (P : Float → Type 0) (x y : Float) → P x → P y → P (larger x y)
+pub larger_either : (P : Float → Type 0) (x y : Float) → P x → P y → P (larger x y)
 unfolding larger
-larger-either P x y p q = pick (is_nan x) q (pick (is_nan y) p (pick (lt x y) q (pick (lt y x) p (pick (negative x) q p))))
+larger_either P x y p q = pick (is_nan x) q (pick (is_nan y) p (pick (lt x y) q (pick (lt y x) p (pick (negative x) q p))))
   where
     pick : (b : Bool) {u v : Float} → P u → P v → P (cond b u v)
     pick true h k = h
     pick false h k = k
 
 -- the larger of two
-pub plus-larger : (x y : Float) → Plus x → Plus y → Plus (larger x y)
-plus-larger x y p q = larger-either Plus x y p q
+pub plus_larger : (x y : Float) → Plus x → Plus y → Plus (larger x y)
+plus_larger x y p q = larger_either Plus x y p q

@@ -1,7 +1,7 @@
 // The larger of two, the absolute value, and whether a value is finite.
 
 ghost use Rattle.std.specs.Prelude.{◌≡◌};
-ghost use Rattle.float_steps.specs.Floats.{absolute, finite, larger, largerBits};
+ghost use Rattle.float_steps.specs.Floats.{absolute, finite, larger, larger_bits};
 
 use crate::conversion::{bits_of_f64, f64_of_bits};
 
@@ -30,7 +30,7 @@ pub fn larger_f64(x: f64, y: f64) -> f64
 
 // The larger of the f64 with the bits a and b.
 pub fn larger(a: u64, b: u64) -> u64
-    ensures { result ≡ largerBits a b }
+    ensures { result ≡ larger_bits a b }
 {
     bits_of_f64(larger_f64(f64_of_bits(a), f64_of_bits(b)))
 }

@@ -1,7 +1,7 @@
 // Bit patterns and floats, each way and for every pattern, and widening.
 
 ghost use Rattle.std.specs.Prelude.{◌≡◌};
-ghost use Rattle.float_steps.specs.Floats.{f32, f64, bits32, bits64, widen, widenBits};
+ghost use Rattle.float_steps.specs.Floats.{f32, f64, bits32, bits64, widen, widen_bits};
 
 // The f32 with the bits b: any NaN pattern gives the one NaN.
 pub fn f32_of_bits(b: u32) -> f32
@@ -52,7 +52,7 @@ pub fn widen_f32(x: f32) -> f64
 
 // The bits of the f64 that is the f32 with the bits b.
 pub fn widen(b: u32) -> u64
-    ensures { result ≡ widenBits b }
+    ensures { result ≡ widen_bits b }
 {
     bits_of_f64(widen_f32(f32_of_bits(b)))
 }

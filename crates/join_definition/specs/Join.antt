@@ -11,8 +11,8 @@ unfoldable pub joined : List ℕ → List ℕ
 joined ns = map (λ n. index_of n ns) ns
 
 -- the first item with the name of item i, for an i below their number
-unfoldable pub firstIndex : List ℕ → ℕ → ℕ
-firstIndex ns i = index_of (get_or ns i 0) ns
+unfoldable pub first_index : List ℕ → ℕ → ℕ
+first_index ns i = index_of (get_or ns i 0) ns
 
 -- item j is the first of its name
 abbrev pub First : List ℕ → ℕ → Type 0
@@ -33,7 +33,7 @@ pub record JoinRoom (n : ℕ) (W : List ℕ) : Type 0 where
 -- table's 4 * n as it was.
 pub record Joined (ns : List ℕ) (n : ℕ) (W E : List ℕ) : Type 0 where
   pub reps : take n (drop n E) ≡ joined ns
-  pub rep : (i : ℕ) → i < n → get_or E (n + i) 0 ≡ firstIndex ns i
+  pub rep : (i : ℕ) → i < n → get_or E (n + i) 0 ≡ first_index ns i
   pub words : take n E ≡ take n W
   pub rest : drop (4 * n) E ≡ drop (4 * n) W
 

@@ -6,27 +6,27 @@ use mathlib.Core.List.{List, [], ◌∷◌, map}
 use Prim.Native.Nat.{ℕ, zero, suc, ◌<◌, ◌≤◌}
 use Rattle.std.proofs.Math.Decide.{ℕ_discrete, dec_lt}
 use Rattle.std.proofs.Math.ListN.{length, get_or, length-map, get_or-eq_default}
-use Rattle.join_definition.specs.Join.{index_of, joined, firstIndex, IsFirst}
+use Rattle.join_definition.specs.Join.{index_of, joined, first_index, IsFirst}
 
 -- ---- where a name stands first
 
 -- here
-index-here : (x y : ℕ) (ys : List ℕ) → x ≡ y → index_of x (y ∷ ys) ≡ 0
+index_here : (x y : ℕ) (ys : List ℕ) → x ≡ y → index_of x (y ∷ ys) ≡ 0
 unfolding index_of
-index-here x y ys e = subst (λ (b : Bool). ◌≡◌ {A = ℕ} (elim b [ true ↦ 0 | false ↦ suc (index_of x ys) ]) 0) (sym (eq-eqb x y e)) refl
+index_here x y ys e = subst (λ (b : Bool). ◌≡◌ {A = ℕ} (elim b [ true ↦ 0 | false ↦ suc (index_of x ys) ]) 0) (sym (eq-eqb x y e)) refl
 
 -- later
-index-there : (x y : ℕ) (ys : List ℕ) → (x ≡ y → ⊥) → index_of x (y ∷ ys) ≡ suc (index_of x ys)
+index_there : (x y : ℕ) (ys : List ℕ) → (x ≡ y → ⊥) → index_of x (y ∷ ys) ≡ suc (index_of x ys)
 unfolding index_of
-index-there x y ys n =
+index_there x y ys n =
     subst (λ (b : Bool). ◌≡◌ {A = ℕ} (elim b [ true ↦ 0 | false ↦ suc (index_of x ys) ]) (suc (index_of x ys))) (sym (ne_eqb x y n)) refl
 
 -- at the first item that has it
 pub index_is : (x : ℕ) (ns : List ℕ) (j : ℕ) → j < length ns → get_or ns j 0 ≡ x → ((k : ℕ) → k < j → get_or ns k 0 ≡ x → ⊥) → j ≡ index_of x ns
 index_is x [] j l e f = absurd (not-suc-le-zero l)
-index_is x (y ∷ ys) zero l e f = sym (index-here x y ys (sym e))
+index_is x (y ∷ ys) zero l e f = sym (index_here x y ys (sym e))
 index_is x (y ∷ ys) (suc j) l e f =
-    ap suc (index_is x ys j (le_of_suc-le-suc l) e (λ k m. f (suc k) (omega arith))) ∙ sym (index-there x y ys (λ q. f 0 (omega arith) (sym q)))
+    ap suc (index_is x ys j (le_of_suc-le-suc l) e (λ k m. f (suc k) (omega arith))) ∙ sym (index_there x y ys (λ q. f 0 (omega arith) (sym q)))
 
 -- an item has it: the first that has it is not behind, and has it
 pub record Found (x : ℕ) (ns : List ℕ) (k : ℕ) : Type 0 where
@@ -34,15 +34,15 @@ pub record Found (x : ℕ) (ns : List ℕ) (k : ℕ) : Type 0 where
   pub same : get_or ns (index_of x ns) 0 ≡ x
 
 -- the first place is found
-pub index-found : (x : ℕ) (ns : List ℕ) (k : ℕ) → k < length ns → get_or ns k 0 ≡ x → Found x ns k
-index-found x [] k l e = absurd (not-suc-le-zero l)
-index-found x (y ∷ ys) k l e = go k l e (ℕ_discrete x y) (λ j. index-found x ys j)
+pub index_found : (x : ℕ) (ns : List ℕ) (k : ℕ) → k < length ns → get_or ns k 0 ≡ x → Found x ns k
+index_found x [] k l e = absurd (not-suc-le-zero l)
+index_found x (y ∷ ys) k l e = go k l e (ℕ_discrete x y) (λ j. index_found x ys j)
   where
     here : (k : ℕ) → x ≡ y → Found x (y ∷ ys) k
     here k p =
         record {
-          low = omega (arith, index-here x y ys p);
-          same = ap (λ (j : ℕ). get_or (y ∷ ys) j 0) (index-here x y ys p) ∙ sym p;
+          low = omega (arith, index_here x y ys p);
+          same = ap (λ (j : ℕ). get_or (y ∷ ys) j 0) (index_here x y ys p) ∙ sym p;
         }
 
     go : (k : ℕ) → k < length (y ∷ ys) → get_or (y ∷ ys) k 0 ≡ x → Dec (x ≡ y) → ((j : ℕ) → j < length ys → get_or ys j 0 ≡ x → Found x ys j) → Found x (y ∷ ys) k
@@ -51,48 +51,48 @@ index-found x (y ∷ ys) k l e = go k l e (ℕ_discrete x y) (λ j. index-found 
     go (suc k) l e (no n) more =
         let f = more k (le_of_suc-le-suc l) e in
         record {
-          low = omega (arith, index-there x y ys n, f.low);
-          same = ap (λ (j : ℕ). get_or (y ∷ ys) j 0) (index-there x y ys n) ∙ f.same;
+          low = omega (arith, index_there x y ys n, f.low);
+          same = ap (λ (j : ℕ). get_or (y ∷ ys) j 0) (index_there x y ys n) ∙ f.same;
         }
 
 -- ---- the representative of an item
 module _ (ns : List ℕ) where
   -- an item that is the first of the name is it
-  pub first-is : (k j : ℕ) → k < length ns → IsFirst ns k j → j ≡ firstIndex ns k
-  unfolding firstIndex
-  first-is k j l i =
+  pub first_is : (k j : ℕ) → k < length ns → IsFirst ns k j → j ≡ first_index ns k
+  unfolding first_index
+  first_is k j l i =
       index_is (get_or ns k 0) ns j (omega (arith, i.low)) i.same (λ m lm q. i.first m lm (q ∙ sym i.same))
 
   -- it is not behind the item
-  pub rep-low : (i : ℕ) → i < length ns → firstIndex ns i ≤ i
-  unfolding firstIndex
-  rep-low i l = (index-found (get_or ns i 0) ns i l refl).low
+  pub rep_low : (i : ℕ) → i < length ns → first_index ns i ≤ i
+  unfolding first_index
+  rep_low i l = (index_found (get_or ns i 0) ns i l refl).low
 
   -- it is one of the items
-  pub rep-below : (i : ℕ) → i < length ns → firstIndex ns i < length ns
-  rep-below i l = omega (arith, rep-low i l)
+  pub rep_below : (i : ℕ) → i < length ns → first_index ns i < length ns
+  rep_below i l = omega (arith, rep_low i l)
 
   -- it has the item's name
-  pub rep-name : (i : ℕ) → i < length ns → get_or ns (firstIndex ns i) 0 ≡ get_or ns i 0
-  unfolding firstIndex
-  rep-name i l = (index-found (get_or ns i 0) ns i l refl).same
+  pub rep_name : (i : ℕ) → i < length ns → get_or ns (first_index ns i) 0 ≡ get_or ns i 0
+  unfolding first_index
+  rep_name i l = (index_found (get_or ns i 0) ns i l refl).same
 
   -- items of one name have one representative
-  pub same-name-rep : (i j : ℕ) → get_or ns i 0 ≡ get_or ns j 0 → firstIndex ns i ≡ firstIndex ns j
-  unfolding firstIndex
-  same-name-rep i j e = ap (λ (x : ℕ). index_of x ns) e
+  pub same_name_rep : (i j : ℕ) → get_or ns i 0 ≡ get_or ns j 0 → first_index ns i ≡ first_index ns j
+  unfolding first_index
+  same_name_rep i j e = ap (λ (x : ℕ). index_of x ns) e
 
   -- items of one representative have one name
-  pub same-rep-name : (i j : ℕ) → i < length ns → j < length ns → firstIndex ns i ≡ firstIndex ns j → get_or ns i 0 ≡ get_or ns j 0
-  same-rep-name i j li lj e = sym (rep-name i li) ∙ ap (λ (k : ℕ). get_or ns k 0) e ∙ rep-name j lj
+  pub same_rep_name : (i j : ℕ) → i < length ns → j < length ns → first_index ns i ≡ first_index ns j → get_or ns i 0 ≡ get_or ns j 0
+  same_rep_name i j li lj e = sym (rep_name i li) ∙ ap (λ (k : ℕ). get_or ns k 0) e ∙ rep_name j lj
 
   -- no item before it has the item's name
-  pub rep-first : (i : ℕ) → i < length ns → IsFirst ns i (firstIndex ns i)
-  rep-first i l =
+  pub rep_first : (i : ℕ) → i < length ns → IsFirst ns i (first_index ns i)
+  rep_first i l =
       record {
-        low = rep-low i l;
-        same = rep-name i l;
-        first = λ k lk e. omega (arith, rep-low k (omega (arith, rep-low i l)), same-name-rep k i (e ∙ rep-name i l));
+        low = rep_low i l;
+        same = rep_name i l;
+        first = λ k lk e. omega (arith, rep_low k (omega (arith, rep_low i l)), same_name_rep k i (e ∙ rep_name i l));
       }
 
   -- ---- all of them
@@ -103,8 +103,8 @@ module _ (ns : List ℕ) where
   joined_length = length-map ns (λ (n : ℕ). index_of n ns)
 
   -- one of them
-  pub joined_at : (i : ℕ) → i < length ns → get_or (joined ns) i 0 ≡ firstIndex ns i
-  unfolding joined firstIndex
+  pub joined_at : (i : ℕ) → i < length ns → get_or (joined ns) i 0 ≡ first_index ns i
+  unfolding joined first_index
   joined_at i l = at ns i l
     where
       at : (xs : List ℕ) (i : ℕ) → i < length xs → get_or (map (λ (n : ℕ). index_of n ns) xs) i 0 ≡ index_of (get_or xs i 0) ns
@@ -113,15 +113,15 @@ module _ (ns : List ℕ) where
       at (x ∷ xs) (suc i) l = at xs i (le_of_suc-le-suc l)
 
   -- each is one of the items
-  pub joined-below : (i : ℕ) → i < length ns → get_or (joined ns) i 0 < length ns
-  joined-below i l = omega (arith, joined_at i l, rep-below i l)
+  pub joined_below : (i : ℕ) → i < length ns → get_or (joined ns) i 0 < length ns
+  joined_below i l = omega (arith, joined_at i l, rep_below i l)
 
   -- so each is below a bound of their number, past the end too
-  pub joined-low : (n : ℕ) → 0 < n → length ns ≤ n → (i : ℕ) → get_or (joined ns) i 0 < n
-  joined-low n p h i = go (dec_lt i (length ns))
+  pub joined_low : (n : ℕ) → 0 < n → length ns ≤ n → (i : ℕ) → get_or (joined ns) i 0 < n
+  joined_low n p h i = go (dec_lt i (length ns))
     where
       go : Dec (i < length ns) → get_or (joined ns) i 0 < n
-      go (yes l) = omega (arith, joined-below i l)
+      go (yes l) = omega (arith, joined_below i l)
       go (no l) = omega (arith, get_or-eq_default (joined ns) 0 {n = i} (omega (arith, joined_length)))
 
 -- ---- two lists of names that join the same items
@@ -132,19 +132,19 @@ pub record Alike (ns ms : List ℕ) : Type 0 where
 
 module _ {ns ms : List ℕ} (a : Alike ns ms) where
   -- have the same representatives
-  pub alike-rep : (i : ℕ) → i < length ns → firstIndex ns i ≡ firstIndex ms i
-  alike-rep i l =
-      first-is ms i (firstIndex ns i) (omega (arith, a.long))
+  pub alike_rep : (i : ℕ) → i < length ns → first_index ns i ≡ first_index ms i
+  alike_rep i l =
+      first_is ms i (first_index ns i) (omega (arith, a.long))
       (record {
-        low = rep-low ns i l;
-        same = a.to (firstIndex ns i) i (rep-below ns i l) l (rep-name ns i l);
-        first = λ k lk e. (rep-first ns i l).first k lk (a.back k (firstIndex ns i) (omega (arith, rep-below ns i l)) (rep-below ns i l) e);
+        low = rep_low ns i l;
+        same = a.to (first_index ns i) i (rep_below ns i l) l (rep_name ns i l);
+        first = λ k lk e. (rep_first ns i l).first k lk (a.back k (first_index ns i) (omega (arith, rep_below ns i l)) (rep_below ns i l) e);
       })
 
   -- all of them
-  pub alike-joined : joined ns ≡ joined ms
-  alike-joined =
+  pub alike_joined : joined ns ≡ joined ms
+  alike_joined =
       ext_get_or 0 (joined ns) (joined ms) (joined_length ns ∙ a.long ∙ sym (joined_length ms))
       (λ i l.
       let m : i < length ns = omega (arith, l, joined_length ns) in
-      joined_at ns i m ∙ alike-rep i m ∙ sym (joined_at ms i (omega (arith, a.long))))
+      joined_at ns i m ∙ alike_rep i m ∙ sym (joined_at ms i (omega (arith, a.long))))

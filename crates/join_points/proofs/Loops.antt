@@ -9,15 +9,15 @@ use lib.ListN.{length, get_or, take, drop, set, length-set}
 use lib.Seq.{take_all}
 
 -- at a counting loop's end the counter is the end
-pub at-end : (P : ℕ → Type 0) {i n : ℕ} → i ≤ n → n ≤ i → P i → P n
-at-end P lo hi p = subst P (le_antisymm lo hi) p
+pub at_end : (P : ℕ → Type 0) {i n : ℕ} → i ≤ n → n ≤ i → P i → P n
+at_end P lo hi p = subst P (le_antisymm lo hi) p
 
 -- one more word written in front of what was there
-write-suc : (n : ℕ) (xs v : List ℕ) → n < length xs → n < length v → set (take n xs ++ drop n v) n (get_or xs n 0) ≡ take (suc n) xs ++ drop (suc n) v
-write-suc n [] v l m = absurd (not-suc-le-zero l)
-write-suc n (x ∷ xs) [] l m = absurd (not-suc-le-zero m)
-write-suc zero (x ∷ xs) (y ∷ v) l m = refl
-write-suc (suc n) (x ∷ xs) (y ∷ v) l m = ap (λ (t : List ℕ). x ∷ t) (write-suc n xs v (le_of_suc-le-suc l) (le_of_suc-le-suc m))
+write_suc : (n : ℕ) (xs v : List ℕ) → n < length xs → n < length v → set (take n xs ++ drop n v) n (get_or xs n 0) ≡ take (suc n) xs ++ drop (suc n) v
+write_suc n [] v l m = absurd (not-suc-le-zero l)
+write_suc n (x ∷ xs) [] l m = absurd (not-suc-le-zero m)
+write_suc zero (x ∷ xs) (y ∷ v) l m = refl
+write_suc (suc n) (x ∷ xs) (y ∷ v) l m = ap (λ (t : List ℕ). x ∷ t) (write_suc n xs v (le_of_suc-le-suc l) (le_of_suc-le-suc m))
 
 -- n words xs are written over the front of v, with i of them done: v became w
 pub record Written (xs : List ℕ) (n : ℕ) (v : List ℕ) (i : ℕ) (w : List ℕ) : Type 0 where
@@ -30,14 +30,14 @@ pub written_none : (xs : List ℕ) (n : ℕ) (v : List ℕ) → Written xs n v 0
 written_none xs n v = record { low = omega arith; list = refl; long = refl }
 
 -- one word more
-pub written-more : {xs : List ℕ} {n i : ℕ} {w v : List ℕ} {x : ℕ} → length xs ≡ n → n ≤ length v → Written xs n v i w → i < n → x ≡ get_or xs i 0
+pub written_more : {xs : List ℕ} {n i : ℕ} {w v : List ℕ} {x : ℕ} → length xs ≡ n → n ≤ length v → Written xs n v i w → i < n → x ≡ get_or xs i 0
     → Written xs n v (i + 1) (set w i x)
-written-more {xs} {n} {i} {w} {v} {x} e r f h g =
+written_more {xs} {n} {i} {w} {v} {x} e r f h g =
     record {
       low = omega arith;
       list =
           (λ k. set (f.list k) i (g k))
-          ∙ write-suc i xs v (omega arith) (omega arith)
+          ∙ write_suc i xs v (omega arith) (omega arith)
           ∙ ap (λ (k : ℕ). take k xs ++ drop k v) (sym (add-one i));
       long = simp length-set f.long;
     }
@@ -45,4 +45,4 @@ written-more {xs} {n} {i} {w} {v} {x} e r f h g =
 -- all words
 pub written_all : {xs : List ℕ} {n i : ℕ} {w v : List ℕ} → length xs ≡ n → Written xs n v i w → n ≤ i → w ≡ xs ++ drop n v
 written_all {xs} {n} {i} {w} {v} e f h =
-    at-end (λ k. w ≡ take k xs ++ drop k v) f.low h f.list ∙ ap (λ (l : List ℕ). l ++ drop n v) (take_all n xs (omega arith))
+    at_end (λ k. w ≡ take k xs ++ drop k v) f.low h f.list ∙ ap (λ (l : List ℕ). l ++ drop n v) (take_all n xs (omega arith))

@@ -10,21 +10,21 @@ use lib.Seq.{take_at, drop_at, drop-drop, length-take-le}
 use lib.Ieee.{Float}
 use Rattle.point_rules.specs.Rule as Naming
 use Rattle.point_rules.specs.Rule.{names, VertexInside}
-use Rattle.point_rules.specs.Names.{names-length, names-below}
+use Rattle.point_rules.specs.Names.{names_length, names_below}
 use Rattle.point_rules.specs.Points.{key, bits, zeros}
-use Rattle.point_rules.specs.Bits.{bitsBy, digest}
+use Rattle.point_rules.specs.Bits.{bits_by, digest}
 use Rattle.join_table.specs.declared.Source.{Source}
 use Rattle.join_points.specs.declared.vertices.Rule.{Rule}
 use Rattle.join_points.specs.declared.vertices.Rule.TheVariants.{Key, Bits, Zeros}
-use Rattle.join_definition.specs.Join.{joined, firstIndex, Joined, JoinRoom}
+use Rattle.join_definition.specs.Join.{joined, first_index, Joined, JoinRoom}
 use Rattle.join_table.specs.Naming.{names_of}
-use Rattle.join_points.specs.Rules.{ruleOf, words_of, source_of, Fit, JoinedPoints}
+use Rattle.join_points.specs.Rules.{rule_of, words_of, source_of, Fit, JoinedPoints}
 use Rattle.join_table.specs.Table.{Named, Ready}
-use Rattle.join_points.proofs.Loops.{Written, written-more, written_all}
+use Rattle.join_points.proofs.Loops.{Written, written_more, written_all}
 
 -- ---- words that are the names
-pub words-ready : {n : ℕ} {W : List ℕ} → JoinRoom n W → Ready (take n W) n W
-words-ready {n} {W} r =
+pub words_ready : {n : ℕ} {W : List ℕ} → JoinRoom n W → Ready (take n W) n W
+words_ready {n} {W} r =
     record {
       room = r.room;
       few = r.few;
@@ -40,25 +40,25 @@ map_at f (x ∷ xs) (suc i) l = map_at f xs i (le_of_suc-le-suc l)
 -- What a rule owes: as many words as vertices, the names found at its source, and words that go by the names.
 pub record Lawful (rule : Rule) (ps : List Float) (n : ℕ) : Type 0 where
   pub count : length (words_of rule ps) ≡ n
-  pub source : names_of (source_of rule) ps (words_of rule ps) ≡ names (ruleOf rule) ps
-  pub named : Named (names (ruleOf rule) ps) (words_of rule ps) n
+  pub source : names_of (source_of rule) ps (words_of rule ps) ≡ names (rule_of rule) ps
+  pub named : Named (names (rule_of rule) ps) (words_of rule ps) n
 
 -- digests go by the names
-digests-named : (rule : Naming.Rule) (ps : List Float) (n : ℕ) → length (names rule ps) ≡ n → Named (names rule ps) (map digest (names rule ps)) n
-digests-named rule ps n l =
+digests_named : (rule : Naming.Rule) (ps : List Float) (n : ℕ) → length (names rule ps) ≡ n → Named (names rule ps) (map digest (names rule ps)) n
+digests_named rule ps n l =
     record { long = l; agree = λ j k lj lk q. map_at digest (names rule ps) j (omega arith) ∙ ap digest q ∙ sym (map_at digest (names rule ps) k (omega arith)) }
 
 -- each rule owes it and keeps it
 pub lawful : (rule : Rule) (ps : List Float) (n : ℕ) → length ps ≡ 3 * n → Lawful rule ps n
-unfolding ruleOf words_of source_of names_of
+unfolding rule_of words_of source_of names_of
 lawful Key ps n e =
-    record { count = names-length key ps n e; source = refl; named = record { long = names-length key ps n e; agree = λ j k _ _ q. q } }
+    record { count = names_length key ps n e; source = refl; named = record { long = names_length key ps n e; agree = λ j k _ _ q. q } }
 lawful Bits ps n e =
-    let l : length (names bits ps) ≡ n = names-length bits ps n e in
-    record { count = length-map (names bits ps) digest ∙ l; source = refl; named = digests-named bits ps n l }
+    let l : length (names bits ps) ≡ n = names_length bits ps n e in
+    record { count = length-map (names bits ps) digest ∙ l; source = refl; named = digests_named bits ps n l }
 lawful Zeros ps n e =
-    let l : length (names zeros ps) ≡ n = names-length zeros ps n e in
-    record { count = length-map (names zeros ps) digest ∙ l; source = refl; named = digests-named zeros ps n l }
+    let l : length (names zeros ps) ≡ n = names_length zeros ps n e in
+    record { count = length-map (names zeros ps) digest ∙ l; source = refl; named = digests_named zeros ps n l }
 
 -- ---- `source_of` and `word_at`, by the cases of the rule
 pub source_is : {rule case : Rule} → rule ≡ case → source_of case ≡ source_of rule
@@ -66,23 +66,23 @@ source_is e = ap source_of (sym e)
 
 module _ (rule : Rule) (ps : List Float) (i : ℕ) {r : ℕ} where
   -- the word by keys
-  pub key-word : rule ≡ Key → r ≡ get_or (names key ps) i 0 → r ≡ get_or (words_of rule ps) i 0
+  pub key_word : rule ≡ Key → r ≡ get_or (names key ps) i 0 → r ≡ get_or (words_of rule ps) i 0
   unfolding words_of
-  key-word q e = e ∙ ap (λ (t : Rule). get_or (words_of t ps) i 0) (sym q)
+  key_word q e = e ∙ ap (λ (t : Rule). get_or (words_of t ps) i 0) (sym q)
 
   -- the word by bits, the zeros apart
-  pub bits-word : rule ≡ Bits → VertexInside i ps → r ≡ digest (get_or (names (bitsBy false) ps) i 0) → r ≡ get_or (words_of rule ps) i 0
-  unfolding words_of bitsBy
-  bits-word q w e = e ∙ sym (map_at digest (names bits ps) i (names-below bits ps i w.low)) ∙ ap (λ (t : Rule). get_or (words_of t ps) i 0) (sym q)
+  pub bits_word : rule ≡ Bits → VertexInside i ps → r ≡ digest (get_or (names (bits_by false) ps) i 0) → r ≡ get_or (words_of rule ps) i 0
+  unfolding words_of bits_by
+  bits_word q w e = e ∙ sym (map_at digest (names bits ps) i (names_below bits ps i w.low)) ∙ ap (λ (t : Rule). get_or (words_of t ps) i 0) (sym q)
 
   -- and as one
-  pub zeros-word : rule ≡ Zeros → VertexInside i ps → r ≡ digest (get_or (names (bitsBy true) ps) i 0) → r ≡ get_or (words_of rule ps) i 0
-  unfolding words_of bitsBy
-  zeros-word q w e = e ∙ sym (map_at digest (names zeros ps) i (names-below zeros ps i w.low)) ∙ ap (λ (t : Rule). get_or (words_of t ps) i 0) (sym q)
+  pub zeros_word : rule ≡ Zeros → VertexInside i ps → r ≡ digest (get_or (names (bits_by true) ps) i 0) → r ≡ get_or (words_of rule ps) i 0
+  unfolding words_of bits_by
+  zeros_word q w e = e ∙ sym (map_at digest (names zeros ps) i (names_below zeros ps i w.low)) ∙ ap (λ (t : Rule). get_or (words_of t ps) i 0) (sym q)
 
 -- ---- `write_words`
-pub fit-within : {ps : List Float} {n i : ℕ} {v : List ℕ} → Fit n ps v → i < n → VertexInside i ps
-fit-within f l = record { low = omega (arith, f.whole) }
+pub fit_within : {ps : List Float} {n i : ℕ} {v : List ℕ} → Fit n ps v → i < n → VertexInside i ps
+fit_within f l = record { low = omega (arith, f.whole) }
 
 module _ (rule : Rule) {ps : List Float} {n : ℕ} {v : List ℕ} (f : Fit n ps v) where
   -- as many words as vertices
@@ -90,9 +90,9 @@ module _ (rule : Rule) {ps : List Float} {n : ℕ} {v : List ℕ} (f : Fit n ps 
   count = (lawful rule ps n f.whole).count
 
   -- one word more
-  pub fit-more : {i x : ℕ} {w : List ℕ} → Written (words_of rule ps) n v i w → i < n → x ≡ get_or (words_of rule ps) i 0
+  pub fit_more : {i x : ℕ} {w : List ℕ} → Written (words_of rule ps) n v i w → i < n → x ≡ get_or (words_of rule ps) i 0
       → Written (words_of rule ps) n v (i + 1) (set w i x)
-  fit-more = written-more count (omega (arith, f.room))
+  fit_more = written_more count (omega (arith, f.room))
 
   -- all words
   pub fit_all : {i : ℕ} {w : List ℕ} → Written (words_of rule ps) n v i w → n ≤ i → w ≡ words_of rule ps ++ drop n v
@@ -117,26 +117,26 @@ module _ (rule : Rule) {ps : List Float} {n : ℕ} {v : List ℕ} (f : Fit n ps 
         split = omega arith
 
     -- the names are those of the rule
-    named : names_of s ps (take n w) ≡ names (ruleOf rule) ps
+    named : names_of s ps (take n w) ≡ names (rule_of rule) ps
     named = (λ k. names_of (at k) ps (words k)) ∙ (lawful rule ps n f.whole).source
 
     -- the vertices are ready to be joined
-    pub points-ready : length w ≡ length v → Ready (names_of s ps (take n w)) n w
-    points-ready e =
+    pub points_ready : length w ≡ length v → Ready (names_of s ps (take n w)) n w
+    points_ready e =
         record {
           room = omega (arith, f.room);
           few = f.few;
           named =
               subst (λ l. Named l (take n w) n) (sym named)
-              (subst (λ l. Named (names (ruleOf rule) ps) l n) (sym words) (lawful rule ps n f.whole).named);
+              (subst (λ l. Named (names (rule_of rule) ps) l n) (sym words) (lawful rule ps n f.whole).named);
         }
 
     -- and are joined by the rule
-    pub points-joined : {E : List ℕ} → Joined (names_of s ps (take n w)) n w E → JoinedPoints rule ps n v E
-    points-joined j =
+    pub points_joined : {E : List ℕ} → Joined (names_of s ps (take n w)) n w E → JoinedPoints rule ps n v E
+    points_joined j =
         record {
           reps = j.reps ∙ ap joined named;
-          rep = λ i l. j.rep i l ∙ ap (λ ns. firstIndex ns i) named;
+          rep = λ i l. j.rep i l ∙ ap (λ ns. first_index ns i) named;
           words = j.words ∙ words;
           rest = j.rest ∙ behind;
         }

@@ -8,13 +8,13 @@ use Rattle.join_table.specs.declared.Source.{Source}
 use Rattle.join_table.specs.declared.Source.TheVariants as source
 use Rattle.join_points.specs.declared.vertices.Rule.{Rule}
 use Rattle.join_points.specs.declared.vertices.Rule.TheVariants.{Key, Bits, Zeros}
-use Rattle.join_definition.specs.Join.{joined, firstIndex}
+use Rattle.join_definition.specs.Join.{joined, first_index}
 
 -- the rule of each case
-unfoldable pub ruleOf : Rule → Naming.Rule
-ruleOf Key = key
-ruleOf Bits = bits
-ruleOf Zeros = zeros
+unfoldable pub rule_of : Rule → Naming.Rule
+rule_of Key = key
+rule_of Bits = bits
+rule_of Zeros = zeros
 
 -- the words of the vertices: keys are words themselves, bits have digests
 unfoldable pub words_of : Rule → List Float → List ℕ
@@ -37,7 +37,7 @@ pub record Fit (n : ℕ) (ps : List Float) (W : List ℕ) : Type 0 where
 -- What joining vertices by a rule leaves of the words W: the words of the vertices, then the representatives, and all behind the table's
 -- 4 * n as it was.
 pub record JoinedPoints (rule : Rule) (ps : List Float) (n : ℕ) (W E : List ℕ) : Type 0 where
-  pub reps : take n (drop n E) ≡ joined (names (ruleOf rule) ps)
-  pub rep : (i : ℕ) → i < n → get_or E (n + i) 0 ≡ firstIndex (names (ruleOf rule) ps) i
+  pub reps : take n (drop n E) ≡ joined (names (rule_of rule) ps)
+  pub rep : (i : ℕ) → i < n → get_or E (n + i) 0 ≡ first_index (names (rule_of rule) ps) i
   pub words : take n E ≡ words_of rule ps
   pub rest : drop (4 * n) E ≡ drop (4 * n) W

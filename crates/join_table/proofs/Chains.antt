@@ -13,20 +13,20 @@ use lib.Seq.{get_or-take, get_or-drop, get_or-append-add, length-take-le, take-t
 use borrow.Author.Count.{below_more}
 use borrow.Author.Tests.{eqb-true, eqb-false}
 use borrow.Rule.Slice.PartMut.{mid_of, put_mid, take_put, drop_put, mid_len}
-use Rattle.join_definition.specs.Join.{joined, firstIndex, First, IsFirst, Joined}
-use Rattle.join_definition.specs.Representatives.{first-is, joined_length, joined_at}
-use Rattle.join_table.specs.Table.{bucketOf, Bucket, Named, Latest, Table, Walk, Compared, Search, Hit, Turn, Step, Begun, Ready}
+use Rattle.join_definition.specs.Join.{joined, first_index, First, IsFirst, Joined}
+use Rattle.join_definition.specs.Representatives.{first_is, joined_length, joined_at}
+use Rattle.join_table.specs.Table.{bucket_of, Bucket, Named, Latest, Table, Walk, Compared, Search, Hit, Turn, Step, Begun, Ready}
 
 -- ---- `find`, at the link p
 module _ {ns W : List ℕ} {n i q : ℕ} (s : Search ns n i W q) where
   module _ {p : ℕ} (w : Walk ns (take n W) n i p) (test : p ≡ 0 → ⊥) where
     -- the link there leads on along the chain
-    next-link : Latest ns (take n W) n (p - 1) (bucketOf n (get_or (take n W) (p - 1) 0)) (get_or W (2 * n + (p - 1)) 0)
-    next-link = s.table.nexts (p - 1) (omega (arith, w.low)) (w.first (omega arith))
+    next_link : Latest ns (take n W) n (p - 1) (bucket_of n (get_or (take n W) (p - 1) 0)) (get_or W (2 * n + (p - 1)) 0)
+    next_link = s.table.nexts (p - 1) (omega (arith, w.low)) (w.first (omega arith))
 
     -- the item there can be compared with item i
-    pub walk-compares : Compared ns n (p - 1) i W
-    walk-compares =
+    pub walk_compares : Compared ns n (p - 1) i W
+    walk_compares =
         record {
           named = s.table.named;
           room = omega (arith, s.table.room);
@@ -35,19 +35,19 @@ module _ {ns W : List ℕ} {n i q : ℕ} (s : Search ns n i W q) where
         }
 
     -- the next link is smaller
-    pub walk-less : get_or W (2 * n + (p - 1)) 0 < p
-    walk-less = omega (arith, next-link.low)
+    pub walk_less : get_or W (2 * n + (p - 1)) 0 < p
+    walk_less = omega (arith, next_link.low)
 
     -- the item there has another name: the walk goes on
     pub walk_more : {r : Bool} → r ≡ eqb (get_or ns (p - 1) 0) (get_or ns i 0) → r ≡ false → Walk ns (take n W) n i (get_or W (2 * n + (p - 1)) 0)
     walk_more e z =
         record {
-          low = omega (arith, next-link.low, w.low);
-          first = next-link.first;
-          hash = λ l. next-link.hash l ∙ w.hash (omega arith);
-          all = λ j lt f g. next-link.all j
+          low = omega (arith, next_link.low, w.low);
+          first = next_link.first;
+          hash = λ l. next_link.hash l ∙ w.hash (omega arith);
+          all = λ j lt f g. next_link.all j
               (before j (w.all j lt f g) (λ q. other (ap (λ k. get_or ns k 0) (sym q) ∙ g)))
-              f (ap (bucketOf n) (s.table.named.agree j i (omega (arith, s.low)) s.low g) ∙ sym (w.hash (omega arith)));
+              f (ap (bucket_of n) (s.table.named.agree j i (omega (arith, s.low)) s.low g) ∙ sym (w.hash (omega arith)));
         }
       where
         other : get_or ns (p - 1) 0 ≡ get_or ns i 0 → ⊥
@@ -57,13 +57,13 @@ module _ {ns W : List ℕ} {n i q : ℕ} (s : Search ns n i W q) where
         before j a b = omega arith
 
     -- the item there has the name: it is found
-    pub walk-hit : {r : Bool} → r ≡ eqb (get_or ns (p - 1) 0) (get_or ns i 0) → r ≡ true → Hit ns i p
-    walk-hit e t =
+    pub walk_hit : {r : Bool} → r ≡ eqb (get_or ns (p - 1) 0) (get_or ns i 0) → r ≡ true → Hit ns i p
+    walk_hit e t =
         record { low = w.low; first = w.first; same = λ _. eqb-true _ _ (sym e ∙ t); none = λ z. absurd (test z) }
 
   -- the chain has ended: no item has the name
-  pub walk-miss : {p : ℕ} → Walk ns (take n W) n i p → p ≡ 0 → Hit ns i 0
-  walk-miss w z =
+  pub walk_miss : {p : ℕ} → Walk ns (take n W) n i p → p ≡ 0 → Hit ns i 0
+  walk_miss w z =
       record {
         low = omega arith;
         first = λ l. absurd (not-suc-le-zero l);
@@ -79,22 +79,22 @@ kept W a b c x y z k p q r =
     get_or-set_other (set (set W a x) b y) c k z 0 r ∙ get_or-set_other (set W a x) b k y 0 q ∙ get_or-set_other W a k x 0 p
 
 -- a chain that item i does not go into
-latest-skip : {ns ds : List ℕ} {n i h L : ℕ} → Latest ns ds n i h L → (First ns i → bucketOf n (get_or ds i 0) ≡ h → ⊥) → Latest ns ds n (i + 1) h L
-latest-skip {ns} {ds} {n} {i} {h} {L} l no-i =
+latest_skip : {ns ds : List ℕ} {n i h L : ℕ} → Latest ns ds n i h L → (First ns i → bucket_of n (get_or ds i 0) ≡ h → ⊥) → Latest ns ds n (i + 1) h L
+latest_skip {ns} {ds} {n} {i} {h} {L} l no-i =
     record {
       low = omega (arith, l.low);
       first = l.first;
       hash = l.hash;
-      all = below_more (λ j. First ns j → bucketOf n (get_or ds j 0) ≡ h → j < L) i l.all (λ f e. absurd (no-i f e));
+      all = below_more (λ j. First ns j → bucket_of n (get_or ds j 0) ≡ h → j < L) i l.all (λ f e. absurd (no-i f e));
     }
 
 -- the chain that item i heads
-latest-here : {ns ds : List ℕ} {i : ℕ} (n : ℕ) → First ns i → Latest ns ds n (i + 1) (bucketOf n (get_or ds i 0)) (i + 1)
-latest-here {ns} {ds} {i} n f =
+latest_here : {ns ds : List ℕ} {i : ℕ} (n : ℕ) → First ns i → Latest ns ds n (i + 1) (bucket_of n (get_or ds i 0)) (i + 1)
+latest_here {ns} {ds} {i} n f =
     record {
       low = omega arith;
       first = λ _. subst (First ns) back f;
-      hash = λ _. ap (λ k. bucketOf n (get_or ds k 0)) (sym back);
+      hash = λ _. ap (λ k. bucket_of n (get_or ds k 0)) (sym back);
       all = λ j l _ _. l;
     }
   where
@@ -114,7 +114,7 @@ module _ {ns W : List ℕ} {n i : ℕ} (u : Turn ns n i W) where
   pub walk_start : {b : ℕ} → Bucket n (get_or W i 0) b → Search ns n i W (get_or W (3 * n + b) 0)
   walk_start {b} l =
       let h = t.heads b l.low in
-      let e : b ≡ bucketOf n (get_or (take n W) i 0) = l.is ∙ ap (bucketOf n) (sym here) in
+      let e : b ≡ bucket_of n (get_or (take n W) i 0) = l.is ∙ ap (bucket_of n) (sym here) in
       record {
         table = t;
         low = u.low;
@@ -123,13 +123,13 @@ module _ {ns W : List ℕ} {n i : ℕ} (u : Turn ns n i W) where
               low = h.low;
               first = h.first;
               hash = λ p. h.hash p ∙ e;
-              all = λ j lj f q. h.all j lj f (ap (bucketOf n) (t.named.agree j i (omega (arith, u.low)) u.low q) ∙ sym e);
+              all = λ j lj f q. h.all j lj f (ap (bucket_of n) (t.named.agree j i (omega (arith, u.low)) u.low q) ∙ sym e);
             };
       }
 
   -- no item below has its name
-  is-first : {r : ℕ} → Hit ns i r → r ≡ 0 → First ns i
-  is-first hit z k lk e =
+  is_first : {r : ℕ} → Hit ns i r → r ≡ 0 → First ns i
+  is_first hit z k lk e =
       let r = t.reps k lk in
       hit.none z (get_or W (n + k) 0) (omega (arith, r.low)) r.first (r.same ∙ e)
 
@@ -152,8 +152,8 @@ module _ {ns W : List ℕ} {n i : ℕ} (u : Turn ns n i W) where
     other k p = sym (get_or-set_other W (n + i) k (r - 1) 0 p)
 
     -- the item is joined
-    pub step-found : Step ns n i W (set W (n + i) (r - 1))
-    step-found =
+    pub step_found : Step ns n i W (set W (n + i) (r - 1))
+    step_found =
         record {
           table =
               record {
@@ -166,13 +166,13 @@ module _ {ns W : List ℕ} {n i : ℕ} (u : Turn ns n i W) where
                     (λ k l. subst (IsFirst ns k) (other (n + k) (omega arith)) (t.reps k l))
                     (subst (IsFirst ns i) (sym (get_or-set_same W (n + i) (r - 1) 0 (omega (arith, t.room, u.low)))) rep);
                 nexts =
-                    below_more (λ k. First ns k → Latest ns (take n W) n k (bucketOf n (get_or (take n W) k 0)) (get_or Found (2 * n + k) 0)) i
-                    (λ k l f. subst (Latest ns (take n W) n k (bucketOf n (get_or (take n W) k 0))) (other (2 * n + k) (omega (arith, u.low))) (t.nexts k l f))
+                    below_more (λ k. First ns k → Latest ns (take n W) n k (bucket_of n (get_or (take n W) k 0)) (get_or Found (2 * n + k) 0)) i
+                    (λ k l f. subst (Latest ns (take n W) n k (bucket_of n (get_or (take n W) k 0))) (other (2 * n + k) (omega (arith, u.low))) (t.nexts k l f))
                     (λ f. absurd (later f));
                 heads =
                     λ h l.
                     subst (Latest ns (take n W) n (i + 1) h) (other (3 * n + h) (omega (arith, u.low)))
-                    (latest-skip (t.heads h l) (λ f _. later f));
+                    (latest_skip (t.heads h l) (λ f _. later f));
               };
           words = take-set-le n W (n + i) (r - 1) (omega arith);
           rest = drop-set-lt (4 * n) W (n + i) (r - 1) (omega (arith, u.low));
@@ -182,11 +182,11 @@ module _ {ns W : List ℕ} {n i : ℕ} (u : Turn ns n i W) where
   module _ {b r : ℕ} (l : Bucket n (get_or W i 0) b) (hit : Hit ns i r) (z : r ≡ 0) where
     -- item i is the first of its name
     f : First ns i
-    f = is-first hit z
+    f = is_first hit z
 
     -- the chain is one of n
-    low-b : b < n
-    low-b = l.low
+    low_b : b < n
+    low_b = l.low
 
     -- the words once item i is its own representative, links to the former head, and is the head
     abbrev New : List ℕ
@@ -201,12 +201,12 @@ module _ {ns W : List ℕ} {n i : ℕ} (u : Turn ns n i W) where
     long = simp length-set
 
     -- the chain is that of the digest of item i
-    hash : b ≡ bucketOf n (get_or (take n W) i 0)
-    hash = l.is ∙ ap (bucketOf n) (sym here)
+    hash : b ≡ bucket_of n (get_or (take n W) i 0)
+    hash = l.is ∙ ap (bucket_of n) (sym here)
 
     -- the representative that was stored
-    at-rep : get_or New (n + i) 0 ≡ i
-    at-rep =
+    at_rep : get_or New (n + i) 0 ≡ i
+    at_rep =
         let p : n + i ≢ 3 * n + b = omega (arith, u.low) in
         let q : n + i ≢ 2 * n + i = omega (arith, u.low) in
         let r : n + i < length W = omega (arith, t.room, u.low) in
@@ -221,20 +221,20 @@ module _ {ns W : List ℕ} {n i : ℕ} (u : Turn ns n i W) where
 
     -- the head that was stored
     at_head : get_or New (3 * n + b) 0 ≡ i + 1
-    at_head = get_or-set_same (set (set W (n + i) i) (2 * n + i) (get_or W (3 * n + b) 0)) _ _ _ (simp length-set (omega (arith, t.room, low-b)))
+    at_head = get_or-set_same (set (set W (n + i) i) (2 * n + i) (get_or W (3 * n + b) 0)) _ _ _ (simp length-set (omega (arith, t.room, low_b)))
 
     -- every chain ends in its latest item again
     head : (h : ℕ) → h < n → Dec (h ≡ b) → Latest ns (take n W) n (i + 1) h (get_or New (3 * n + h) 0)
     head h m (yes q) =
         subst (λ x. Latest ns (take n W) n (i + 1) x (get_or New (3 * n + x) 0)) (sym q)
-        (subst (Latest ns (take n W) n (i + 1) b) (sym at_head) (subst (λ x. Latest ns (take n W) n (i + 1) x (i + 1)) (sym hash) (latest-here n f)))
+        (subst (Latest ns (take n W) n (i + 1) b) (sym at_head) (subst (λ x. Latest ns (take n W) n (i + 1) x (i + 1)) (sym hash) (latest_here n f)))
     head h m (no q) =
         subst (Latest ns (take n W) n (i + 1) h) (old (3 * n + h) (omega (arith, u.low)) (omega (arith, u.low)) (omega arith))
-        (latest-skip (t.heads h m) (λ _ z. q (sym z ∙ sym hash)))
+        (latest_skip (t.heads h m) (λ _ z. q (sym z ∙ sym hash)))
 
     -- the item is joined
-    pub step-new : Step ns n i W New
-    step-new =
+    pub step_new : Step ns n i W New
+    step_new =
         record {
           table =
               record {
@@ -245,11 +245,11 @@ module _ {ns W : List ℕ} {n i : ℕ} (u : Turn ns n i W) where
                 reps =
                     below_more (λ k. IsFirst ns k (get_or New (n + k) 0)) i
                     (λ k m. subst (IsFirst ns k) (old (n + k) (omega arith) (omega (arith, u.low)) (omega (arith, u.low))) (t.reps k m))
-                    (subst (IsFirst ns i) (sym at-rep) (record { low = omega arith; same = refl; first = f }));
+                    (subst (IsFirst ns i) (sym at_rep) (record { low = omega arith; same = refl; first = f }));
                 nexts =
-                    below_more (λ k. First ns k → Latest ns (take n W) n k (bucketOf n (get_or (take n W) k 0)) (get_or New (2 * n + k) 0)) i
-                    (λ k m g. subst (Latest ns (take n W) n k (bucketOf n (get_or (take n W) k 0))) (old (2 * n + k) (omega (arith, u.low)) (omega arith) (omega (arith, u.low))) (t.nexts k m g))
-                    (λ g. subst (λ x. Latest ns (take n W) n i x (get_or New (2 * n + i) 0)) hash (subst (Latest ns (take n W) n i b) (sym at_next) (t.heads b low-b)));
+                    below_more (λ k. First ns k → Latest ns (take n W) n k (bucket_of n (get_or (take n W) k 0)) (get_or New (2 * n + k) 0)) i
+                    (λ k m g. subst (Latest ns (take n W) n k (bucket_of n (get_or (take n W) k 0))) (old (2 * n + k) (omega (arith, u.low)) (omega arith) (omega (arith, u.low))) (t.nexts k m g))
+                    (λ g. subst (λ x. Latest ns (take n W) n i x (get_or New (2 * n + i) 0)) hash (subst (Latest ns (take n W) n i b) (sym at_next) (t.heads b low_b)));
                 heads = λ h m. head h m (ℕ_discrete h b);
               };
           words =
@@ -260,7 +260,7 @@ module _ {ns W : List ℕ} {n i : ℕ} (u : Turn ns n i W) where
           rest =
               let p : n + i < 4 * n = omega (arith, u.low) in
               let q : 2 * n + i < 4 * n = omega (arith, u.low) in
-              let r : 3 * n + b < 4 * n = omega (arith, low-b) in
+              let r : 3 * n + b < 4 * n = omega (arith, low_b) in
               simp drop-set-lt;
         }
 
@@ -299,12 +299,12 @@ pub record Progress (of : List ℕ → List ℕ) (n : ℕ) (W : List ℕ) (i : �
 
 module _ {of : List ℕ → List ℕ} {n : ℕ} where
   -- the next item can be joined
-  pub progress-turn : {i : ℕ} {W E : List ℕ} → Progress of n W i E → i < n → Turn (of (take n E)) n i E
-  progress-turn p l = record { table = p.table; low = l }
+  pub progress_turn : {i : ℕ} {W E : List ℕ} → Progress of n W i E → i < n → Turn (of (take n E)) n i E
+  progress_turn p l = record { table = p.table; low = l }
 
   -- one item more is joined
-  pub progress-more : {i : ℕ} {W E F : List ℕ} → Progress of n W i E → Step (of (take n E)) n i E F → length F ≡ length E → Progress of n W (i + 1) F
-  progress-more {i} {W} {E} {F} p s e =
+  pub progress_more : {i : ℕ} {W E F : List ℕ} → Progress of n W i E → Step (of (take n E)) n i E F → length F ≡ length E → Progress of n W (i + 1) F
+  progress_more {i} {W} {E} {F} p s e =
       record {
         table = subst (λ l. Table (of l) l n (i + 1) F) (sym s.words) s.table;
         words = s.words ∙ p.words;
@@ -313,8 +313,8 @@ module _ {of : List ℕ → List ℕ} {n : ℕ} where
       }
 
   -- no item is joined while the chains are empty
-  pub progress-none : {W E : List ℕ} → Ready (of (take n W)) n W → Begun n W E → length E ≡ length W → Progress of n E 0 E
-  progress-none {W} {E} r b e =
+  pub progress_none : {W E : List ℕ} → Ready (of (take n W)) n W → Begun n W E → length E ≡ length W → Progress of n E 0 E
+  progress_none {W} {E} r b e =
       record {
         table =
             record {
@@ -341,8 +341,8 @@ module _ {of : List ℕ → List ℕ} {n : ℕ} where
           }
 
   -- all items are joined
-  pub progress-all : {i : ℕ} {ns W W₁ E : List ℕ} → Progress of n W₁ i E → n ≤ i → Begun n W W₁ → Ready ns n W → ns ≡ of (take n W) → Joined ns n W E
-  progress-all {i} {ns} {W} {W₁} {E} p le b r is =
+  pub progress_all : {i : ℕ} {ns W W₁ E : List ℕ} → Progress of n W₁ i E → n ≤ i → Begun n W W₁ → Ready ns n W → ns ≡ of (take n W) → Joined ns n W E
+  progress_all {i} {ns} {W} {W₁} {E} p le b r is =
       record {
         reps =
             ext_get_or 0 (take n (drop n E)) (joined ns) (part ∙ sym (joined_length ns ∙ r.named.long))
@@ -355,9 +355,9 @@ module _ {of : List ℕ → List ℕ} {n : ℕ} where
       words : take n E ≡ take n W
       words = p.words ∙ b.words
 
-      one : (k : ℕ) → k < n → get_or E (n + k) 0 ≡ firstIndex ns k
+      one : (k : ℕ) → k < n → get_or E (n + k) 0 ≡ first_index ns k
       one k l =
-          first-is ns k (get_or E (n + k) 0) (omega (arith, r.named.long))
+          first_is ns k (get_or E (n + k) 0) (omega (arith, r.named.long))
           (subst (λ l. IsFirst l k (get_or E (n + k) 0)) (ap of words ∙ sym is) (p.table.reps k (omega arith)))
 
       part : length (take n (drop n E)) ≡ n

@@ -5,8 +5,8 @@ use Rattle.std.specs.Int.Bits.{bit_xor}
 use Rattle.join_definition.specs.Join.{First, IsFirst}
 
 -- which of n chains the items with digest d are in
-unfoldable pub bucketOf : ℕ → ℕ → ℕ
-bucketOf n d =
+unfoldable pub bucket_of : ℕ → ℕ → ℕ
+bucket_of n d =
     let p = d * 11400714819323198485 % 2 ^ 64 in
     bit_xor p (p / 2 ^ 32) * 15485907386658061715 % 2 ^ 64 / 2 ^ 32 * n / 2 ^ 32
 
@@ -18,7 +18,7 @@ pub record Sized (n : ℕ) : Type 0 where
 -- r is the chain of digest d
 pub record Bucket (n d r : ℕ) : Type 0 where
   pub low : r < n
-  pub is : r ≡ bucketOf n d
+  pub is : r ≡ bucket_of n d
 
 -- n items with names ns have digests ds: the digest goes by the name
 pub record Named (ns ds : List ℕ) (n : ℕ) : Type 0 where
@@ -29,8 +29,8 @@ pub record Named (ns ds : List ℕ) (n : ℕ) : Type 0 where
 pub record Latest (ns ds : List ℕ) (n b h L : ℕ) : Type 0 where
   pub low : L ≤ b
   pub first : 0 < L → First ns (L - 1)
-  pub hash : 0 < L → bucketOf n (get_or ds (L - 1) 0) ≡ h
-  pub all : (j : ℕ) → j < b → First ns j → bucketOf n (get_or ds j 0) ≡ h → j < L
+  pub hash : 0 < L → bucket_of n (get_or ds (L - 1) 0) ≡ h
+  pub all : (j : ℕ) → j < b → First ns j → bucket_of n (get_or ds j 0) ≡ h → j < L
 
 -- the items below i are joined
 pub record Table (ns ds : List ℕ) (n i : ℕ) (W : List ℕ) : Type 0 where
@@ -39,14 +39,14 @@ pub record Table (ns ds : List ℕ) (n i : ℕ) (W : List ℕ) : Type 0 where
   pub room : 4 * n ≤ length W
   pub named : Named ns ds n
   pub reps : (k : ℕ) → k < i → IsFirst ns k (get_or W (n + k) 0)
-  pub nexts : (k : ℕ) → k < i → First ns k → Latest ns ds n k (bucketOf n (get_or ds k 0)) (get_or W (2 * n + k) 0)
+  pub nexts : (k : ℕ) → k < i → First ns k → Latest ns ds n k (bucket_of n (get_or ds k 0)) (get_or W (2 * n + k) 0)
   pub heads : (h : ℕ) → h < n → Latest ns ds n i h (get_or W (3 * n + h) 0)
 
 -- on the way along a chain: an item below i that is the first of i's name stands at the link p or is yet to come
 pub record Walk (ns ds : List ℕ) (n i p : ℕ) : Type 0 where
   pub low : p ≤ i
   pub first : 0 < p → First ns (p - 1)
-  pub hash : 0 < p → bucketOf n (get_or ds (p - 1) 0) ≡ bucketOf n (get_or ds i 0)
+  pub hash : 0 < p → bucket_of n (get_or ds (p - 1) 0) ≡ bucket_of n (get_or ds i 0)
   pub all : (j : ℕ) → j < i → First ns j → get_or ns j 0 ≡ get_or ns i 0 → j < p
 
 -- what `same_name` requires

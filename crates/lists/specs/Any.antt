@@ -21,9 +21,9 @@ module _ {A : Type 0} where
       go false r s e = e
 
   -- the one item passes
-  pub any-one : (f : A → Bool) (x : A) → any f (x ∷ []) ≡ f x
+  pub any_one : (f : A → Bool) (x : A) → any f (x ∷ []) ≡ f x
   unfolding any
-  any-one f x = go (f x)
+  any_one f x = go (f x)
     where
       go : (b : Bool) → elim b [ true ↦ true | false ↦ false ] ≡ b
       go true = refl
@@ -48,11 +48,11 @@ module _ {A : Type 0} where
       go false r q = q
 
   -- item k of a list, where there is one
-  pub item-at : (xs : List A) (k : ℕ) (d : A) → k < length xs → item_at xs k ≡ some (get_or xs k d)
+  pub item_at_lem : (xs : List A) (k : ℕ) (d : A) → k < length xs → item_at xs k ≡ some (get_or xs k d)
   unfolding item_at
-  item-at [] k d h = absurd (not-suc-le-zero h)
-  item-at (x ∷ xs) zero d h = refl
-  item-at (x ∷ xs) (suc k) d h = item-at xs k d (le_of_suc-le-suc h)
+  item_at_lem [] k d h = absurd (not-suc-le-zero h)
+  item_at_lem (x ∷ xs) zero d h = refl
+  item_at_lem (x ∷ xs) (suc k) d h = item_at_lem xs k d (le_of_suc-le-suc h)
 
   -- a search for an item that passes has passed the first k
   pub record Searched (f : A → Bool) (xs : List A) (k : ℕ) : Type 0 where
@@ -60,8 +60,8 @@ module _ {A : Type 0} where
     pub rest : any f (drop k xs) ≡ any f xs
 
   -- no item is passed yet
-  pub searched-none : (f : A → Bool) (xs : List A) → Searched f xs 0
-  searched-none f xs = record { low = omega arith; rest = refl }
+  pub searched_none : (f : A → Bool) (xs : List A) → Searched f xs 0
+  searched_none f xs = record { low = omega arith; rest = refl }
 
   -- item k, and those behind it
   unfolds : (f : A → Bool) (xs : List A) (k : ℕ) (d : A) → k < length xs → any f (drop k xs) ≡ elim (f (get_or xs k d)) [ true ↦ true | false ↦ any f (drop (suc k) xs) ]
@@ -69,8 +69,8 @@ module _ {A : Type 0} where
   unfolds f xs k d h = ap (any f) (drop-cons xs k d h)
 
   -- item k does not pass
-  pub searched-more : {f : A → Bool} {xs : List A} {k : ℕ} (d : A) → Searched f xs k → k < length xs → f (get_or xs k d) ≡ false → Searched f xs (k + 1)
-  searched-more {f} {xs} {k} d s h e = record {
+  pub searched_more : {f : A → Bool} {xs : List A} {k : ℕ} (d : A) → Searched f xs k → k < length xs → f (get_or xs k d) ≡ false → Searched f xs (k + 1)
+  searched_more {f} {xs} {k} d s h e = record {
     low = omega arith;
     rest = ap (λ (j : ℕ). any f (drop j xs)) (add-one k) ∙ sym (unfolds f xs k d h ∙ go (f (get_or xs k d)) e) ∙ s.rest;
   }
@@ -79,16 +79,16 @@ module _ {A : Type 0} where
       go b q = rw q
 
   -- item k passes
-  pub searched-hit : {f : A → Bool} {xs : List A} {k : ℕ} (d : A) → Searched f xs k → k < length xs → f (get_or xs k d) ≡ true → true ≡ any f xs
-  searched-hit {f} {xs} {k} d s h e = sym (sym s.rest ∙ unfolds f xs k d h ∙ go (f (get_or xs k d)) e)
+  pub searched_hit : {f : A → Bool} {xs : List A} {k : ℕ} (d : A) → Searched f xs k → k < length xs → f (get_or xs k d) ≡ true → true ≡ any f xs
+  searched_hit {f} {xs} {k} d s h e = sym (sym s.rest ∙ unfolds f xs k d h ∙ go (f (get_or xs k d)) e)
     where
       go : (b : Bool) → b ≡ true → elim b [ true ↦ true | false ↦ any f (drop (suc k) xs) ] ≡ true
       go b q = rw q
 
   -- every item is passed
-  pub searched-all : {f : A → Bool} {xs : List A} {k : ℕ} → Searched f xs k → length xs ≤ k → false ≡ any f xs
+  pub searched_all : {f : A → Bool} {xs : List A} {k : ℕ} → Searched f xs k → length xs ≤ k → false ≡ any f xs
   unfolding any
-  searched-all {f} {xs} {k} s h = sym (ap (any f) (drop_of_length-le xs h)) ∙ s.rest
+  searched_all {f} {xs} {k} s h = sym (ap (any f) (drop_of_length-le xs h)) ∙ s.rest
 
   -- a look at every item, without a jump, has seen the first k: whether one of them passes
   pub record Looked (f : A → Bool) (xs : List A) (k : ℕ) (found : Bool) : Type 0 where
@@ -96,24 +96,24 @@ module _ {A : Type 0} where
     pub is : found ≡ any f (take k xs)
 
   -- no item is seen yet
-  pub looked-none : (f : A → Bool) (xs : List A) → Looked f xs 0 false
+  pub looked_none : (f : A → Bool) (xs : List A) → Looked f xs 0 false
   unfolding any
-  looked-none f xs = record { low = omega arith; is = refl }
+  looked_none f xs = record { low = omega arith; is = refl }
 
   -- item k is seen
-  pub looked-more : {f : A → Bool} {xs : List A} {k : ℕ} {found b : Bool} (d : A) → Looked f xs k found → k < length xs → b ≡ f (get_or xs k d) → Looked f xs (k + 1) (found || b)
-  looked-more {f} {xs} {k} d v h e = record {
+  pub looked_more : {f : A → Bool} {xs : List A} {k : ℕ} {found b : Bool} (d : A) → Looked f xs k found → k < length xs → b ≡ f (get_or xs k d) → Looked f xs (k + 1) (found || b)
+  looked_more {f} {xs} {k} d v h e = record {
     low = omega arith;
     is =
         (λ i. v.is i || e i)
-        ∙ ap (λ (t : Bool). any f (take k xs) || t) (sym (any-one f (get_or xs k d)))
+        ∙ ap (λ (t : Bool). any f (take k xs) || t) (sym (any_one f (get_or xs k d)))
         ∙ sym (any_append f (take k xs) (get_or xs k d ∷ []))
         ∙ ap (any f) (sym (ap (λ (n : ℕ). take n xs) (add-one k) ∙ take-suc xs k d h));
   }
 
   -- every item is seen
-  pub looked-all : {f : A → Bool} {xs : List A} {k : ℕ} {found : Bool} → Looked f xs k found → length xs ≤ k → found ≡ any f xs
-  looked-all {f} {xs} {k} v h = v.is ∙ ap (any f) (take_all k xs h)
+  pub looked_all : {f : A → Bool} {xs : List A} {k : ℕ} {found : Bool} → Looked f xs k found → length xs ≤ k → found ≡ any f xs
+  looked_all {f} {xs} {k} v h = v.is ∙ ap (any f) (take_all k xs h)
 
   -- the sum over one item more
   pub sum_more : (f : A → ℕ) (xs : List A) (k : ℕ) (d : A) → k < length xs → sum_of f (take (k + 1) xs) ≡ sum_of f (take k xs) + f (get_or xs k d)
@@ -123,20 +123,20 @@ module _ {A : Type 0} where
   sum_more f (x ∷ xs) (suc k) d h = rw (add-one (suc k)) (let i = sum_more f xs k d (le_of_suc-le-suc h) in let j = ap (λ (n : ℕ). sum_of f (take n xs)) (add-one k) in omega arith)
 
   -- the sum over a front is at most the whole
-  pub sum-front : (f : A → ℕ) (xs : List A) (k : ℕ) → sum_of f (take k xs) ≤ sum_of f xs
+  pub sum_front : (f : A → ℕ) (xs : List A) (k : ℕ) → sum_of f (take k xs) ≤ sum_of f xs
   unfolding sum_of
-  sum-front f [] zero = omega arith
-  sum-front f [] (suc k) = omega arith
-  sum-front f (x ∷ xs) zero = omega arith
-  sum-front f (x ∷ xs) (suc k) = let i = sum-front f xs k in omega arith
+  sum_front f [] zero = omega arith
+  sum_front f [] (suc k) = omega arith
+  sum_front f (x ∷ xs) zero = omega arith
+  sum_front f (x ∷ xs) (suc k) = let i = sum_front f xs k in omega arith
 
   -- the sum over a front and the item behind it is at most the whole
   pub sum_room : (f : A → ℕ) (xs : List A) (k : ℕ) (d : A) → k < length xs → sum_of f (take k xs) + f (get_or xs k d) ≤ sum_of f xs
-  sum_room f xs k d h = omega (arith, sum_more f xs k d h, sum-front f xs (k + 1))
+  sum_room f xs k d h = omega (arith, sum_more f xs k d h, sum_front f xs (k + 1))
 
   -- the sum over all items
-  pub sum-all : (f : A → ℕ) (xs : List A) (k : ℕ) → length xs ≤ k → sum_of f (take k xs) ≡ sum_of f xs
-  sum-all f xs k h = ap (sum_of f) (take_all k xs h)
+  pub sum_all : (f : A → ℕ) (xs : List A) (k : ℕ) → length xs ≤ k → sum_of f (take k xs) ≡ sum_of f xs
+  sum_all f xs k h = ap (sum_of f) (take_all k xs h)
 
   -- what holds of each item of two lists holds of each of both
   pub each_append : (Q : A → Type 0) (d : A) (xs ys : List A) → ((i : ℕ) → i < length xs → Q (get_or xs i d)) → ((i : ℕ) → i < length ys → Q (get_or ys i d))

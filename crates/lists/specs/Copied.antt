@@ -20,8 +20,8 @@ module _ {A : Type 0} where
   copied_none xs old = record { inside = omega arith; beside = omega arith; list = refl; long = refl }
 
   -- the item that follows
-  next-item : (xs old : List A) (i : ℕ) (d : A) → i < length old → i < length xs → set (take i xs ++ drop i old) i (get_or xs i d) ≡ take (i + 1) xs ++ drop (i + 1) old
-  next-item xs old i d r h = rw add-one (simp zero-add at (paste-suc old 0 xs i d (omega arith) h))
+  next_item : (xs old : List A) (i : ℕ) (d : A) → i < length old → i < length xs → set (take i xs ++ drop i old) i (get_or xs i d) ≡ take (i + 1) xs ++ drop (i + 1) old
+  next_item xs old i d r h = rw add-one (simp zero-add at (paste-suc old 0 xs i d (omega arith) h))
 
   module _ {xs old ys : List A} {i : ℕ} (c : Copied xs old ys i) where
     -- one item more
@@ -30,23 +30,23 @@ module _ {A : Type 0} where
         record {
           inside = omega arith;
           beside = omega (arith, c.long);
-          list = ap (λ (zs : List A). set zs i (get_or xs i d)) c.list ∙ next-item xs old i d (omega (arith, c.long)) h;
+          list = ap (λ (zs : List A). set zs i (get_or xs i d)) c.list ∙ next_item xs old i d (omega (arith, c.long)) h;
           long = length-set ys i (get_or xs i d) ∙ c.long;
         }
 
     -- all are copied
-    pub copied-written : length xs ≤ i → ys ≡ written xs old
+    pub copied_written : length xs ≤ i → ys ≡ written xs old
     unfolding written
-    copied-written h = subst (λ (j : ℕ). ys ≡ take j xs ++ drop j old) (le_antisymm c.inside h) c.list ∙ ap (λ (zs : List A). zs ++ drop (length xs) old) (take-length xs)
+    copied_written h = subst (λ (j : ℕ). ys ≡ take j xs ++ drop j old) (le_antisymm c.inside h) c.list ∙ ap (λ (zs : List A). zs ++ drop (length xs) old) (take-length xs)
 
     -- all are copied, of as many as there was room for
     pub copied_all : length xs ≤ i → ys ≡ take (length old) xs ++ drop (length xs) old
     unfolding written
-    copied_all h = copied-written h ∙ ap (λ (zs : List A). zs ++ drop (length xs) old) (sym (take_all (length old) xs (omega (arith, c.beside))))
+    copied_all h = copied_written h ∙ ap (λ (zs : List A). zs ++ drop (length xs) old) (sym (take_all (length old) xs (omega (arith, c.beside))))
 
     -- the slice is full
-    pub copied-full : i < length xs → length ys ≤ i → ys ≡ take (length old) xs ++ drop (length xs) old
-    copied-full l h =
+    pub copied_full : i < length xs → length ys ≤ i → ys ≡ take (length old) xs ++ drop (length xs) old
+    copied_full l h =
         let e : i ≡ length old = omega (arith, c.beside, c.long) in
         let here : length old ≤ i = omega arith in
         let there : length old ≤ length xs = omega arith in

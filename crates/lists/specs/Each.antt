@@ -13,10 +13,10 @@ module _ {A : Type 0} where
   Each Q (x ∷ xs) = Q x × Each Q xs
 
   -- of those that pass, what holds of those that pass
-  pub each-filter : (Q R : A → Type 0) (p : A → Bool) → ((x : A) → p x ≡ true → Q x → R x) → (xs : List A) → Each Q xs → Each R (filter p xs)
+  pub each_filter : (Q R : A → Type 0) (p : A → Bool) → ((x : A) → p x ≡ true → Q x → R x) → (xs : List A) → Each Q xs → Each R (filter p xs)
   unfolding filter
-  each-filter Q R p f [] e = tt
-  each-filter Q R p f (x ∷ xs) e = go (p x) refl (each-filter Q R p f xs e.1)
+  each_filter Q R p f [] e = tt
+  each_filter Q R p f (x ∷ xs) e = go (p x) refl (each_filter Q R p f xs e.1)
     where
       go : (b : Bool) → p x ≡ b → Each R (filter p xs) → Each R (cond b (x ∷ filter p xs) (filter p xs))
       go true h r = (f x h e.0, r)
@@ -33,9 +33,9 @@ module _ {A : Type 0} where
   each_all Q f (x ∷ xs) = (f x, each_all Q f xs)
 
   -- what follows
-  pub each-then : (Q R : A → Type 0) → ((x : A) → Q x → R x) → (xs : List A) → Each Q xs → Each R xs
-  each-then Q R f [] e = tt
-  each-then Q R f (x ∷ xs) e = (f x e.0, each-then Q R f xs e.1)
+  pub each_then : (Q R : A → Type 0) → ((x : A) → Q x → R x) → (xs : List A) → Each Q xs → Each R xs
+  each_then Q R f [] e = tt
+  each_then Q R f (x ∷ xs) e = (f x e.0, each_then Q R f xs e.1)
 
   -- of the item at a place
   pub each_at : (Q : A → Type 0) (xs : List A) (i : ℕ) (d : A) → i < length xs → Each Q xs → Q (get_or xs i d)

@@ -14,9 +14,9 @@ module _ {A : Type 0} where
   all f (x ∷ xs) = elim (f x) [ true ↦ all f xs | false ↦ false ]
 
   -- how many pass
-  unfoldable pub countIf : (A → Bool) → List A → ℕ
-  countIf f [] = 0
-  countIf f (x ∷ xs) = let n = countIf f xs in cond (f x) (suc n) n
+  unfoldable pub count_if : (A → Bool) → List A → ℕ
+  count_if f [] = 0
+  count_if f (x ∷ xs) = let n = count_if f xs in cond (f x) (suc n) n
 
   -- those that pass, in their order
   unfoldable pub filter : (A → Bool) → List A → List A
@@ -44,11 +44,11 @@ module _ {A : Type 0} where
   written xs old = xs ++ drop (length xs) old
 
 -- a number into an ascending list, once
-unfoldable pub insertNew : ℕ → List ℕ → List ℕ
-insertNew n [] = n ∷ []
-insertNew n (x ∷ xs) = let rest = x ∷ insertNew n xs in cond (ltb n x) (n ∷ x ∷ xs) (cond (eqb n x) (x ∷ xs) rest)
+unfoldable pub insert_new : ℕ → List ℕ → List ℕ
+insert_new n [] = n ∷ []
+insert_new n (x ∷ xs) = let rest = x ∷ insert_new n xs in cond (ltb n x) (n ∷ x ∷ xs) (cond (eqb n x) (x ∷ xs) rest)
 
 -- numbers in ascending order, each once
 unfoldable pub ascending : List ℕ → List ℕ
 ascending [] = []
-ascending (n ∷ ns) = insertNew n (ascending ns)
+ascending (n ∷ ns) = insert_new n (ascending ns)

@@ -2,8 +2,8 @@
 
 ghost use Rattle.std.specs.Prelude.{◌≡◌, ◌+◌, ◌*◌, length};
 ghost use Rattle.body_checks.specs.Accepted.{Passed};
-ghost use Rattle.mesh_definition.specs.Assemble.{assembleOf};
-ghost use Rattle.mesh_definition.specs.Assembled.{slicesOf, leftMesh, assembleAnswered, assembleAccepted};
+ghost use Rattle.mesh_definition.specs.Assemble.{assemble_of};
+ghost use Rattle.mesh_definition.specs.Assembled.{slices_of, left_mesh, assemble_answered, assemble_accepted};
 
 use mesh_accepted::assemble_rows;
 use mesh_definition::Assembled;
@@ -27,11 +27,11 @@ fn assemble_accepted(
     work: &mut [u64],
 ) -> Assembled
     requires { Passed rows.now positions.now normals.now indices.now (length work.old) }
-    ensures { leftMesh result (slicesOf mesh_positions.new mesh_normals.new mesh_indices.new parts.new
+    ensures { left_mesh result (slices_of mesh_positions.new mesh_normals.new mesh_indices.new parts.new
         ranges.new failures.new work.new)
-        ≡ assembleAnswered (assembleAccepted rows.now positions.now normals.now indices.now reference
+        ≡ assemble_answered (assemble_accepted rows.now positions.now normals.now indices.now reference
         materials.now default
-        (slicesOf mesh_positions.old mesh_normals.old mesh_indices.old parts.old ranges.old
+        (slices_of mesh_positions.old mesh_normals.old mesh_indices.old parts.old ranges.old
         failures.old work.old)) }
 {
     let m = body_rows::row_count(rows);
@@ -74,11 +74,11 @@ pub fn assemble(
     failures: &mut [u64],
     work: &mut [u64],
 ) -> Assembled
-    ensures { leftMesh result (slicesOf mesh_positions.new mesh_normals.new mesh_indices.new parts.new
+    ensures { left_mesh result (slices_of mesh_positions.new mesh_normals.new mesh_indices.new parts.new
         ranges.new failures.new work.new)
-        ≡ assembleAnswered (assembleOf rows.now positions.now normals.now indices.now reference
+        ≡ assemble_answered (assemble_of rows.now positions.now normals.now indices.now reference
         materials.now default
-        (slicesOf mesh_positions.old mesh_normals.old mesh_indices.old parts.old ranges.old
+        (slices_of mesh_positions.old mesh_normals.old mesh_indices.old parts.old ranges.old
         failures.old work.old)) }
 {
     let refusal = body_checks::first_failing(rows, positions, normals, indices, work.len());

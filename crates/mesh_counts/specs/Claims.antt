@@ -4,25 +4,25 @@ use Rattle.lists.specs.Lists.{all}
 use Rattle.lists.specs.Table.{Case, case, agrees}
 use Rattle.float_steps.specs.Floats.{f32}
 use Rattle.point_rules.specs.Points.{bits}
-use Rattle.body_rows.specs.Given.{Given, at, below, row, givenPositions, givenIndices, K6}
-use Rattle.mesh_counts.specs.Counts.{countsOf, closedMesh}
+use Rattle.body_rows.specs.Given.{Given, at, below, row, given_positions, given_indices, K6}
+use Rattle.mesh_counts.specs.Counts.{counts_of, closed_mesh}
 use Rattle.mesh_counts.specs.Evaluation.{evaluation}
 
 -- −0.0 at some places
-minusZeros : List ℕ → List Float → List Float
-minusZeros [] ps = ps
-minusZeros (k ∷ ks) ps = minusZeros ks (set ps k (f32 0x80000000))
+minus_zeros : List ℕ → List Float → List Float
+minus_zeros [] ps = ps
+minus_zeros (k ∷ ks) ps = minus_zeros ks (set ps k (f32 0x80000000))
 
 -- edges, open, over, closed, with −0.0 at some places
-countsWith : List ℕ → List Given → List ℕ
-countsWith ks gs =
-    let ps = minusZeros ks (givenPositions gs) in
-    let c = countsOf bits ps (givenIndices gs) in
-    c.edges ∷ c.opens ∷ c.overs ∷ cond (closedMesh ps (givenIndices gs)) 1 0 ∷ []
+counts_with : List ℕ → List Given → List ℕ
+counts_with ks gs =
+    let ps = minus_zeros ks (given_positions gs) in
+    let c = counts_of bits ps (given_indices gs) in
+    c.edges ∷ c.opens ∷ c.overs ∷ cond (closed_mesh ps (given_indices gs)) 1 0 ∷ []
 
 -- and as the mesh is
 counts : List Given → List ℕ
-counts gs = countsWith [] gs
+counts gs = counts_with [] gs
 
 -- two tetrahedra that share an edge: its points stand twice
 neighbours : List Given
@@ -58,12 +58,12 @@ claims =
     ∷ case 3 (counts pinched) (4 ∷ 3 ∷ 0 ∷ 0 ∷ [])
     ∷ case 4 (counts []) (0 ∷ 0 ∷ 0 ∷ 1 ∷ [])
     ∷ case 5 (counts hopper) (9 ∷ 0 ∷ 0 ∷ 1 ∷ [])
-    ∷ case 6 (countsWith (15 ∷ 18 ∷ 21 ∷ []) hopper) (12 ∷ 6 ∷ 0 ∷ 1 ∷ [])
-    ∷ case 7 (countsWith (13 ∷ 16 ∷ []) neighbours) (12 ∷ 0 ∷ 0 ∷ 0 ∷ [])
-    ∷ case 8 (countsWith (3 ∷ []) sliver) (3 ∷ 3 ∷ 0 ∷ 1 ∷ [])
+    ∷ case 6 (counts_with (15 ∷ 18 ∷ 21 ∷ []) hopper) (12 ∷ 6 ∷ 0 ∷ 1 ∷ [])
+    ∷ case 7 (counts_with (13 ∷ 16 ∷ []) neighbours) (12 ∷ 0 ∷ 0 ∷ 0 ∷ [])
+    ∷ case 8 (counts_with (3 ∷ []) sliver) (3 ∷ 3 ∷ 0 ∷ 1 ∷ [])
     ∷ []
 
 -- The definitions yield each.
-pub claims-hold : T (all agrees claims)
-unfolding evaluation minusZeros countsWith counts neighbours pinched hopper sliver claims
-claims-hold = tt
+pub claims_hold : T (all agrees claims)
+unfolding evaluation minus_zeros counts_with counts neighbours pinched hopper sliver claims
+claims_hold = tt

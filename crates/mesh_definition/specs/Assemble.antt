@@ -3,13 +3,13 @@ use Rattle.std.specs.Prelude.{Bool, true, false, ℕ, length, eqb, Float}
 use mathlib.Core.List.{List, [], flat_map}
 use Rattle.lists.specs.Lists.{written}
 use Rattle.point_rules.specs.Points.{bits}
-use Rattle.body_rows.specs.Body.{Row, rows_of, patches_of, firstFailing, cleared}
-use Rattle.body_refusals.specs.BodyChecks.{bodyChecks}
+use Rattle.body_rows.specs.Body.{Row, rows_of, patches_of, first_failing, cleared}
+use Rattle.body_refusals.specs.BodyChecks.{body_checks}
 use Rattle.patch_geometry.specs.declared.Aabb.{Aabb}
-use Rattle.mesh_counts.specs.Counts.{Counts, countsOf, closedMesh}
-use Rattle.mesh_acceptance.specs.Acceptance.{Acceptance, acceptance, acceptedVertices, acceptedIndices, failureNumbers}
-use Rattle.mesh_layout.specs.Mesh.{Vertices, verticesOf, writtenVertices, laidFrom, materialsOf, runsOf, part_of, rangesFrom}
-use Rattle.mesh_room.specs.Slices.{MeshSlices, meshChecks}
+use Rattle.mesh_counts.specs.Counts.{Counts, counts_of, closed_mesh}
+use Rattle.mesh_acceptance.specs.Acceptance.{Acceptance, acceptance, accepted_vertices, accepted_indices, failure_numbers}
+use Rattle.mesh_layout.specs.Mesh.{Vertices, vertices_of, written_vertices, laid_from, materials_of, runs_of, part_of, ranges_from}
+use Rattle.mesh_room.specs.Slices.{MeshSlices, mesh_checks}
 
 -- a body's mesh, flat as it is written, with its counts
 pub record Mesh : Type 0 where
@@ -22,18 +22,18 @@ pub record Mesh : Type 0 where
   pub closed : Bool
 
 -- the mesh of the accepted patches; over it, points are the same exactly if their bits agree, and for closed the two zeros are one
-unfoldable pub meshOf : Acceptance → Mesh
-meshOf v =
-    let ls = laidFrom 0 v.accepted in
-    let vertices = verticesOf v.accepted in
+unfoldable pub mesh_of : Acceptance → Mesh
+mesh_of v =
+    let ls = laid_from 0 v.accepted in
+    let vertices = vertices_of v.accepted in
     record {
       vertices = vertices;
-      indices = runsOf ls;
-      parts = flat_map (part_of ls) (materialsOf ls);
-      ranges = rangesFrom ls [] ls;
-      failures = flat_map failureNumbers v.failed;
-      counts = countsOf bits vertices.positions (runsOf ls);
-      closed = closedMesh vertices.positions (runsOf ls);
+      indices = runs_of ls;
+      parts = flat_map (part_of ls) (materials_of ls);
+      ranges = ranges_from ls [] ls;
+      failures = flat_map failure_numbers v.failed;
+      counts = counts_of bits vertices.positions (runs_of ls);
+      closed = closed_mesh vertices.positions (runs_of ls);
     }
 
 -- what assemble answers (the refusal's number or 0; how many vertices, indices, parts, ranges and failures were written; the counts and closed)
@@ -50,8 +50,8 @@ pub record AfterAssemble : Type 0 where
   pub slices : MeshSlices
 
 -- A refusal is its number only; the slices are unchanged.
-unfoldable pub refuseMesh : ℕ → MeshSlices → AfterAssemble
-refuseMesh n out =
+unfoldable pub refuse_mesh : ℕ → MeshSlices → AfterAssemble
+refuse_mesh n out =
     record {
       refusal = n;
       vertices = 0;
@@ -65,20 +65,20 @@ refuseMesh n out =
     }
 
 -- the mesh written to the slices, output beyond the written part unchanged
-unfoldable pub writeMesh : Acceptance → MeshSlices → AfterAssemble
-writeMesh v out =
-    let m = meshOf v in
+unfoldable pub write_mesh : Acceptance → MeshSlices → AfterAssemble
+write_mesh v out =
+    let m = mesh_of v in
     record {
       refusal = 0;
-      vertices = acceptedVertices v.accepted;
-      indices = acceptedIndices v.accepted;
-      parts = length (materialsOf (laidFrom 0 v.accepted));
+      vertices = accepted_vertices v.accepted;
+      indices = accepted_indices v.accepted;
+      parts = length (materials_of (laid_from 0 v.accepted));
       ranges = length v.accepted;
       failures = length v.failed;
       counts = m.counts;
       closed = m.closed;
       slices = record {
-        vertices = writtenVertices m.vertices out.vertices;
+        vertices = written_vertices m.vertices out.vertices;
         indices = written m.indices out.indices;
         parts = written m.parts out.parts;
         ranges = written m.ranges out.ranges;
@@ -88,8 +88,8 @@ writeMesh v out =
     }
 
 -- the slices with the words of 31 cleared
-unfoldable pub clearedMesh : List Row → MeshSlices → MeshSlices
-clearedMesh rows out =
+unfoldable pub cleared_mesh : List Row → MeshSlices → MeshSlices
+cleared_mesh rows out =
     record {
       vertices = out.vertices;
       indices = out.indices;
@@ -100,18 +100,18 @@ clearedMesh rows out =
     }
 
 -- the call for a body that passed the checks up to 31
-unfoldable pub assembleOrRefuse : List Row → List ℕ → ℕ → Acceptance → MeshSlices → AfterAssemble
-assembleOrRefuse rows materials default v out =
-    let n = firstFailing (meshChecks (length rows) materials default v.accepted out) in
-    elim (eqb n 0) [ true ↦ writeMesh v out | false ↦ refuseMesh n out ]
+unfoldable pub assemble_or_refuse : List Row → List ℕ → ℕ → Acceptance → MeshSlices → AfterAssemble
+assemble_or_refuse rows materials default v out =
+    let n = first_failing (mesh_checks (length rows) materials default v.accepted out) in
+    elim (eqb n 0) [ true ↦ write_mesh v out | false ↦ refuse_mesh n out ]
 
 -- assemble: table, positions, normals and indices as they are lent, the box, the materials, the default, and the slices to write
-unfoldable pub assembleOf : List ℕ → List Float → List Float → List ℕ → Aabb → List ℕ → ℕ → MeshSlices → AfterAssemble
-assembleOf table ps ns is box materials default out =
-    let n = firstFailing (bodyChecks table ps ns is (length out.work)) in
+unfoldable pub assemble_of : List ℕ → List Float → List Float → List ℕ → Aabb → List ℕ → ℕ → MeshSlices → AfterAssemble
+assemble_of table ps ns is box materials default out =
+    let n = first_failing (body_checks table ps ns is (length out.work)) in
     elim (eqb n 0) [
       | true ↦
           let rows = rows_of table in
-          assembleOrRefuse rows materials default (acceptance box materials default (patches_of rows ps ns is)) (clearedMesh rows out)
-      | false ↦ refuseMesh n out
+          assemble_or_refuse rows materials default (acceptance box materials default (patches_of rows ps ns is)) (cleared_mesh rows out)
+      | false ↦ refuse_mesh n out
     ]

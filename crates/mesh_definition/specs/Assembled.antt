@@ -7,7 +7,7 @@ use Rattle.mesh_definition.specs.declared.MeshCounts.{MeshCounts}
 use Rattle.mesh_definition.specs.declared.Assembled.{Assembled}
 use Rattle.mesh_definition.specs.declared.Assembled.TheVariants.{Done, Refused}
 use Rattle.mesh_room.specs.Slices.{MeshSlices}
-use Rattle.mesh_definition.specs.Assemble.{AfterAssemble, clearedMesh, assembleOrRefuse}
+use Rattle.mesh_definition.specs.Assemble.{AfterAssemble, cleared_mesh, assemble_or_refuse}
 
 -- assemble's answer, and what the lent slices hold
 pub record LeftMesh : Type 0 where
@@ -15,16 +15,16 @@ pub record LeftMesh : Type 0 where
   pub slices : MeshSlices
 
 -- the slices
-abbrev pub slicesOf : List Float → List Float → List ℕ → List ℕ → List ℕ → List ℕ → List ℕ → MeshSlices
-slicesOf ps ns is parts ranges failures work = record { vertices = record { positions = ps; normals = ns }; indices = is; parts = parts; ranges = ranges; failures = failures; work = work }
+abbrev pub slices_of : List Float → List Float → List ℕ → List ℕ → List ℕ → List ℕ → List ℕ → MeshSlices
+slices_of ps ns is parts ranges failures work = record { vertices = record { positions = ps; normals = ns }; indices = is; parts = parts; ranges = ranges; failures = failures; work = work }
 
 -- the answer with the slices
-abbrev pub leftMesh : Assembled → MeshSlices → LeftMesh
-leftMesh a s = record { answer = a; slices = s }
+abbrev pub left_mesh : Assembled → MeshSlices → LeftMesh
+left_mesh a s = record { answer = a; slices = s }
 
 -- the counts of an answer that isn't a refusal
-abbrev pub countsAnswered : AfterAssemble → MeshCounts
-countsAnswered t =
+abbrev pub counts_answered : AfterAssemble → MeshCounts
+counts_answered t =
     record {
       vertices = t.vertices;
       indices = t.indices;
@@ -38,14 +38,14 @@ countsAnswered t =
     }
 
 -- 01's number and values for each answer
-abbrev pub assembleAnswer : AfterAssemble → Assembled
-assembleAnswer t = elim (eqb t.refusal 0) [ true ↦ Done (countsAnswered t) | false ↦ Refused t.refusal ]
+abbrev pub assemble_answer : AfterAssemble → Assembled
+assemble_answer t = elim (eqb t.refusal 0) [ true ↦ Done (counts_answered t) | false ↦ Refused t.refusal ]
 
 -- what the definition says of the call, with the answer as assemble gives it
-abbrev pub assembleAnswered : AfterAssemble → LeftMesh
-assembleAnswered t = leftMesh (assembleAnswer t) t.slices
+abbrev pub assemble_answered : AfterAssemble → LeftMesh
+assemble_answered t = left_mesh (assemble_answer t) t.slices
 
 -- an accepted body assembled, by the definition
-abbrev pub assembleAccepted : List ℕ → List Float → List Float → List ℕ → Aabb → List ℕ → ℕ → MeshSlices → AfterAssemble
-assembleAccepted table ps ns is box materials default out =
-    assembleOrRefuse (rows_of table) materials default (acceptance box materials default (patches_of (rows_of table) ps ns is)) (clearedMesh (rows_of table) out)
+abbrev pub assemble_accepted : List ℕ → List Float → List Float → List ℕ → Aabb → List ℕ → ℕ → MeshSlices → AfterAssemble
+assemble_accepted table ps ns is box materials default out =
+    assemble_or_refuse (rows_of table) materials default (acceptance box materials default (patches_of (rows_of table) ps ns is)) (cleared_mesh (rows_of table) out)

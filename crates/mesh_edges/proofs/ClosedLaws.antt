@@ -11,57 +11,57 @@ use lib.ListN.{length, get_or, take, drop}
 use lib.Seq.{take_all, take-suc}
 use lib.Ieee.{Float, nan}
 use Rattle.lists.specs.Lists.{any}
-use Rattle.lists.specs.Any.{Looked, looked-more}
-use Rattle.lists.specs.Stretches.{rest-less}
+use Rattle.lists.specs.Any.{Looked, looked_more}
+use Rattle.lists.specs.Stretches.{rest_less}
 use Rattle.float_steps.specs.Floats.{bits32}
 use Rattle.point_rules.specs.Rule.{names}
 use Rattle.point_rules.specs.Points.{bits, zeros}
-use Rattle.point_rules.specs.Zeros.{minusZero, zeros-bits}
+use Rattle.point_rules.specs.Zeros.{minus_zero, zeros_bits}
 use Rattle.join_points.specs.declared.vertices.Rule.TheVariants as Rule
-use Rattle.join_points.specs.Rules.{ruleOf}
+use Rattle.join_points.specs.Rules.{rule_of}
 use Rattle.join_definition.specs.Join.{joined}
-use Rattle.mesh_counts.specs.Counts.{Counts, closedBy, closedMesh, countsOf}
+use Rattle.mesh_counts.specs.Counts.{Counts, closed_by, closed_mesh, counts_of}
 use Rattle.mesh_tally.specs.declared.EdgeCounts.{EdgeCounts}
-use Rattle.mesh_tally.specs.Tally.{countsIn}
+use Rattle.mesh_tally.specs.Tally.{counts_in}
 use Rattle.mesh_edges.specs.Mesh.{ClosedTold, EdgesCounted, MeshCounted, MeshReady}
 use Rattle.mesh_edges.specs.declared.mesh.MeshEdges.{MeshEdges}
 
 -- ---- a look for −0.0
 
 -- position k is looked at
-pub minus-more : (ps : List Float) (k : ℕ) {found : Bool} → Looked minusZero ps k found → k < length ps → {b : ℕ} → b ≡ bits32 (get_or ps k nan)
-    → Looked minusZero ps (k + 1) (found || eqb b 2147483648)
-minus-more ps k v h e = looked-more nan v h (ap (λ (n : ℕ). eqb n (2 ^ 31)) e)
+pub minus_more : (ps : List Float) (k : ℕ) {found : Bool} → Looked minus_zero ps k found → k < length ps → {b : ℕ} → b ≡ bits32 (get_or ps k nan)
+    → Looked minus_zero ps (k + 1) (found || eqb b 2147483648)
+minus_more ps k v h e = looked_more nan v h (ap (λ (n : ℕ). eqb n (2 ^ 31)) e)
 
 -- ---- closed by counts
-pub closed_is : (c : EdgeCounts) {r : Bool} → r ≡ (eqb c.opens 0 && eqb c.overs 0) → r ≡ closedBy (countsIn c)
-unfolding closedBy
+pub closed_is : (c : EdgeCounts) {r : Bool} → r ≡ (eqb c.opens 0 && eqb c.overs 0) → r ≡ closed_by (counts_in c)
+unfolding closed_by
 closed_is c e = e
 
 -- ---- the mesh
 module _ (ps : List Float) (is : List ℕ) (v : ℕ) (W : List ℕ) where
   -- without −0.0 the counts by bits decide
-  same-counts : any minusZero ps ≡ false → countsOf bits ps is ≡ countsOf zeros ps is
-  unfolding countsOf
-  same-counts e = rw (zeros-bits ps e)
+  same_counts : any minus_zero ps ≡ false → counts_of bits ps is ≡ counts_of zeros ps is
+  unfolding counts_of
+  same_counts e = rw (zeros_bits ps e)
 
-  pub closed-once : (c : EdgeCounts) {t r : Bool} → countsIn c ≡ countsOf bits ps is → t ≡ any minusZero ps → not t ≡ true → r ≡ closedBy (countsIn c) → ClosedTold ps is v W r W
-  unfolding closedMesh
-  closed-once c {t} {r} e q n f =
-      record { closed = f ∙ ap closedBy (e ∙ same-counts (sym q ∙ not-true t n)); rest = refl }
+  pub closed_once : (c : EdgeCounts) {t r : Bool} → counts_in c ≡ counts_of bits ps is → t ≡ any minus_zero ps → not t ≡ true → r ≡ closed_by (counts_in c) → ClosedTold ps is v W r W
+  unfolding closed_mesh
+  closed_once c {t} {r} e q n f =
+      record { closed = f ∙ ap closed_by (e ∙ same_counts (sym q ∙ not-true t n)); rest = refl }
 
-  pub closed-twice : (c : EdgeCounts) {r : Bool} {E : List ℕ} → MeshCounted Rule.Zeros ps is v W c E → r ≡ closedBy (countsIn c) → ClosedTold ps is v W r E
-  unfolding closedMesh ruleOf
-  closed-twice c m f = record { closed = f ∙ ap closedBy m.counts; rest = m.rest }
+  pub closed_twice : (c : EdgeCounts) {r : Bool} {E : List ℕ} → MeshCounted Rule.Zeros ps is v W c E → r ≡ closed_by (counts_in c) → ClosedTold ps is v W r E
+  unfolding closed_mesh rule_of
+  closed_twice c m f = record { closed = f ∙ ap closed_by m.counts; rest = m.rest }
 
   module _ (c : EdgeCounts) {X : List ℕ} (m : MeshCounted Rule.Bits ps is v W c X) where
-    pub bits-counts : countsIn c ≡ countsOf bits ps is
-    unfolding ruleOf
-    bits-counts = m.counts
+    pub bits_counts : counts_in c ≡ counts_of bits ps is
+    unfolding rule_of
+    bits_counts = m.counts
 
-    pub edges-counted : {r : Bool} {E : List ℕ} → ClosedTold ps is v X r E → EdgesCounted ps is v W (record { edges = c.edges; opens = c.opens; overs = c.overs; closed = r }) E
-    edges-counted t = record { counts = bits-counts; closed = t.closed; rest = t.rest ∙ m.rest }
+    pub edges_counted : {r : Bool} {E : List ℕ} → ClosedTold ps is v X r E → EdgesCounted ps is v W (record { edges = c.edges; opens = c.opens; overs = c.overs; closed = r }) E
+    edges_counted t = record { counts = bits_counts; closed = t.closed; rest = t.rest ∙ m.rest }
 
   -- the work area is as long as it was
-  pub ready-after : {X : List ℕ} → MeshReady ps is v W → length X ≡ length W → MeshReady ps is v X
-  ready-after g l = record { all = g.all; few-vertices = g.few-vertices; few-indices = g.few-indices; whole = g.whole; inside = g.inside; room = omega (arith, g.room) }
+  pub ready_after : {X : List ℕ} → MeshReady ps is v W → length X ≡ length W → MeshReady ps is v X
+  ready_after g l = record { all = g.all; few_vertices = g.few_vertices; few_indices = g.few_indices; whole = g.whole; inside = g.inside; room = omega (arith, g.room) }

@@ -4,9 +4,9 @@ ghost use Rattle.join_definition.specs.Join.{RoomAt};
 ghost use Rattle.std.specs.Prelude.{◌≡◌};
 ghost use Rattle.lists.specs.Lists.{any};
 ghost use Rattle.point_rules.specs.Points.{bits};
-ghost use Rattle.point_rules.specs.Zeros.{minusZero};
-ghost use Rattle.mesh_counts.specs.Counts.{closedBy, countsOf};
-ghost use Rattle.mesh_tally.specs.Tally.{countsIn};
+ghost use Rattle.point_rules.specs.Zeros.{minus_zero};
+ghost use Rattle.mesh_counts.specs.Counts.{closed_by, counts_of};
+ghost use Rattle.mesh_tally.specs.Tally.{counts_in};
 ghost use Rattle.mesh_edges.specs.Mesh.{ClosedTold, EdgesCounted, EdgesNamed, FirstsCounted, MeshCounted, MeshReady};
 
 use edge_uses::{COUNTS, RUNS};
@@ -29,7 +29,7 @@ pub struct MeshEdges {
 
 // Whether a position is -0.0. All are looked at, without a jump, so that the processor takes several at a time.
 fn any_minus_zero(positions: &[f32]) -> bool
-    ensures { result ≡ any minusZero positions.now }
+    ensures { result ≡ any minus_zero positions.now }
 {
     let mut found = false;
     let mut k = 0usize;
@@ -80,7 +80,7 @@ fn count_edges(
 
 // Whether no edge is open and none is over.
 fn is_closed(c: EdgeCounts) -> bool
-    ensures { result ≡ closedBy (countsIn c) }
+    ensures { result ≡ closed_by (counts_in c) }
 {
     (c.opens == 0) & (c.overs == 0)
 }
@@ -88,7 +88,7 @@ fn is_closed(c: EdgeCounts) -> bool
 // Whether a mesh is closed, for which the two zeros are one point: its edges are counted once more where they may differ from the counts c.
 fn closed_mesh(positions: &[f32], indices: &[u32], w: &mut [u64], v: usize, c: EdgeCounts) -> bool
     requires mesh_ready { MeshReady positions.now indices.now v w.old }
-    requires c_value { countsIn c ≡ countsOf bits positions.now indices.now }
+    requires c_value { counts_in c ≡ counts_of bits positions.now indices.now }
     ensures { ClosedTold positions.now indices.now v w.old result w.new }
 {
     if !any_minus_zero(positions) {

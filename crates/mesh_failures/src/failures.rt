@@ -2,9 +2,9 @@
 
 ghost use Rattle.std.specs.Prelude.{◌+◌, ◌*◌, ◌≤◌, length, []};
 ghost use Rattle.slice_append.specs.Appended.{Appended};
-ghost use Rattle.body_rows.specs.Rows.{rowAt};
-ghost use Rattle.body_rows.specs.Patches.{patchFrom};
-ghost use Rattle.mesh_acceptance.specs.Acceptance.{failureWidth, failureNumbers};
+ghost use Rattle.body_rows.specs.Rows.{row_at};
+ghost use Rattle.body_rows.specs.Patches.{patch_from};
+ghost use Rattle.mesh_acceptance.specs.Acceptance.{failure_width, failure_numbers};
 ghost use Rattle.mesh_acceptance.specs.Judged.{FailureReady, FailureWritten, FailuresReady, FailuresWritten};
 
 use mesh_acceptance::FAILURE_WIDTH;
@@ -15,8 +15,8 @@ use patch_geometry::Aabb;
 
 // A failure is written as row j of the table: face; bin; case, 0 for empty, 1 to 255 for upstream, 256 for an escape; the bits of reach and span, else 0.
 fn put_failure(failures: &mut [u64], j: usize, face: FaceId, bin: BinId, failure: Failure)
-    requires { failureWidth * j + failureWidth ≤ length failures.old }
-    ensures { Appended (failureWidth * j) (failureNumbers (record { face = face.0; bin = bin.0; failure = failure })) failures.old
+    requires { failure_width * j + failure_width ≤ length failures.old }
+    ensures { Appended (failure_width * j) (failure_numbers (record { face = face.0; bin = bin.0; failure = failure })) failures.old
         failures.new }
 {
     let f = face.0 as u64;
@@ -52,7 +52,7 @@ fn append_failure(
     j: usize,
 ) -> usize
     requires { FailureReady rows.now positions.now indices.now reference span k base i d failures.old j }
-    ensures { FailureWritten reference (patchFrom (rowAt rows.now k) positions.now [] indices.now base i) j
+    ensures { FailureWritten reference (patch_from (row_at rows.now k) positions.now [] indices.now base i) j
         failures.old failures.new result }
 {
     if d != 0 {

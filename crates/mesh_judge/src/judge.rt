@@ -3,11 +3,11 @@
 ghost use Rattle.std.specs.Prelude.{◌≡◌, [], map};
 ghost use Rattle.std.proofs.lemmas.List.Edits.{sets};
 ghost use Rattle.body_rows.specs.Body.{rows_of, patches_of};
-ghost use Rattle.body_rows.specs.Rows.{rowAt};
-ghost use Rattle.body_rows.specs.Patches.{patchFrom};
-ghost use Rattle.mesh_verdicts.specs.Failures.{failureOf};
-ghost use Rattle.mesh_verdicts.specs.Verdicts.{failureIn};
-ghost use Rattle.mesh_acceptance.specs.Judged.{decisionOf, RowJudgeable, DecisionReady, Judgeable};
+ghost use Rattle.body_rows.specs.Rows.{row_at};
+ghost use Rattle.body_rows.specs.Patches.{patch_from};
+ghost use Rattle.mesh_verdicts.specs.Failures.{failure_of};
+ghost use Rattle.mesh_verdicts.specs.Verdicts.{failure_in};
+ghost use Rattle.mesh_acceptance.specs.Judged.{decision_of, RowJudgeable, DecisionReady, Judgeable};
 
 use mesh_materials::{FaceId, material_of};
 use mesh_verdicts::{Verdict, verdict_of};
@@ -25,7 +25,7 @@ pub fn row_verdict(
     i: usize,
 ) -> Verdict
     requires { RowJudgeable rows.now positions.now indices.now reference span k base i }
-    ensures { failureIn result ≡ failureOf reference (patchFrom (rowAt rows.now k) positions.now [] indices.now base i) }
+    ensures { failure_in result ≡ failure_of reference (patch_from (row_at rows.now k) positions.now [] indices.now base i) }
 {
     let first = 3 * base;
     let last = 3 * (base + body_rows::vertices(rows, k) as usize);
@@ -54,8 +54,8 @@ fn decision(
     i: usize,
 ) -> u64
     requires { DecisionReady rows.now positions.now indices.now reference span materials.now default k base i }
-    ensures { result ≡ decisionOf reference materials.now default
-        (patchFrom (rowAt rows.now k) positions.now [] indices.now base i) }
+    ensures { result ≡ decision_of reference materials.now default
+        (patch_from (row_at rows.now k) positions.now [] indices.now base i) }
 {
     let verdict = row_verdict(rows, positions, indices, reference, span, k, base, i);
     match verdict {
@@ -79,7 +79,7 @@ pub fn judge_rows(
 )
     requires { Judgeable rows.now positions.now indices.now materials.now default w.old }
     ensures { w.new ≡ sets w.old 0
-        (map (decisionOf reference materials.now default)
+        (map (decision_of reference materials.now default)
         (patches_of (rows_of rows.now) positions.now [] indices.now)) }
 {
     let span = reference.diagonal();

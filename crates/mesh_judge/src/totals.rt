@@ -1,8 +1,8 @@
 // What the accepted rows have together.
 
 ghost use Rattle.std.specs.Prelude.{◌≡◌, get_or, ◌+◌};
-ghost use Rattle.body_rows.specs.Rows.{rowAt};
-ghost use Rattle.mesh_judge.specs.Totals.{RowAddable, totalsWith, Totalled, TotalsReady};
+ghost use Rattle.body_rows.specs.Rows.{row_at};
+ghost use Rattle.mesh_judge.specs.Totals.{RowAddable, totals_with, Totalled, TotalsReady};
 
 // How many rows are accepted, and how many vertices and indices they have.
 #[derive(Drop)]
@@ -15,7 +15,7 @@ pub struct Totals {
 // The totals with row k, if its decision isn't 0.
 fn add_row(rows: &[u32], w: &[u64], at: usize, k: usize, t: Totals) -> Totals
     requires { RowAddable rows.now w.now at k t }
-    ensures { result ≡ totalsWith (get_or w.now (at + k) 0) (rowAt rows.now k) t }
+    ensures { result ≡ totals_with (get_or w.now (at + k) 0) (row_at rows.now k) t }
 {
     if w[at + k] == 0 {
         return t;

@@ -3,49 +3,49 @@ use Rattle.std.specs.Prelude.{◌≡◌, refl, ◌⊎◌, Bool, true, false, con
 use Rattle.std.proofs.Common.{sym, ap, ◌∙◌, inl, inr, arith, eqb-true, ltb-true, ltb-false, length-append}
 use mathlib.Core.List.{List, [], ◌∷◌, map, flat_map}
 use Rattle.std.proofs.lemmas.Bool.{eqb-false}
-use Rattle.lists.specs.Lists.{insertNew, sum_of}
+use Rattle.lists.specs.Lists.{insert_new, sum_of}
 use Rattle.lists.specs.Members.{Has}
-use Rattle.lists.specs.Rising.{Rising, has-insert, insert-has, insert-long, rising-insert}
-use Rattle.mesh_layout.specs.Mesh.{Laid, materialsOf, run_of, start_of}
+use Rattle.lists.specs.Rising.{Rising, has_insert, insert_has, insert_long, rising_insert}
+use Rattle.mesh_layout.specs.Mesh.{Laid, materials_of, run_of, start_of}
 
 -- ---- what a list has
 
 -- the materials of laid patches, each as often as it stands there
-abbrev pub laidMaterials : List Laid → List ℕ
-laidMaterials ls = map (λ l. l.material) ls
+abbrev pub laid_materials : List Laid → List ℕ
+laid_materials ls = map (λ l. l.material) ls
 
 -- the materials are those of the patches
-pub materials-have : (y : ℕ) (ls : List Laid) → Has y (laidMaterials ls) → Has y (materialsOf ls)
-unfolding materialsOf
-materials-have y [] h = h
-materials-have y (l ∷ ls) (inl e) = has-insert y l.material (materialsOf ls) (inl e)
-materials-have y (l ∷ ls) (inr h) = has-insert y l.material (materialsOf ls) (inr (materials-have y ls h))
+pub materials_have : (y : ℕ) (ls : List Laid) → Has y (laid_materials ls) → Has y (materials_of ls)
+unfolding materials_of
+materials_have y [] h = h
+materials_have y (l ∷ ls) (inl e) = has_insert y l.material (materials_of ls) (inl e)
+materials_have y (l ∷ ls) (inr h) = has_insert y l.material (materials_of ls) (inr (materials_have y ls h))
 
 -- and no others
-pub have-materials : (y : ℕ) (ls : List Laid) → Has y (materialsOf ls) → Has y (laidMaterials ls)
-unfolding materialsOf
-have-materials y [] h = h
-have-materials y (l ∷ ls) h = go (insert-has y l.material (materialsOf ls) h) (λ k. have-materials y ls k)
+pub have_materials : (y : ℕ) (ls : List Laid) → Has y (materials_of ls) → Has y (laid_materials ls)
+unfolding materials_of
+have_materials y [] h = h
+have_materials y (l ∷ ls) h = go (insert_has y l.material (materials_of ls) h) (λ k. have_materials y ls k)
   where
-    go : (y ≡ l.material) ⊎ Has y (materialsOf ls) → (Has y (materialsOf ls) → Has y (laidMaterials ls)) → Has y (laidMaterials (l ∷ ls))
+    go : (y ≡ l.material) ⊎ Has y (materials_of ls) → (Has y (materials_of ls) → Has y (laid_materials ls)) → Has y (laid_materials (l ∷ ls))
     go (inl e) f = inl e
     go (inr k) f = inr (f k)
 
 -- ---- they rise
 
 -- materials rise
-pub materials-rise : (ls : List Laid) → Rising 0 (materialsOf ls)
-unfolding materialsOf
-materials-rise [] = tt
-materials-rise (l ∷ ls) = rising-insert l.material 0 (materialsOf ls) (omega arith) (materials-rise ls)
+pub materials_rise : (ls : List Laid) → Rising 0 (materials_of ls)
+unfolding materials_of
+materials_rise [] = tt
+materials_rise (l ∷ ls) = rising_insert l.material 0 (materials_of ls) (omega arith) (materials_rise ls)
 
 -- ---- where runs start
 
 -- no patch has a material from a up to b: both start at the same place
-pub start-same : (a b : ℕ) (ls : List Laid) → a ≤ b → ((y : ℕ) → a ≤ y → y < b → Has y (laidMaterials ls) → ⊥) → start_of ls a ≡ start_of ls b
+pub start_same : (a b : ℕ) (ls : List Laid) → a ≤ b → ((y : ℕ) → a ≤ y → y < b → Has y (laid_materials ls) → ⊥) → start_of ls a ≡ start_of ls b
 unfolding start_of sum_of
-start-same a b [] h none = refl
-start-same a b (l ∷ ls) h none = λ j. go (ltb l.material a) (ltb l.material b) refl refl j + start-same a b ls h (λ y p q k. none y p q (inr k)) j
+start_same a b [] h none = refl
+start_same a b (l ∷ ls) h none = λ j. go (ltb l.material a) (ltb l.material b) refl refl j + start_same a b ls h (λ y p q k. none y p q (inr k)) j
   where
     go : (s t : Bool) → ltb l.material a ≡ s → ltb l.material b ≡ t → cond s (length l.indices) 0 ≡ cond t (length l.indices) 0
     go true true e f = refl
@@ -54,11 +54,11 @@ start-same a b (l ∷ ls) h none = λ j. go (ltb l.material a) (ltb l.material b
     go false true e f = absurd (none l.material (ltb-false l.material a e) (ltb-true l.material b f) (inl refl))
 
 -- the next material's run starts where this one's ends
-pub start-next : (n : ℕ) (ls : List Laid) → start_of ls (suc n) ≡ start_of ls n + length (run_of ls n)
+pub start_next : (n : ℕ) (ls : List Laid) → start_of ls (suc n) ≡ start_of ls n + length (run_of ls n)
 unfolding start_of sum_of run_of flat_map
-start-next n [] = refl
-start-next n (l ∷ ls) =
-    let rest = start-next n ls in
+start_next n [] = refl
+start_next n (l ∷ ls) =
+    let rest = start_next n ls in
     let both = length-append (cond (eqb l.material n) l.indices []) (run_of ls n) in
     let here = go (ltb l.material (suc n)) (ltb l.material n) (eqb l.material n) refl refl refl in
     omega (arith, rest, both, here)
@@ -74,10 +74,10 @@ start-next n (l ∷ ls) =
     go false false false e f g = omega arith
 
 -- runs start within all indices
-pub start-low : (n : ℕ) (ls : List Laid) → start_of ls n ≤ sum_of (λ l. length l.indices) ls
+pub start_low : (n : ℕ) (ls : List Laid) → start_of ls n ≤ sum_of (λ l. length l.indices) ls
 unfolding start_of sum_of
-start-low n [] = omega arith
-start-low n (l ∷ ls) = let rest = start-low n ls in let here = go (ltb l.material n) in omega arith
+start_low n [] = omega arith
+start_low n (l ∷ ls) = let rest = start_low n ls in let here = go (ltb l.material n) in omega arith
   where
     go : (t : Bool) → cond t (length l.indices) 0 ≤ length l.indices
     go true = omega arith
@@ -94,7 +94,7 @@ start_none (l ∷ ls) = λ j. go (ltb l.material 0) refl j + start_none ls j
     go false e = refl
 
 -- no more materials than patches
-pub materials-few : (ls : List Laid) → length (materialsOf ls) ≤ length ls
-unfolding materialsOf
-materials-few [] = omega arith
-materials-few (l ∷ ls) = let e = insert-long l.material (materialsOf ls) in let f = materials-few ls in omega arith
+pub materials_few : (ls : List Laid) → length (materials_of ls) ≤ length ls
+unfolding materials_of
+materials_few [] = omega arith
+materials_few (l ∷ ls) = let e = insert_long l.material (materials_of ls) in let f = materials_few ls in omega arith

@@ -3,10 +3,10 @@ use Rattle.std.specs.Prelude.{◌≡◌, refl, Bool, cond, ℕ, suc, ◌+◌, �
 use Rattle.std.proofs.Common.{ap, ◌∙◌, inl, inr, arith, eq-eqb, ne_eqb, length-append}
 use mathlib.Core.List.{List, [], ◌∷◌, flat_map}
 use Rattle.lists.specs.Lists.{sum_of}
-use Rattle.mesh_layout.specs.Mesh.{Laid, materialsOf, run_of, runsOf}
+use Rattle.mesh_layout.specs.Mesh.{Laid, materials_of, run_of, runs_of}
 use Rattle.lists.specs.Members.{Has}
-use Rattle.mesh_layout.specs.MaterialLaws.{laidMaterials, materials-have, materials-rise}
-use Rattle.lists.specs.Rising.{Rising, rising-has}
+use Rattle.mesh_layout.specs.MaterialLaws.{laid_materials, materials_have, materials_rise}
+use Rattle.lists.specs.Rising.{Rising, rising_has}
 
 -- what a patch adds to the runs of some materials
 added : ℕ → List ℕ → List ℕ → ℕ
@@ -23,25 +23,25 @@ added_none n xs low (m ∷ ms) r h =
     omega arith
 
 -- its indices, if its material is among them
-added-all : (n : ℕ) (xs : List ℕ) (low : ℕ) (ms : List ℕ) → Rising low ms → Has n ms → added n xs ms ≡ length xs
+added_all : (n : ℕ) (xs : List ℕ) (low : ℕ) (ms : List ℕ) → Rising low ms → Has n ms → added n xs ms ≡ length xs
 unfolding added sum_of
-added-all n xs low [] r h = absurd h
-added-all n xs low (m ∷ ms) r (inl z) =
+added_all n xs low [] r h = absurd h
+added_all n xs low (m ∷ ms) r (inl z) =
     let e = ap (λ (b : Bool). length (cond b xs [])) (eq-eqb n m z) in
     let f = added_none n xs (suc m) ms r.1 (omega arith) in
     omega arith
-added-all n xs low (m ∷ ms) r (inr k) =
-    let a = rising-has n (suc m) ms r.1 k in
+added_all n xs low (m ∷ ms) r (inr k) =
+    let a = rising_has n (suc m) ms r.1 k in
     let e = ap (λ (b : Bool). length (cond b xs [])) (ne_eqb n m (λ z. absurd (omega arith))) in
-    let f = added-all n xs (suc m) ms r.1 k in
+    let f = added_all n xs (suc m) ms r.1 k in
     omega arith
 
 -- the runs with a patch in front
-runs-more : (l : Laid) (ls : List Laid) (ms : List ℕ) → length (flat_map (run_of (l ∷ ls)) ms) ≡ added l.material l.indices ms + length (flat_map (run_of ls) ms)
+runs_more : (l : Laid) (ls : List Laid) (ms : List ℕ) → length (flat_map (run_of (l ∷ ls)) ms) ≡ added l.material l.indices ms + length (flat_map (run_of ls) ms)
 unfolding flat_map run_of added sum_of
-runs-more l ls [] = refl
-runs-more l ls (m ∷ ms) =
-    let e = runs-more l ls ms in
+runs_more l ls [] = refl
+runs_more l ls (m ∷ ms) =
+    let e = runs_more l ls ms in
     let x = cond (eqb l.material m) l.indices [] in
     omega (
       arith,
@@ -56,13 +56,13 @@ unfolding flat_map run_of
 runs_none [] = refl
 runs_none (m ∷ ms) = runs_none ms
 
-runs-total : (low : ℕ) (ms : List ℕ) (ls : List Laid) → Rising low ms → ((y : ℕ) → Has y (laidMaterials ls) → Has y ms) → length (flat_map (run_of ls) ms) ≡ sum_of (λ l. length l.indices) ls
+runs_total : (low : ℕ) (ms : List ℕ) (ls : List Laid) → Rising low ms → ((y : ℕ) → Has y (laid_materials ls) → Has y ms) → length (flat_map (run_of ls) ms) ≡ sum_of (λ l. length l.indices) ls
 unfolding sum_of
-runs-total low ms [] r h = runs_none ms
-runs-total low ms (l ∷ ls) r h =
-    runs-more l ls ms ∙ (λ j. added-all l.material l.indices low ms r (h l.material (inl refl)) j + runs-total low ms ls r (λ y k. h y (inr k)) j)
+runs_total low ms [] r h = runs_none ms
+runs_total low ms (l ∷ ls) r h =
+    runs_more l ls ms ∙ (λ j. added_all l.material l.indices low ms r (h l.material (inl refl)) j + runs_total low ms ls r (λ y k. h y (inr k)) j)
 
 -- all runs
-pub runs-long : (ls : List Laid) → length (runsOf ls) ≡ sum_of (λ l. length l.indices) ls
-unfolding runsOf
-runs-long ls = runs-total 0 (materialsOf ls) ls (materials-rise ls) (λ y k. materials-have y ls k)
+pub runs_long : (ls : List Laid) → length (runs_of ls) ≡ sum_of (λ l. length l.indices) ls
+unfolding runs_of
+runs_long ls = runs_total 0 (materials_of ls) ls (materials_rise ls) (λ y k. materials_have y ls k)

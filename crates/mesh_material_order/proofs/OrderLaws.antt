@@ -8,38 +8,38 @@ use borrow.Author.Count.{below_more}
 use lib.ListN.{length, get_or, take, drop, set, length-set}
 use lib.Seq.{get_or-set_same, get_or-set_other, take-set-le, drop-set-lt}
 use Rattle.lists.specs.Lists.{sum_of}
-use Rattle.lists.specs.Stretches.{front_at, front_less, rest-less}
+use Rattle.lists.specs.Stretches.{front_at, front_less, rest_less}
 use Rattle.slice_sort.specs.Sorting.{Sortable, Stands, Sorted}
 use Rattle.body_rows.specs.Body.{rows_of}
-use Rattle.body_rows.specs.Rows.{rowAt, indicesBefore}
-use Rattle.body_rows.specs.Patches.{indices-first, indices-next, indices-room, vertices-room}
-use Rattle.mesh_layout.specs.JudgedRows.{judgedIn, baseAfter}
-use Rattle.mesh_material_order.specs.Bases.{bases-next, bases-low}
-use Rattle.mesh_material_order.specs.Order.{basesBefore, placeWord, orderWord, Orderable, RowsKept, RowsOrdered, OrderRoom, FirstAccepted}
+use Rattle.body_rows.specs.Rows.{row_at, indices_before}
+use Rattle.body_rows.specs.Patches.{indices_first, indices_next, indices_room, vertices_room}
+use Rattle.mesh_layout.specs.JudgedRows.{judged_in, base_after}
+use Rattle.mesh_material_order.specs.Bases.{bases_next, bases_low}
+use Rattle.mesh_material_order.specs.Order.{bases_before, place_word, order_word, Orderable, RowsKept, RowsOrdered, OrderRoom, FirstAccepted}
 
 -- ---- vertices before the next row
 
 -- after a failed row
-pub after-no : (base vertices d : ℕ) → d ≡ 0 → base ≡ baseAfter base vertices d
-unfolding baseAfter
-after-no base vertices zero e = refl
-after-no base vertices (suc m) e = absurd (omega arith)
+pub after_no : (base vertices d : ℕ) → d ≡ 0 → base ≡ base_after base vertices d
+unfolding base_after
+after_no base vertices zero e = refl
+after_no base vertices (suc m) e = absurd (omega arith)
 
 -- after an accepted one
-pub after-yes : (base vertices d : ℕ) → (d ≡ 0 → ⊥) → base + vertices ≡ baseAfter base vertices d
-unfolding baseAfter
-after-yes base vertices zero n = absurd (n refl)
-after-yes base vertices (suc m) n = refl
+pub after_yes : (base vertices d : ℕ) → (d ≡ 0 → ⊥) → base + vertices ≡ base_after base vertices d
+unfolding base_after
+after_yes base vertices zero n = absurd (n refl)
+after_yes base vertices (suc m) n = refl
 
 -- ---- each row's words kept
 
 -- those of the first k rows are: W became E, and `base` vertices of the mesh and i indices of the body stand before row k
 pub record Keeping (table W : List ℕ) (at starts order m base i k : ℕ) (E : List ℕ) : Type 0 where
   pub low : k ≤ m
-  pub at_base : base ≡ basesBefore (judgedIn table W at) k
-  pub at_i : i ≡ indicesBefore (rows_of table) k
-  pub places : (q : ℕ) → q < k → get_or E (starts + q) 0 ≡ placeWord (judgedIn table W at) (rows_of table) q
-  pub words : (q : ℕ) → q < k → get_or E (order + q) 0 ≡ orderWord (get_or W (at + q) 0) q
+  pub at_base : base ≡ bases_before (judged_in table W at) k
+  pub at_i : i ≡ indices_before (rows_of table) k
+  pub places : (q : ℕ) → q < k → get_or E (starts + q) 0 ≡ place_word (judged_in table W at) (rows_of table) q
+  pub words : (q : ℕ) → q < k → get_or E (order + q) 0 ≡ order_word (get_or W (at + q) 0) q
   pub front : take starts E ≡ take starts W
   pub rest : drop (order + m) E ≡ drop (order + m) W
   pub long : length E ≡ length W
@@ -58,7 +58,7 @@ module _ {table W : List ℕ} {at starts order m : ℕ} (g : Orderable table W a
       record {
         low = omega arith;
         at_base = refl;
-        at_i = indices-first (rows_of table);
+        at_i = indices_first (rows_of table);
         places = λ q h. absurd (omega arith);
         words = λ q h. absurd (omega arith);
         front = refl;
@@ -71,42 +71,42 @@ module _ {table W : List ℕ} {at starts order m : ℕ} (g : Orderable table W a
     in_rows = omega (arith, g.rows_are)
 
     -- the row's decision is as it was
-    pub decision-is : get_or E (at + k) 0 ≡ get_or W (at + k) 0
-    decision-is = front_at starts (at + k) W E 0 c.front (omega (arith, g.words))
+    pub decision_is : get_or E (at + k) 0 ≡ get_or W (at + k) 0
+    decision_is = front_at starts (at + k) W E 0 c.front (omega (arith, g.words))
 
-    pub decision-low : get_or E (at + k) 0 ≤ 4294967296
-    decision-low = omega (arith, decision-is, g.small k l)
+    pub decision_low : get_or E (at + k) 0 ≤ 4294967296
+    decision_low = omega (arith, decision_is, g.small k l)
 
     -- what stands before it is not too much
-    pub base-low : base + (rowAt table k).vertices ≤ 262144
-    unfolding rowAt
-    base-low = omega (arith, c.at_base, bases-low k (take n (drop at W)) (rows_of table), vertices-room (rows_of table) k in_rows, g.few-vertices)
+    pub base_low : base + (row_at table k).vertices ≤ 262144
+    unfolding row_at
+    base_low = omega (arith, c.at_base, bases_low k (take n (drop at W)) (rows_of table), vertices_room (rows_of table) k in_rows, g.few_vertices)
 
-    pub index-low : i + (rowAt table k).indices ≤ 786432
-    unfolding rowAt
-    index-low = omega (arith, c.at_i, indices-room (rows_of table) k in_rows, g.few-indices)
+    pub index_low : i + (row_at table k).indices ≤ 786432
+    unfolding row_at
+    index_low = omega (arith, c.at_i, indices_room (rows_of table) k in_rows, g.few_indices)
 
-    pub row-few : k < 4096
-    row-few = omega (arith, g.rows.few, g.rows_are)
+    pub row_few : k < 4096
+    row_few = omega (arith, g.rows.few, g.rows_are)
 
     -- its words are kept
-    pub keeping-more : {d vertices size b x y : ℕ} {E' : List ℕ} → d ≡ get_or E (at + k) 0 → vertices ≡ (rowAt table k).vertices → size ≡ (rowAt table k).indices → b ≡ baseAfter base vertices d
+    pub keeping_more : {d vertices size b x y : ℕ} {E' : List ℕ} → d ≡ get_or E (at + k) 0 → vertices ≡ (row_at table k).vertices → size ≡ (row_at table k).indices → b ≡ base_after base vertices d
         → x ≡ base * 1048576 + i → y ≡ d * 4096 + k → E' ≡ set (set E (starts + k) x) (order + k) y → Keeping table W at starts order m b (i + size) (k + 1) E'
-    keeping-more {d} {vertices} {size} {b} {x} {y} {E'} e v s a px py w =
+    keeping_more {d} {vertices} {size} {b} {x} {y} {E'} e v s a px py w =
         record {
           low = omega arith;
-          at_base = a ∙ (λ j. baseAfter (c.at_base j) (v j) ((e ∙ decision-is) j)) ∙ sym (bases-next table W at room k in_rows);
-          at_i = omega (arith, c.at_i, indices-next table k in_rows);
-          places = below_more (λ (q : ℕ). get_or E' (starts + q) 0 ≡ placeWord (judgedIn table W at) (rows_of table) q) k
+          at_base = a ∙ (λ j. base_after (c.at_base j) (v j) ((e ∙ decision_is) j)) ∙ sym (bases_next table W at room k in_rows);
+          at_i = omega (arith, c.at_i, indices_next table k in_rows);
+          places = below_more (λ (q : ℕ). get_or E' (starts + q) 0 ≡ place_word (judged_in table W at) (rows_of table) q) k
               (λ q h. at_place (starts + q) ∙ get_or-set_other (set E (starts + k) x) (order + k) (starts + q) y 0 (λ z. absurd (omega (arith, g.order_is)))
               ∙ get_or-set_other E (starts + k) (starts + q) x 0 (λ z. absurd (omega arith)) ∙ c.places q h)
               (at_place (starts + k) ∙ get_or-set_other (set E (starts + k) x) (order + k) (starts + k) y 0 (λ z. absurd (omega (arith, g.order_is)))
               ∙ get_or-set_same E (starts + k) x 0 (omega (arith, g.order_is, g.room, c.long)) ∙ px ∙ (λ j. c.at_base j * 1048576 + c.at_i j));
-          words = below_more (λ (q : ℕ). get_or E' (order + q) 0 ≡ orderWord (get_or W (at + q) 0) q) k
+          words = below_more (λ (q : ℕ). get_or E' (order + q) 0 ≡ order_word (get_or W (at + q) 0) q) k
               (λ q h. at_place (order + q) ∙ get_or-set_other (set E (starts + k) x) (order + k) (order + q) y 0 (λ z. absurd (omega arith))
               ∙ get_or-set_other E (starts + k) (order + q) x 0 (λ z. absurd (omega (arith, g.order_is))) ∙ c.words q h)
               (at_place (order + k) ∙ get_or-set_same (set E (starts + k) x) (order + k) y 0 (omega (arith, g.room, c.long, length-set E (starts + k) x)) ∙ py
-              ∙ ap (λ (t : ℕ). t * 4096 + k) (e ∙ decision-is));
+              ∙ ap (λ (t : ℕ). t * 4096 + k) (e ∙ decision_is));
           front = ap (take starts) w ∙ take-set-le starts (set E (starts + k) x) (order + k) y (omega (arith, g.order_is)) ∙ take-set-le starts E (starts + k) x (omega arith) ∙ c.front;
           rest = ap (drop (order + m)) w ∙ drop-set-lt (order + m) (set E (starts + k) x) (order + k) y (omega arith) ∙ drop-set-lt (order + m) E (starts + k) x (omega (arith, g.order_is)) ∙ c.rest;
           long = ap length w ∙ length-set (set E (starts + k) x) (order + k) y ∙ length-set E (starts + k) x ∙ c.long;
@@ -130,8 +130,8 @@ module _ {table W : List ℕ} {at starts order m : ℕ} (g : Orderable table W a
 
   module _ {E : List ℕ} (r : RowsKept table W E at starts order m) where
     -- what sorting asks
-    pub sort-ready : Sortable order m 12 E
-    sort-ready =
+    pub sort_ready : Sortable order m 12 E
+    sort_ready =
         record {
           room = omega (arith, g.room, r.long);
           low_small = omega arith;
@@ -144,23 +144,23 @@ module _ {table W : List ℕ} {at starts order m : ℕ} (g : Orderable table W a
       kept_at k h = front_at order (at + k) E X 0 s.front (omega (arith, g.words, g.order_is)) ∙ front_at starts (at + k) W E 0 r.front (omega (arith, g.words))
 
       -- the rows are ordered
-      pub ordered-rows : RowsOrdered table W X at starts order m
-      ordered-rows =
+      pub ordered_rows : RowsOrdered table W X at starts order m
+      ordered_rows =
           record {
             places = λ k h. front_at order (starts + k) E X 0 s.front (omega (arith, g.order_is)) ∙ r.places k h;
             ordered = record {
               rising = s.rising;
-              stands = λ k h. subst (Stands X order m) (r.words k h ∙ ap (λ (d : ℕ). orderWord d k) (sym (kept_at k h))) (s.kept k h);
+              stands = λ k h. subst (Stands X order m) (r.words k h ∙ ap (λ (d : ℕ). order_word d k) (sym (kept_at k h))) (s.kept k h);
               rows = λ i h.
                   let p = s.same i h in
                   record {
                     row = p.place;
                     low = p.low;
-                    is = sym p.is ∙ r.words p.place p.low ∙ ap (λ (d : ℕ). orderWord d p.place) (sym (kept_at p.place p.low));
+                    is = sym p.is ∙ r.words p.place p.low ∙ ap (λ (d : ℕ). order_word d p.place) (sym (kept_at p.place p.low));
                   };
             };
             front = front_less starts order E X s.front (omega (arith, g.order_is)) ∙ r.front;
-            rest = s.rest ∙ rest-less (order + m) (order + m + m) W E r.rest (omega arith);
+            rest = s.rest ∙ rest_less (order + m) (order + m + m) W E r.rest (omega arith);
             long = s.long ∙ r.long;
           }
 
@@ -172,16 +172,16 @@ pub record Failing (W : List ℕ) (order m p : ℕ) : Type 0 where
   pub failed : (i : ℕ) → i < p → get_or W (order + i) 0 < 4096
 
 module _ {W : List ℕ} {order m : ℕ} where
-  pub failing-none : Failing W order m 0
-  failing-none = record { low = omega arith; failed = λ i h. absurd (omega arith) }
+  pub failing_none : Failing W order m 0
+  failing_none = record { low = omega arith; failed = λ i h. absurd (omega arith) }
 
   module _ {p : ℕ} (c : Failing W order m p) where
-    pub failing-more : p < m → get_or W (order + p) 0 < 4096 → Failing W order m (p + 1)
-    failing-more l h = record { low = omega arith; failed = below_more (λ (i : ℕ). get_or W (order + i) 0 < 4096) p c.failed h }
+    pub failing_more : p < m → get_or W (order + p) 0 < 4096 → Failing W order m (p + 1)
+    failing_more l h = record { low = omega arith; failed = below_more (λ (i : ℕ). get_or W (order + i) 0 < 4096) p c.failed h }
 
     -- the word at place p is not
-    pub failing-hit : OrderRoom W order m → p < m → 4096 ≤ get_or W (order + p) 0 → FirstAccepted W order m p
-    failing-hit g l h =
+    pub failing_hit : OrderRoom W order m → p < m → 4096 ≤ get_or W (order + p) 0 → FirstAccepted W order m p
+    failing_hit g l h =
         record {
           low = c.low;
           failed = c.failed;
@@ -193,5 +193,5 @@ module _ {W : List ℕ} {order m : ℕ} where
         go i a b (no d) = let r = g.rising p i (omega arith) b in omega arith
 
     -- all are
-    pub failing-all : m ≤ p → FirstAccepted W order m p
-    failing-all h = record { low = c.low; failed = c.failed; accepted = λ i a b. absurd (omega arith) }
+    pub failing_all : m ≤ p → FirstAccepted W order m p
+    failing_all h = record { low = c.low; failed = c.failed; accepted = λ i a b. absurd (omega arith) }

@@ -1,8 +1,8 @@
 // The rows in the order of their decisions: a word for each with its decision and the row, sorted.
 
 ghost use Rattle.std.specs.Prelude.{◌≡◌};
-ghost use Rattle.mesh_layout.specs.JudgedRows.{baseAfter};
-ghost use Rattle.mesh_material_order.specs.Order.{orderWord, BaseSmall, WordSmall, Orderable, RowsKept, RowsOrdered, OrderRoom, FirstAccepted};
+ghost use Rattle.mesh_layout.specs.JudgedRows.{base_after};
+ghost use Rattle.mesh_material_order.specs.Order.{order_word, BaseSmall, WordSmall, Orderable, RowsKept, RowsOrdered, OrderRoom, FirstAccepted};
 
 // A decision stands in a word above the row, which takes so many bits.
 const ROW_BITS: u32 = 12;
@@ -16,7 +16,7 @@ pub const INDICES: u64 = 1048576;
 // How many vertices of the mesh stand before the next row, after a row with the decision d.
 fn base_after(base: u64, vertices: u64, d: u64) -> u64
     requires { BaseSmall base vertices }
-    ensures { result ≡ baseAfter base vertices d }
+    ensures { result ≡ base_after base vertices d }
 {
     if d == 0 {
         return base;
@@ -27,7 +27,7 @@ fn base_after(base: u64, vertices: u64, d: u64) -> u64
 // Row k and its decision d in one word, which is higher for a higher decision and, of one decision, for a later row.
 fn order_word(d: u64, k: u64) -> u64
     requires { WordSmall d k }
-    ensures { result ≡ orderWord d k }
+    ensures { result ≡ order_word d k }
 {
     d * ROWS + k
 }

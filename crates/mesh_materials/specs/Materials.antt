@@ -13,12 +13,12 @@ unfoldable pub entry_of : List ℕ → ℕ → Option ℕ
 entry_of materials face = elim (item_at materials face) [ none ↦ none | some e ↦ entry e ]
 
 -- A face whose entry is 0 or missing has the default; no default means material 0.
-unfoldable pub materialOf : List ℕ → ℕ → ℕ → ℕ
-materialOf materials default face = elim (entry_of materials face) [
+unfoldable pub material_of : List ℕ → ℕ → ℕ → ℕ
+material_of materials default face = elim (entry_of materials face) [
   | some m ↦ m
   | none ↦ elim (entry default) [ some m ↦ m | none ↦ 0 ]
 ]
 
 -- 42: an entry or the default is above 2 ^ 32
-unfoldable pub badMaterials : List ℕ → ℕ → Bool
-badMaterials materials default = any (λ m. ltb (2 ^ 32) m) (default ∷ materials)
+unfoldable pub bad_materials : List ℕ → ℕ → Bool
+bad_materials materials default = any (λ m. ltb (2 ^ 32) m) (default ∷ materials)

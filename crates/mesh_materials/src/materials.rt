@@ -2,7 +2,7 @@
 
 ghost use Rattle.std.specs.Prelude.{◌≡◌, get_or, ltb};
 ghost use Rattle.lists.specs.Lists.{any};
-ghost use Rattle.mesh_materials.specs.Materials.{badMaterials, materialOf};
+ghost use Rattle.mesh_materials.specs.Materials.{bad_materials, material_of};
 ghost use Rattle.mesh_materials.specs.Small.{SmallMaterials};
 
 use crate::{FaceId, MaterialId};
@@ -23,7 +23,7 @@ fn any_above(materials: &[u64]) -> bool
 
 // 42: whether an entry or the default is above 2^32.
 pub fn bad_materials(materials: &[u64], default: u64) -> bool
-    ensures { result ≡ badMaterials materials.now default }
+    ensures { result ≡ bad_materials materials.now default }
 {
     if default > 4294967296 {
         return true;
@@ -45,7 +45,7 @@ fn entry_at(materials: &[u64], face: FaceId) -> u64
 // The material of a face: its own entry's, else the default's, else 0.
 pub fn material_of(materials: &[u64], default: u64, face: FaceId) -> MaterialId
     requires { SmallMaterials materials.now default }
-    ensures { result.0 ≡ materialOf materials.now default face.0 }
+    ensures { result.0 ≡ material_of materials.now default face.0 }
 {
     let own = entry_at(materials, face);
     if own > 0 {

@@ -1,7 +1,7 @@
 // Check 41: room for the mesh and its tables.
 
 ghost use Rattle.std.specs.Prelude.{◌≡◌, length};
-ghost use Rattle.mesh_room.specs.Room.{RoomAsked, shortBy};
+ghost use Rattle.mesh_room.specs.Room.{RoomAsked, short_by};
 
 use mesh_acceptance::FAILURE_WIDTH;
 use mesh_layout::{PART_WIDTH, RANGE_WIDTH};
@@ -19,7 +19,7 @@ pub fn too_short(
     failures: &[u64],
 ) -> bool
     requires { RoomAsked vertices m }
-    ensures { result ≡ shortBy vertices indices m (length mesh_positions.now) (length mesh_normals.now)
+    ensures { result ≡ short_by vertices indices m (length mesh_positions.now) (length mesh_normals.now)
         (length mesh_indices.now)
         (length parts.now) (length ranges.now) (length failures.now) }
 {

@@ -3,15 +3,15 @@
 ghost use Rattle.std.specs.Prelude.{[], ◌∷◌, ◌+◌, ◌*◌, ◌≤◌, length};
 ghost use Rattle.slice_append.specs.Appended.{Appended};
 ghost use Rattle.mesh_layout.specs.Ranges.{RowRangeable, RowRanged, RangesWritable, RangesWritten};
-ghost use Rattle.mesh_layout.specs.Mesh.{rangeWidth};
+ghost use Rattle.mesh_layout.specs.Mesh.{range_width};
 
 use mesh_layout::RANGE_WIDTH;
 use mesh_materials::{BinId, FaceId};
 
 // Range r of the table: face, bin, first index, one past the last.
 fn put_range(ranges: &mut [u32], r: usize, face: FaceId, bin: BinId, first: u32, end: u32)
-    requires { rangeWidth * r + rangeWidth ≤ length ranges.old }
-    ensures { Appended (rangeWidth * r) (face.0 ∷ bin.0 ∷ first ∷ end ∷ []) ranges.old ranges.new }
+    requires { range_width * r + range_width ≤ length ranges.old }
+    ensures { Appended (range_width * r) (face.0 ∷ bin.0 ∷ first ∷ end ∷ []) ranges.old ranges.new }
 {
     slice_append::put_four(ranges, RANGE_WIDTH * r, face.0, bin.0, first, end);
 }

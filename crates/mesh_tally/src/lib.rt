@@ -1,7 +1,7 @@
 // The edges of a mesh counted from the words of their uses.
 
 ghost use Rattle.std.specs.Prelude.{◌≡◌};
-ghost use Rattle.mesh_tally.specs.Tally.{Few, UseReady, TallyReady, Tallied, countsIn, withEdge, withUse};
+ghost use Rattle.mesh_tally.specs.Tally.{Few, UseReady, TallyReady, Tallied, counts_in, with_edge, with_use};
 
 use edge_uses::{EQUAL_ENDS, RUNS_AFTER_FIRSTS};
 
@@ -16,7 +16,7 @@ pub struct EdgeCounts {
 // The counts with one edge more, which has so many uses.
 fn with_edge(c: EdgeCounts, uses: u64) -> EdgeCounts
     requires { Few c }
-    ensures { countsIn result ≡ withEdge uses (countsIn c) }
+    ensures { counts_in result ≡ with_edge uses (counts_in c) }
 {
     if uses == 1 {
         return EdgeCounts {
@@ -42,7 +42,7 @@ fn with_edge(c: EdgeCounts, uses: u64) -> EdgeCounts
 // The counts after use i: its edge counts if its ends differ and no use before it is of the same edge.
 fn with_use(w: &[u64], at: usize, n: usize, i: usize, c: EdgeCounts) -> EdgeCounts
     requires { UseReady w.now at n i c }
-    ensures { countsIn result ≡ withUse w.now at n i (countsIn c) }
+    ensures { counts_in result ≡ with_use w.now at n i (counts_in c) }
 {
     if w[at + RUNS_AFTER_FIRSTS * n + i] == EQUAL_ENDS {
         return c;

@@ -5,6 +5,6 @@ use Rattle.mesh_verdicts.specs.declared.verdict.Verdict.{Verdict}
 use Rattle.mesh_verdicts.specs.declared.verdict.Verdict.TheVariants as verdict
 
 -- the failure that a verdict tells of
-abbrev pub failureIn : Verdict → Option Failure
-failureIn verdict.Accepted = none
-failureIn (verdict.Failed f) = some f
+abbrev pub failure_in : Verdict → Option Failure
+failure_in verdict.Accepted = none
+failure_in (verdict.Failed f) = some f

@@ -2,8 +2,8 @@
 
 ghost use Rattle.std.specs.Prelude.{◌≡◌};
 ghost use Rattle.patch_geometry.specs.Geometry.{diagonal};
-ghost use Rattle.mesh_verdicts.specs.Failures.{escapeOf, failureBy};
-ghost use Rattle.mesh_verdicts.specs.Verdicts.{failureIn};
+ghost use Rattle.mesh_verdicts.specs.Failures.{escape_of, failure_by};
+ghost use Rattle.mesh_verdicts.specs.Verdicts.{failure_in};
 
 use crate::Failure;
 use patch_geometry::Aabb;
@@ -18,7 +18,7 @@ pub enum Verdict {
 // A patch fails if it escapes the body's box, whose diagonal is `span`.
 fn escape_of(positions: &[f32], reference: Aabb, span: f64) -> Verdict
     requires { span ≡ diagonal reference }
-    ensures { failureIn result ≡ escapeOf reference positions.now }
+    ensures { failure_in result ≡ escape_of reference positions.now }
 {
     if reference.is_empty() {
         return Verdict::Accepted;
@@ -41,7 +41,7 @@ pub fn verdict_of(
     span: f64,
 ) -> Verdict
     requires { span ≡ diagonal reference }
-    ensures { failureIn result ≡ failureBy reference outcome positions.now indices.now }
+    ensures { failure_in result ≡ failure_by reference outcome positions.now indices.now }
 {
     if outcome != 0 {
         return Verdict::Failed(Failure::Upstream(outcome));

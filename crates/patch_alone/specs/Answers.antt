@@ -8,23 +8,23 @@ use Rattle.patch_alone.specs.Alone.{Alone}
 use Rattle.patch_geometry.specs.Geometry.{zero64}
 
 -- the answer if the refusal's number is 0, else the refusal
-abbrev pub answerOr : {A B : Type 0} → (A → B) → (ℕ → B) → Alone A → B
-answerOr value refused a = cond (eqb a.refusal 0) (value a.answer) (refused a.refusal)
+abbrev pub answer_or : {A B : Type 0} → (A → B) → (ℕ → B) → Alone A → B
+answer_or value refused a = cond (eqb a.refusal 0) (value a.answer) (refused a.refusal)
 
 -- a number or a refusal
-abbrev pub measuredOf : Alone Float → Measured
-measuredOf a = answerOr Measure.Value Measure.Refused a
+abbrev pub measured_of : Alone Float → Measured
+measured_of a = answer_or Measure.Value Measure.Refused a
 
 -- a verdict or a refusal
-abbrev pub judgedOf : Alone Bool → Judged
-judgedOf a = answerOr Judge.Verdict Judge.Refused a
+abbrev pub judged_of : Alone Bool → Judged
+judged_of a = answer_or Judge.Verdict Judge.Refused a
 
 -- a value is given with 0 for the refusal, a refusal with 0 for the value
-abbrev pub measuredAs : Measured → Alone Float
-measuredAs (Measure.Value x) = record { refusal = 0; answer = x }
-measuredAs (Measure.Refused n) = record { refusal = n; answer = zero64 }
+abbrev pub measured_as : Measured → Alone Float
+measured_as (Measure.Value x) = record { refusal = 0; answer = x }
+measured_as (Measure.Refused n) = record { refusal = n; answer = zero64 }
 
 -- a verdict is given with 0 for the refusal, a refusal with false for the verdict
-abbrev pub judgedAs : Judged → Alone Bool
-judgedAs (Judge.Verdict b) = record { refusal = 0; answer = b }
-judgedAs (Judge.Refused n) = record { refusal = n; answer = false }
+abbrev pub judged_as : Judged → Alone Bool
+judged_as (Judge.Verdict b) = record { refusal = 0; answer = b }
+judged_as (Judge.Refused n) = record { refusal = n; answer = false }

@@ -1,8 +1,8 @@
 // A patch asked about alone: its checks, and then its volume, its reach or its escape.
 
 ghost use Rattle.std.specs.Prelude.{◌≡◌};
-ghost use Rattle.patch_alone.specs.Answers.{judgedOf, measuredOf};
-ghost use Rattle.patch_alone.specs.Alone.{escapesAlone, farthestAlone, volumeAlone};
+ghost use Rattle.patch_alone.specs.Answers.{judged_of, measured_of};
+ghost use Rattle.patch_alone.specs.Alone.{escapes_alone, farthest_alone, volume_alone};
 
 use patch_geometry::Aabb;
 use patch_reach::{escapes_body, farthest};
@@ -29,7 +29,7 @@ pub fn patch_volume_alone(
     indices: &[u32],
     flip: bool,
 ) -> Measured
-    ensures { result ≡ measuredOf (volumeAlone positions.now normals.now indices.now flip) }
+    ensures { result ≡ measured_of (volume_alone positions.now normals.now indices.now flip) }
 {
     let n = body_checks::lone_failing(positions, normals, indices);
     if n != 0 {
@@ -45,7 +45,7 @@ pub fn farthest_alone(
     indices: &[u32],
     reference: Aabb,
 ) -> Measured
-    ensures { result ≡ measuredOf (farthestAlone positions.now normals.now indices.now reference) }
+    ensures { result ≡ measured_of (farthest_alone positions.now normals.now indices.now reference) }
 {
     let n = body_checks::lone_failing(positions, normals, indices);
     if n != 0 {
@@ -56,7 +56,7 @@ pub fn farthest_alone(
 
 // Whether a patch alone escapes.
 pub fn escapes_alone(positions: &[f32], normals: &[f32], indices: &[u32], reference: Aabb) -> Judged
-    ensures { result ≡ judgedOf (escapesAlone positions.now normals.now indices.now reference) }
+    ensures { result ≡ judged_of (escapes_alone positions.now normals.now indices.now reference) }
 {
     let n = body_checks::lone_failing(positions, normals, indices);
     if n != 0 {

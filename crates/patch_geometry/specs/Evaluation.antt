@@ -2,10 +2,10 @@
 use Rattle.std.specs.Prelude.{ℕ}
 use Rattle.lists.specs.Evaluation as Lists
 use Rattle.float_sqrt.specs.Evaluation as Roots
-use Rattle.patch_geometry.specs.Geometry.{lengthV, diagonal}
-use Rattle.patch_geometry.specs.Given.{box68, onePoint, vertex}
+use Rattle.patch_geometry.specs.Geometry.{length_v, diagonal}
+use Rattle.patch_geometry.specs.Given.{box68, one_point, vertex}
 
 -- every definition that computes
 unfoldable pub evaluation : ℕ
-unfolding Lists.evaluation Roots.evaluation lengthV diagonal box68 onePoint vertex
+unfolding Lists.evaluation Roots.evaluation length_v diagonal box68 one_point vertex
 evaluation = 0

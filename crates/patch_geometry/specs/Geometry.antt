@@ -41,12 +41,12 @@ abbrev pub six64 : Float
 six64 = f64 0x4018000000000000
 
 -- `Vec3`'s add works by component.
-abbrev pub addV : Vec3 → Vec3 → Vec3
-addV p q = record { x = add p.x q.x; y = add p.y q.y; z = add p.z q.z }
+abbrev pub add_v : Vec3 → Vec3 → Vec3
+add_v p q = record { x = add p.x q.x; y = add p.y q.y; z = add p.z q.z }
 
 -- `Vec3`'s subtract works by component.
-abbrev pub subV : Vec3 → Vec3 → Vec3
-subV p q = record { x = sub p.x q.x; y = sub p.y q.y; z = sub p.z q.z }
+abbrev pub sub_v : Vec3 → Vec3 → Vec3
+sub_v p q = record { x = sub p.x q.x; y = sub p.y q.y; z = sub p.z q.z }
 
 -- `Vec3`'s scale works by component.
 abbrev pub scale : Vec3 → Float → Vec3
@@ -57,16 +57,16 @@ abbrev pub dot : Vec3 → Vec3 → Float
 dot p q = add (add (mul p.x q.x) (mul p.y q.y)) (mul p.z q.z)
 
 -- the length: the root of the dot product with itself
-unfoldable pub lengthV : Vec3 → Float
-lengthV p = sqrt (dot p p)
+unfoldable pub length_v : Vec3 → Float
+length_v p = sqrt (dot p p)
 
 -- the vertex whose coordinates start at k, widened
-abbrev pub vertexAt : List Float → ℕ → Vec3
-vertexAt ps k = record { x = widen (get_or ps k nan); y = widen (get_or ps (k + 1) nan); z = widen (get_or ps (k + 2) nan) }
+abbrev pub vertex_at : List Float → ℕ → Vec3
+vertex_at ps k = record { x = widen (get_or ps k nan); y = widen (get_or ps (k + 1) nan); z = widen (get_or ps (k + 2) nan) }
 
 -- vertex i of a patch
-abbrev pub pointAt : List Float → ℕ → Vec3
-pointAt ps i = vertexAt ps (3 * i)
+abbrev pub point_at : List Float → ℕ → Vec3
+point_at ps i = vertex_at ps (3 * i)
 
 -- a box is empty if its minimum is above its maximum on some axis
 abbrev pub is_empty : Aabb → Bool
@@ -74,25 +74,25 @@ is_empty box = lt box.max.x box.min.x || lt box.max.y box.min.y || lt box.max.z 
 
 -- the middle of a box that isn't empty
 abbrev pub centre : Aabb → Vec3
-centre box = scale (addV box.min box.max) half64
+centre box = scale (add_v box.min box.max) half64
 
 -- the zero vector
-abbrev pub zeroV : Vec3
-zeroV = record { x = zero64; y = zero64; z = zero64 }
+abbrev pub zero_v : Vec3
+zero_v = record { x = zero64; y = zero64; z = zero64 }
 
 -- the first of two where the test holds
-abbrev pub pickV : Bool → Vec3 → Vec3 → Vec3
-pickV true p q = p
-pickV false p q = q
+abbrev pub pick_v : Bool → Vec3 → Vec3 → Vec3
+pick_v true p q = p
+pick_v false p q = q
 
 -- from minimum to maximum; zero of an empty box
 abbrev pub size : Aabb → Vec3
-size box = pickV (is_empty box) zeroV (subV box.max box.min)
+size box = pick_v (is_empty box) zero_v (sub_v box.max box.min)
 
 -- the middle; zero of an empty box
-abbrev pub centreOf : Aabb → Vec3
-centreOf box = pickV (is_empty box) zeroV (centre box)
+abbrev pub centre_of : Aabb → Vec3
+centre_of box = pick_v (is_empty box) zero_v (centre box)
 
 -- the length from minimum to maximum; 0 of an empty box
 unfoldable pub diagonal : Aabb → Float
-diagonal box = cond (is_empty box) zero64 (lengthV (subV box.max box.min))
+diagonal box = cond (is_empty box) zero64 (length_v (sub_v box.max box.min))

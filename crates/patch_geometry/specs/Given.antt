@@ -13,8 +13,8 @@ unfoldable pub box68 : Aabb
 box68 = record { min = vec 0 0 0; max = vec 0x4018000000000000 0x4020000000000000 0 }
 
 -- K10: a box of one point
-unfoldable pub onePoint : Aabb
-onePoint = record { min = vec 0 0 0; max = vec 0 0 0 }
+unfoldable pub one_point : Aabb
+one_point = record { min = vec 0 0 0; max = vec 0 0 0 }
 
 -- the one vertex x, 4, 0, x by its f32 bits
 unfoldable pub vertex : ℕ → List Float

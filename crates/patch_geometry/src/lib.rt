@@ -3,7 +3,7 @@
 mod points;
 
 ghost use Rattle.std.specs.Prelude.{◌≡◌};
-ghost use Rattle.patch_geometry.specs.Geometry.{addV, centreOf, diagonal, dot, is_empty, lengthV, scale, size, subV};
+ghost use Rattle.patch_geometry.specs.Geometry.{add_v, centre_of, diagonal, dot, is_empty, length_v, scale, size, sub_v};
 
 pub use points::{point, vertex};
 
@@ -25,7 +25,7 @@ impl Vec3 {
 
     // The sum, by component.
     pub fn add(self, o: Vec3) -> Vec3
-        ensures { result ≡ addV self o }
+        ensures { result ≡ add_v self o }
     {
         Vec3 {
             x: self.x + o.x,
@@ -36,7 +36,7 @@ impl Vec3 {
 
     // The difference, by component.
     pub fn sub(self, o: Vec3) -> Vec3
-        ensures { result ≡ subV self o }
+        ensures { result ≡ sub_v self o }
     {
         Vec3 {
             x: self.x - o.x,
@@ -65,7 +65,7 @@ impl Vec3 {
 
     // The length: the root of the dot product with itself.
     pub fn length(self) -> f64
-        ensures { result ≡ lengthV self }
+        ensures { result ≡ length_v self }
     {
         float_sqrt::sqrt_f64(self.dot(self))
     }
@@ -102,7 +102,7 @@ impl Aabb {
 
     // The middle; zero for an empty box.
     pub fn centre(self) -> Vec3
-        ensures { result ≡ centreOf self }
+        ensures { result ≡ centre_of self }
     {
         if self.is_empty() {
             return Vec3::new(0.0, 0.0, 0.0);

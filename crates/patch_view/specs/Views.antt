@@ -2,68 +2,68 @@
 use Rattle.std.specs.Prelude.{◌≡◌, refl, Bool, List, [], ◌∷◌, ℕ, zero, suc, ◌+◌, ◌*◌, ◌<◌, length, get_or, take, drop, Float}
 use Rattle.std.proofs.Common.{sym, ap, ◌∙◌, le_of_suc-le-suc, not-suc-le-zero, arith}
 use Rattle.std.specs.Borrow.{Bor}
-use Rattle.body_rows.specs.Body.{Row, Patch, Triangle, patches_of, trianglesOf}
-use Rattle.body_rows.specs.Rows.{no_row, verticesBefore, indicesBefore}
-use Rattle.body_rows.specs.Patches.{noPatch, patch-at}
+use Rattle.body_rows.specs.Body.{Row, Patch, Triangle, patches_of, triangles_of}
+use Rattle.body_rows.specs.Rows.{no_row, vertices_before, indices_before}
+use Rattle.body_rows.specs.Patches.{no_patch, patch_at_lem}
 use Rattle.patch_alone.specs.declared.alone.Measured.{Measured}
-use Rattle.patch_alone.specs.Answers.{measuredOf}
-use Rattle.patch_alone.specs.Alone.{volumeAlone}
+use Rattle.patch_alone.specs.Answers.{measured_of}
+use Rattle.patch_alone.specs.Alone.{volume_alone}
 use Rattle.patch_view.specs.declared.PatchView.{PatchView}
 
 -- the view of three lent stretches
-abbrev pub viewOf : Bor (List Float) → Bor (List Float) → Bor (List ℕ) → PatchView
-viewOf ps ns is = record { positions = ps; normals = ns; indices = is }
+abbrev pub view_of : Bor (List Float) → Bor (List Float) → Bor (List ℕ) → PatchView
+view_of ps ns is = record { positions = ps; normals = ns; indices = is }
 
 -- corner i of the patch's triangles
-abbrev pub cornerOf : PatchView → ℕ → ℕ
-cornerOf v i = get_or v.indices.now i 0
+abbrev pub corner_of : PatchView → ℕ → ℕ
+corner_of v i = get_or v.indices.now i 0
 
 -- the volume of the patch alone
-abbrev pub volumeOf : PatchView → Bool → Measured
-volumeOf v flip = measuredOf (volumeAlone v.positions.now v.normals.now v.indices.now flip)
+abbrev pub volume_of : PatchView → Bool → Measured
+volume_of v flip = measured_of (volume_alone v.positions.now v.normals.now v.indices.now flip)
 
 -- the patch that a view shows, at its row
-abbrev pub patchIn : Row → PatchView → Patch
-patchIn r v = record { row = r; positions = v.positions.now; normals = v.normals.now; indices = v.indices.now }
+abbrev pub patch_in : Row → PatchView → Patch
+patch_in r v = record { row = r; positions = v.positions.now; normals = v.normals.now; indices = v.indices.now }
 
 -- v is of row k's stretches: its vertices and indices behind those of the rows before it
 pub record Stretches (rows : List Row) (ps ns : List Float) (is : List ℕ) (k : ℕ) (v : PatchView) : Type 0 where
   pub row : k < length rows
-  pub positions : v.positions.now ≡ take (3 * (get_or rows k no_row).vertices) (drop (3 * verticesBefore rows k) ps)
-  pub normals : v.normals.now ≡ take (3 * (get_or rows k no_row).vertices) (drop (3 * verticesBefore rows k) ns)
-  pub indices : v.indices.now ≡ take (get_or rows k no_row).indices (drop (indicesBefore rows k) is)
+  pub positions : v.positions.now ≡ take (3 * (get_or rows k no_row).vertices) (drop (3 * vertices_before rows k) ps)
+  pub normals : v.normals.now ≡ take (3 * (get_or rows k no_row).vertices) (drop (3 * vertices_before rows k) ns)
+  pub indices : v.indices.now ≡ take (get_or rows k no_row).indices (drop (indices_before rows k) is)
 
 -- Then it shows patch k.
-pub shows-patch : (rows : List Row) (ps ns : List Float) (is : List ℕ) (k : ℕ) (v : PatchView) → Stretches rows ps ns is k v
-    → patchIn (get_or rows k no_row) v ≡ get_or (patches_of rows ps ns is) k noPatch
-shows-patch rows ps ns is k v s =
+pub shows_patch : (rows : List Row) (ps ns : List Float) (is : List ℕ) (k : ℕ) (v : PatchView) → Stretches rows ps ns is k v
+    → patch_in (get_or rows k no_row) v ≡ get_or (patches_of rows ps ns is) k no_patch
+shows_patch rows ps ns is k v s =
     (λ j. record { row = get_or rows k no_row; positions = s.positions j; normals = s.normals j; indices = s.indices j })
-    ∙ sym (patch-at rows ps ns is k s.row)
+    ∙ sym (patch_at_lem rows ps ns is k s.row)
 
 -- A volume that is read through it is that of patch k alone.
-pub shows-volume : (rows : List Row) (ps ns : List Float) (is : List ℕ) (k : ℕ) (v : PatchView) (flip : Bool) → Stretches rows ps ns is k v
-    → let p = get_or (patches_of rows ps ns is) k noPatch in volumeOf v flip ≡ measuredOf (volumeAlone p.positions p.normals p.indices flip)
-shows-volume rows ps ns is k v flip s =
-    ap (λ (p : Patch). measuredOf (volumeAlone p.positions p.normals p.indices flip)) (shows-patch rows ps ns is k v s)
+pub shows_volume : (rows : List Row) (ps ns : List Float) (is : List ℕ) (k : ℕ) (v : PatchView) (flip : Bool) → Stretches rows ps ns is k v
+    → let p = get_or (patches_of rows ps ns is) k no_patch in volume_of v flip ≡ measured_of (volume_alone p.positions p.normals p.indices flip)
+shows_volume rows ps ns is k v flip s =
+    ap (λ (p : Patch). measured_of (volume_alone p.positions p.normals p.indices flip)) (shows_patch rows ps ns is k v s)
 
 -- three indices in a row, from index i on
-abbrev triangleFrom : List ℕ → ℕ → Triangle
-triangleFrom is i = record { a = get_or is i 0; b = get_or is (i + 1) 0; c = get_or is (i + 2) 0 }
+abbrev triangle_from : List ℕ → ℕ → Triangle
+triangle_from is i = record { a = get_or is i 0; b = get_or is (i + 1) 0; c = get_or is (i + 2) 0 }
 
 -- triangle j has the indices from 3 × j on
-triangle-at : (is : List ℕ) (j : ℕ) (none : Triangle) → j < length (trianglesOf is) → get_or (trianglesOf is) j none ≡ triangleFrom is (3 * j)
-unfolding trianglesOf
-triangle-at [] j none h = absurd (not-suc-le-zero h)
-triangle-at (a ∷ []) j none h = absurd (not-suc-le-zero h)
-triangle-at (a ∷ b ∷ []) j none h = absurd (not-suc-le-zero h)
-triangle-at (a ∷ b ∷ c ∷ is) zero none h = refl
-triangle-at (a ∷ b ∷ c ∷ is) (suc j) none h =
+triangle_at_lem : (is : List ℕ) (j : ℕ) (none : Triangle) → j < length (triangles_of is) → get_or (triangles_of is) j none ≡ triangle_from is (3 * j)
+unfolding triangles_of
+triangle_at_lem [] j none h = absurd (not-suc-le-zero h)
+triangle_at_lem (a ∷ []) j none h = absurd (not-suc-le-zero h)
+triangle_at_lem (a ∷ b ∷ []) j none h = absurd (not-suc-le-zero h)
+triangle_at_lem (a ∷ b ∷ c ∷ is) zero none h = refl
+triangle_at_lem (a ∷ b ∷ c ∷ is) (suc j) none h =
     let e0 : suc (suc (suc (3 * j))) ≡ 3 * suc j = omega arith in
     let e1 : suc (suc (suc (3 * j + 1))) ≡ 3 * suc j + 1 = omega arith in
     let e2 : suc (suc (suc (3 * j + 2))) ≡ 3 * suc j + 2 = omega arith in
-    triangle-at is j none (le_of_suc-le-suc h) ∙ (λ t. record { a = get_or (a ∷ b ∷ c ∷ is) (e0 t) 0; b = get_or (a ∷ b ∷ c ∷ is) (e1 t) 0; c = get_or (a ∷ b ∷ c ∷ is) (e2 t) 0 })
+    triangle_at_lem is j none (le_of_suc-le-suc h) ∙ (λ t. record { a = get_or (a ∷ b ∷ c ∷ is) (e0 t) 0; b = get_or (a ∷ b ∷ c ∷ is) (e1 t) 0; c = get_or (a ∷ b ∷ c ∷ is) (e2 t) 0 })
 
 -- Corners 3 × j, 3 × j + 1 and 3 × j + 2 are those of triangle j.
-pub corner-triangle : (v : PatchView) (j : ℕ) (none : Triangle) → j < length (trianglesOf v.indices.now)
-    → get_or (trianglesOf v.indices.now) j none ≡ record { a = cornerOf v (3 * j); b = cornerOf v (3 * j + 1); c = cornerOf v (3 * j + 2) }
-corner-triangle v j none h = triangle-at v.indices.now j none h
+pub corner_triangle : (v : PatchView) (j : ℕ) (none : Triangle) → j < length (triangles_of v.indices.now)
+    → get_or (triangles_of v.indices.now) j none ≡ record { a = corner_of v (3 * j); b = corner_of v (3 * j + 1); c = corner_of v (3 * j + 2) }
+corner_triangle v j none h = triangle_at_lem v.indices.now j none h

@@ -1,9 +1,9 @@
 // A patch read through a view of its three stretches: positions, normals and indices.
 
 ghost use Rattle.std.specs.Prelude.{◌≡◌, get_or};
-ghost use Rattle.patch_alone.specs.Answers.{measuredOf};
-ghost use Rattle.patch_alone.specs.Alone.{volumeAlone};
-ghost use Rattle.patch_view.specs.Views.{cornerOf, viewOf, volumeOf};
+ghost use Rattle.patch_alone.specs.Answers.{measured_of};
+ghost use Rattle.patch_alone.specs.Alone.{volume_alone};
+ghost use Rattle.patch_view.specs.Views.{corner_of, view_of, volume_of};
 
 use patch_alone::Measured;
 
@@ -17,7 +17,7 @@ pub struct PatchView<'a> {
 
 // The view of three stretches.
 pub fn view_of<'a>(positions: &'a [f32], normals: &'a [f32], indices: &'a [u32]) -> PatchView<'a>
-    ensures { result ≡ viewOf positions.entry normals.entry indices.entry }
+    ensures { result ≡ view_of positions.entry normals.entry indices.entry }
 {
     PatchView {
         positions,
@@ -45,7 +45,7 @@ fn index_at(indices: &[u32], i: usize) -> u32
 
 // Corner i of the patch's triangles, or 0 past the end.
 pub fn corner<'a>(v: PatchView<'a>, i: usize) -> u32
-    ensures { result ≡ cornerOf v.entry i }
+    ensures { result ≡ corner_of v.entry i }
 {
     index_at(v.indices, i)
 }
@@ -57,14 +57,14 @@ fn volume_alone<'a>(
     indices: &'a [u32],
     flip: bool,
 ) -> Measured
-    ensures { result ≡ measuredOf (volumeAlone positions.now normals.now indices.now flip) }
+    ensures { result ≡ measured_of (volume_alone positions.now normals.now indices.now flip) }
 {
     patch_alone::patch_volume_alone(positions, normals, indices, flip)
 }
 
 // The volume of the patch alone, its triangles reversed if `flip`; or the number of the check that refuses it.
 pub fn volume<'a>(v: PatchView<'a>, flip: bool) -> Measured
-    ensures { result ≡ volumeOf v.entry flip }
+    ensures { result ≡ volume_of v.entry flip }
 {
     volume_alone(v.positions, v.normals, v.indices, flip)
 }
@@ -76,7 +76,7 @@ pub fn volume_of<'a>(
     indices: &'a [u32],
     flip: bool,
 ) -> Measured
-    ensures { result ≡ measuredOf (volumeAlone positions.now normals.now indices.now flip) }
+    ensures { result ≡ measured_of (volume_alone positions.now normals.now indices.now flip) }
 {
     volume(view_of(positions, normals, indices), flip)
 }

@@ -1,10 +1,10 @@
 // The lookup: checks, then passes over the rows.
 
 ghost use Rattle.std.specs.Prelude.{◌<◌};
-ghost use Rattle.peg_definition.specs.Peg.{nearestBins};
+ghost use Rattle.peg_definition.specs.Peg.{nearest_bins};
 ghost use Rattle.peg_distance.specs.Words.{beyond};
-ghost use Rattle.peg_search.specs.Search.{BestOf, Placed, bodyHits};
-ghost use Rattle.peg.specs.Answer.{BinsListed, PegFound, Ranged, placedHits};
+ghost use Rattle.peg_search.specs.Search.{BestOf, Placed, body_hits};
+ghost use Rattle.peg.specs.Answer.{BinsListed, PegFound, Ranged, placed_hits};
 
 use crate::places::bad_places;
 use body_checks::failing_before_work;
@@ -29,9 +29,9 @@ fn listed(
     bins: &mut [u32],
 ) -> PegAnswer
     requires placed { Placed rows.now positions.now places.now peg }
-    requires best_of { BestOf (bodyHits rows.now positions.now places.now peg) best }
+    requires best_of { BestOf (body_hits rows.now positions.now places.now peg) best }
     requires square_lt_beyond { best.square < beyond }
-    ensures { BinsListed (nearestBins (bodyHits rows.now positions.now places.now peg))
+    ensures { BinsListed (nearest_bins (body_hits rows.now positions.now places.now peg))
         bins.old bins.new result }
 {
     let count = list_bins(rows, positions, places, peg, best, &mut bins[..0]);
@@ -53,7 +53,7 @@ fn placed_bins(
     bins: &mut [u32],
 ) -> PegAnswer
     requires { Ranged rows.now positions.now places.now x y z }
-    ensures { BinsListed (nearestBins (placedHits rows.now positions.now places.now x y z)) bins.old
+    ensures { BinsListed (nearest_bins (placed_hits rows.now positions.now places.now x y z)) bins.old
         bins.new result }
 {
     let peg = peg_words(x, y, z);

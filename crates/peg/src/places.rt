@@ -3,8 +3,8 @@
 ghost use Rattle.std.specs.Prelude.{◌≡◌, not, ◌*◌, ◌+◌, ◌<◌, ◌≤◌, length, take};
 ghost use Rattle.lists.specs.Lists.{any};
 ghost use Rattle.plan_definition.specs.Places.{in_range};
-ghost use Rattle.peg_definition.specs.Peg.{badPlaces, places_of};
-ghost use Rattle.peg_definition.specs.PlaceLaws.{placeAt};
+ghost use Rattle.peg_definition.specs.Peg.{bad_places, places_of};
+ghost use Rattle.peg_definition.specs.PlaceLaws.{place_at};
 ghost use Rattle.peg.specs.Answer.{at};
 
 use peg_distance::PLACE_WIDTH;
@@ -26,7 +26,7 @@ pub fn place_in_range(x: i64, y: i64, z: i64) -> bool
 // Whether the place of row k is.
 fn row_in_range(places: &[i64], k: usize) -> bool
     requires { 3 * k + 2 < length places.now }
-    ensures { result ≡ in_range (placeAt places.now k) }
+    ensures { result ≡ in_range (place_at places.now k) }
 {
     let at = PLACE_WIDTH * k;
     let x = places[at];
@@ -52,7 +52,7 @@ fn any_out_of_range(places: &[i64], n: usize) -> bool
 
 // 65, for a body of n rows.
 pub fn bad_places(places: &[i64], n: usize, x: i64, y: i64, z: i64) -> bool
-    ensures { result ≡ badPlaces (at x y z) places.now n }
+    ensures { result ≡ bad_places (at x y z) places.now n }
 {
     if !place_in_range(x, y, z) {
         return true;

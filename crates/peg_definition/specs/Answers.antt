@@ -5,6 +5,6 @@ use Rattle.peg_definition.specs.declared.PegAnswer.{PegAnswer}
 use Rattle.peg_definition.specs.declared.PegAnswer.TheVariants as PegAnswer
 
 -- how many bins, or the refusal
-unfoldable pub pegAnswer : Lookup → PegAnswer
-pegAnswer (Refused n) = PegAnswer.Refused n
-pegAnswer (Found bins) = PegAnswer.Found (length bins)
+unfoldable pub peg_answer : Lookup → PegAnswer
+peg_answer (Refused n) = PegAnswer.Refused n
+peg_answer (Found bins) = PegAnswer.Found (length bins)

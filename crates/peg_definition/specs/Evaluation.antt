@@ -2,9 +2,9 @@
 use Rattle.std.specs.Prelude.{ℕ}
 use Rattle.point_rules.specs.Evaluation as Points
 use Rattle.body_refusals.specs.Evaluation as Bodies
-use Rattle.peg_definition.specs.Peg.{rowHits, hitsOf, winners, nearestBins, places_of, badPlaces, pegChecks, binsOf, lookupOf, binsAfter}
+use Rattle.peg_definition.specs.Peg.{row_hits, hits_of, winners, nearest_bins, places_of, bad_places, peg_checks, bins_of, lookup_of, bins_after}
 
 -- every definition that computes
 unfoldable pub evaluation : ℕ
-unfolding Points.evaluation Bodies.evaluation rowHits hitsOf winners nearestBins places_of badPlaces pegChecks binsOf lookupOf binsAfter
+unfolding Points.evaluation Bodies.evaluation row_hits hits_of winners nearest_bins places_of bad_places peg_checks bins_of lookup_of bins_after
 evaluation = 0

@@ -2,8 +2,8 @@
 use Rattle.std.specs.Prelude.{Bool, not, ◌&&◌, ◌||◌, cond, List, [], ◌∷◌, ◌++◌, map, ℕ, zero, suc, ◌+◌, ◌*◌, leb, ltb, ℤ, nat_abs, ◌-ℤ◌, length, take, Float}
 use Rattle.lists.specs.Lists.{any, all, filter, ascending, written}
 use Rattle.point_rules.specs.Points.{nearest}
-use Rattle.body_rows.specs.Body.{Patch, Check, check, rows_of, patches_of, firstFailing}
-use Rattle.body_refusals.specs.BodyChecks.{beforeWork}
+use Rattle.body_rows.specs.Body.{Patch, Check, check, rows_of, patches_of, first_failing}
+use Rattle.body_refusals.specs.BodyChecks.{before_work}
 use Rattle.plan_definition.specs.Places.{Place, moved, in_range}
 
 -- ---- a vertex
@@ -29,8 +29,8 @@ abbrev pub near : Place → Place → Bool
 near peg p = leb (apart p.x peg.x) reach && (leb (apart p.y peg.y) reach && leb (apart p.z peg.z) reach)
 
 -- the sum of the squares of how far apart they are on the axes
-abbrev pub squaresSum : Place → Place → ℕ
-squaresSum peg p =
+abbrev pub squares_sum : Place → Place → ℕ
+squares_sum peg p =
     let x = apart p.x peg.x in let y = apart p.y peg.y in let z = apart p.z peg.z in x * x + y * y + z * z
 
 -- ---- those that are not ignored
@@ -41,18 +41,18 @@ pub record Hit : Type 0 where
   pub square : ℕ
 
 -- those of a row, every vertex of its three coordinates, used or not
-unfoldable pub rowHits : Place → ℕ → Place → List Float → List Hit
-rowHits peg bin place [] = []
-rowHits peg bin place (x ∷ []) = []
-rowHits peg bin place (x ∷ y ∷ []) = []
-rowHits peg bin place (x ∷ y ∷ z ∷ ps) =
-    let p = standing place x y z in let rest = rowHits peg bin place ps in cond (near peg p) (record { bin = bin; square = squaresSum peg p } ∷ rest) rest
+unfoldable pub row_hits : Place → ℕ → Place → List Float → List Hit
+row_hits peg bin place [] = []
+row_hits peg bin place (x ∷ []) = []
+row_hits peg bin place (x ∷ y ∷ []) = []
+row_hits peg bin place (x ∷ y ∷ z ∷ ps) =
+    let p = standing place x y z in let rest = row_hits peg bin place ps in cond (near peg p) (record { bin = bin; square = squares_sum peg p } ∷ rest) rest
 
 -- those of a body, with a place for each row
-unfoldable pub hitsOf : Place → List Patch → List Place → List Hit
-hitsOf peg [] places = []
-hitsOf peg (p ∷ patches) [] = []
-hitsOf peg (p ∷ patches) (q ∷ places) = rowHits peg p.row.bin q p.positions ++ hitsOf peg patches places
+unfoldable pub hits_of : Place → List Patch → List Place → List Hit
+hits_of peg [] places = []
+hits_of peg (p ∷ patches) [] = []
+hits_of peg (p ∷ patches) (q ∷ places) = row_hits peg p.row.bin q p.positions ++ hits_of peg patches places
 
 -- ---- the answer
 
@@ -61,8 +61,8 @@ unfoldable pub winners : List Hit → List Hit
 winners hits = filter (λ h. all (λ g. leb h.square g.square) hits) hits
 
 -- All bins that share it are the answer, ascending, each once.
-unfoldable pub nearestBins : List Hit → List ℕ
-nearestBins hits = ascending (map (λ h. h.bin) (winners hits))
+unfoldable pub nearest_bins : List Hit → List ℕ
+nearest_bins hits = ascending (map (λ h. h.bin) (winners hits))
 
 -- ---- the call
 
@@ -77,21 +77,21 @@ places_of (x ∷ y ∷ z ∷ ns) = record { x = x; y = y; z = z } ∷ places_of 
 abbrev pub misplaced : ℕ
 misplaced = 65
 
-abbrev pub tooManyBins : ℕ
-tooManyBins = 66
+abbrev pub too_many_bins : ℕ
+too_many_bins = 66
 
 -- 65: the peg or a row's place is outside the range, or there are fewer places than rows
-unfoldable pub badPlaces : Place → List ℤ → ℕ → Bool
-badPlaces peg list rows = not (in_range peg) || (ltb (length (places_of list)) rows || any (λ p. not (in_range p)) (take rows (places_of list)))
+unfoldable pub bad_places : Place → List ℤ → ℕ → Bool
+bad_places peg list rows = not (in_range peg) || (ltb (length (places_of list)) rows || any (λ p. not (in_range p)) (take rows (places_of list)))
 
 -- the checks of a lookup whose list has room for so many bins, of which so many are the answer
-unfoldable pub pegChecks : List ℕ → List Float → List Float → List ℕ → List ℤ → Place → ℕ → ℕ → List Check
-pegChecks table ps ns is list peg room count =
-    beforeWork table ps ns is ++ check misplaced (badPlaces peg list (length (rows_of table))) ∷ check tooManyBins (ltb room count) ∷ []
+unfoldable pub peg_checks : List ℕ → List Float → List Float → List ℕ → List ℤ → Place → ℕ → ℕ → List Check
+peg_checks table ps ns is list peg room count =
+    before_work table ps ns is ++ check misplaced (bad_places peg list (length (rows_of table))) ∷ check too_many_bins (ltb room count) ∷ []
 
 -- the bins nearest a peg, of a body whose rows have their places in a list
-unfoldable pub binsOf : List ℕ → List Float → List Float → List ℕ → List ℤ → Place → List ℕ
-binsOf table ps ns is list peg = nearestBins (hitsOf peg (patches_of (rows_of table) ps ns is) (places_of list))
+unfoldable pub bins_of : List ℕ → List Float → List Float → List ℕ → List ℤ → Place → List ℕ
+bins_of table ps ns is list peg = nearest_bins (hits_of peg (patches_of (rows_of table) ps ns is) (places_of list))
 
 -- what a lookup comes to
 pub data Lookup : Type 0 where
@@ -99,12 +99,12 @@ pub data Lookup : Type 0 where
   Found : List ℕ → Lookup
 
 -- what it is, with a list that has room for so many bins
-unfoldable pub lookupOf : List ℕ → List Float → List Float → List ℕ → List ℤ → Place → ℕ → Lookup
-lookupOf table ps ns is list peg room =
-    let bins = binsOf table ps ns is list peg in
-    elim (firstFailing (pegChecks table ps ns is list peg room (length bins))) [ zero ↦ Found bins | suc n ↦ Refused (suc n) ]
+unfoldable pub lookup_of : List ℕ → List Float → List Float → List ℕ → List ℤ → Place → ℕ → Lookup
+lookup_of table ps ns is list peg room =
+    let bins = bins_of table ps ns is list peg in
+    elim (first_failing (peg_checks table ps ns is list peg room (length bins))) [ zero ↦ Found bins | suc n ↦ Refused (suc n) ]
 
 -- what it leaves of the list: the bins in front, or all as it was
-unfoldable pub binsAfter : Lookup → List ℕ → List ℕ
-binsAfter (Refused n) old = old
-binsAfter (Found bins) old = written bins old
+unfoldable pub bins_after : Lookup → List ℕ → List ℕ
+bins_after (Refused n) old = old
+bins_after (Found bins) old = written bins old

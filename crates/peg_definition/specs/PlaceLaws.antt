@@ -5,18 +5,18 @@ use Rattle.plan_definition.specs.Places.{Place}
 use Rattle.peg_definition.specs.Peg.{places_of}
 
 -- the place of row k
-abbrev pub placeAt : List ℤ → ℕ → Place
-placeAt list k = record { x = get_or list (3 * k) (pos 0); y = get_or list (3 * k + 1) (pos 0); z = get_or list (3 * k + 2) (pos 0) }
+abbrev pub place_at : List ℤ → ℕ → Place
+place_at list k = record { x = get_or list (3 * k) (pos 0); y = get_or list (3 * k + 1) (pos 0); z = get_or list (3 * k + 2) (pos 0) }
 
 -- the places of a list from row k's on begin with it
-pub places-here : (list : List ℤ) (k : ℕ) → 3 * k + 2 < length list → drop k (places_of list) ≡ placeAt list k ∷ drop (suc k) (places_of list)
+pub places_here : (list : List ℤ) (k : ℕ) → 3 * k + 2 < length list → drop k (places_of list) ≡ place_at list k ∷ drop (suc k) (places_of list)
 unfolding places_of
-places-here [] k h = absurd (omega arith)
-places-here (x ∷ []) k h = absurd (omega arith)
-places-here (x ∷ y ∷ []) k h = absurd (omega arith)
-places-here (x ∷ y ∷ z ∷ ns) zero h = refl
-places-here (x ∷ y ∷ z ∷ ns) (suc k) h =
-    places-here ns k (omega arith)
+places_here [] k h = absurd (omega arith)
+places_here (x ∷ []) k h = absurd (omega arith)
+places_here (x ∷ y ∷ []) k h = absurd (omega arith)
+places_here (x ∷ y ∷ z ∷ ns) zero h = refl
+places_here (x ∷ y ∷ z ∷ ns) (suc k) h =
+    places_here ns k (omega arith)
     ∙ ap (λ (p : Place). p ∷ drop (suc k) (places_of ns)) (λ j. record { x = get_or (x ∷ y ∷ z ∷ ns) (e0 j) (pos 0); y = get_or (x ∷ y ∷ z ∷ ns) (e1 j) (pos 0); z = get_or (x ∷ y ∷ z ∷ ns) (e2 j) (pos 0) })
   where
     e0 : suc (suc (suc (3 * k))) ≡ 3 * suc k
@@ -29,9 +29,9 @@ places-here (x ∷ y ∷ z ∷ ns) (suc k) h =
     e2 = omega arith
 
 -- three numbers are a place
-pub places-length : (list : List ℤ) → length (places_of list) ≡ length list / 3
+pub places_length : (list : List ℤ) → length (places_of list) ≡ length list / 3
 unfolding places_of
-places-length [] = refl
-places-length (x ∷ []) = refl
-places-length (x ∷ y ∷ []) = refl
-places-length (x ∷ y ∷ z ∷ ns) = let e = places-length ns in omega arith
+places_length [] = refl
+places_length (x ∷ []) = refl
+places_length (x ∷ y ∷ []) = refl
+places_length (x ∷ y ∷ z ∷ ns) = let e = places_length ns in omega arith

@@ -17,29 +17,29 @@ use Rattle.signed_numbers.specs.Linear.{up, down, alone, abs, plus, minus}
 use Rattle.point_rules.specs.Points.{nearest}
 use Rattle.point_cell.specs.Scale.{NearestWord, Scale}
 use Rattle.peg_definition.specs.Peg.{micrometres, reach}
-use Rattle.peg_distance.specs.Words.{Aimed, InReach, Squared, apartFrom, beyond, leastTo, middle, squareTo}
+use Rattle.peg_distance.specs.Words.{Aimed, InReach, Squared, apart_from, beyond, least_to, middle, square_to}
 use Rattle.peg_distance.specs.declared.target.Target.{Target}
 
 -- ---- a coordinate
 
 -- one shift rounds it
-pub peg-scale : (factor : ℕ) → 1 ≤ factor → factor ≤ 1000000 → Scale factor middle
-peg-scale factor l h = record { few = h; low = lit≤ tt; top = omega arith }
+pub peg_scale : (factor : ℕ) → 1 ≤ factor → factor ≤ 1000000 → Scale factor middle
+peg_scale factor l h = record { few = h; low = lit≤ tt; top = omega arith }
 
 -- what stands for a distance is the distance, or both are beyond the reach
 told_same : (p a : ℕ) → p ≡ a → min p (suc reach) ≡ min a (suc reach)
 told_same p a e = ap (λ (n : ℕ). min n (suc reach)) e
 
-told-far : (p a : ℕ) → reach < p → reach < a → min p (suc reach) ≡ min a (suc reach)
-told-far p a h l = omega arith
+told_far : (p a : ℕ) → reach < p → reach < a → min p (suc reach) ≡ min a (suc reach)
+told_far p a h l = omega arith
 
 -- a number whose word is exact
 near_word : (w u d : ℕ) → w + min d middle ≡ middle + min u middle → u + d ≤ middle → w + d ≡ middle + u
 near_word w u d e h = omega arith
 
 -- and one farther out: its word is at an end
-far-word : (w u d : ℕ) → w + min d middle ≡ middle + min u middle → min u d ≡ 0 → middle < u + d → (w ≡ 0) ⊎ (w ≡ 2 * middle)
-far-word w u d e a h = go (leb u d) refl
+far_word : (w u d : ℕ) → w + min d middle ≡ middle + min u middle → min u d ≡ 0 → middle < u + d → (w ≡ 0) ⊎ (w ≡ 2 * middle)
+far_word w u d e a h = go (leb u d) refl
   where
     go : (b : Bool) → leb u d ≡ b → (w ≡ 0) ⊎ (w ≡ 2 * middle)
     go true q = let l : u ≤ d = leb-true u d q in let z : u ≡ 0 = omega arith in inl (omega arith)
@@ -64,103 +64,103 @@ module _ (v : Float) (t w : ℕ) (near : InReach t) (e : NearestWord micrometres
   exact_above h l = omega (arith, sides, abs z, alone z, near_word w (up m) (down m) e.is h)
 
   -- far
-  far-both : middle < up m + down m → reach < nat_abs z
-  far-both h = omega (arith, sides, abs z, alone z, alone m, near.low, near.high)
+  far_both : middle < up m + down m → reach < nat_abs z
+  far_both h = omega (arith, sides, abs z, alone z, alone m, near.low, near.high)
 
-  far-below : middle < up m + down m → w < t → reach < t - w
-  far-below h l = go (far-word w (up m) (down m) e.is (alone m) h)
+  far_below : middle < up m + down m → w < t → reach < t - w
+  far_below h l = go (far_word w (up m) (down m) e.is (alone m) h)
     where
       go : (w ≡ 0) ⊎ (w ≡ 2 * middle) → reach < t - w
       go (inl q) = omega (arith, near.low)
       go (inr q) = absurd (omega (arith, near.high))
 
-  far-above : middle < up m + down m → t ≤ w → reach < w - t
-  far-above h l = go (far-word w (up m) (down m) e.is (alone m) h)
+  far_above : middle < up m + down m → t ≤ w → reach < w - t
+  far_above h l = go (far_word w (up m) (down m) e.is (alone m) h)
     where
       go : (w ≡ 0) ⊎ (w ≡ 2 * middle) → reach < w - t
       go (inl q) = absurd (omega (arith, near.low))
       go (inr q) = omega (arith, near.high)
 
-  pub apart_below : w < t → min (t - w) (suc reach) ≡ min (apartFrom t v) (suc reach)
+  pub apart_below : w < t → min (t - w) (suc reach) ≡ min (apart_from t v) (suc reach)
   apart_below h = go (leb (up m + down m) middle) refl
     where
       go : (b : Bool) → leb (up m + down m) middle ≡ b → min (t - w) (suc reach) ≡ min (nat_abs z) (suc reach)
       go true q = told_same (t - w) (nat_abs z) (exact_below (leb-true (up m + down m) middle q) h)
-      go false q = let l = leb-false (up m + down m) middle q in told-far (t - w) (nat_abs z) (far-below l h) (far-both l)
+      go false q = let l = leb-false (up m + down m) middle q in told_far (t - w) (nat_abs z) (far_below l h) (far_both l)
 
-  pub apart_above : t ≤ w → min (w - t) (suc reach) ≡ min (apartFrom t v) (suc reach)
+  pub apart_above : t ≤ w → min (w - t) (suc reach) ≡ min (apart_from t v) (suc reach)
   apart_above h = go (leb (up m + down m) middle) refl
     where
       go : (b : Bool) → leb (up m + down m) middle ≡ b → min (w - t) (suc reach) ≡ min (nat_abs z) (suc reach)
       go true q = told_same (w - t) (nat_abs z) (exact_above (leb-true (up m + down m) middle q) h)
-      go false q = let l = leb-false (up m + down m) middle q in told-far (w - t) (nat_abs z) (far-above l h) (far-both l)
+      go false q = let l = leb-false (up m + down m) middle q in told_far (w - t) (nat_abs z) (far_above l h) (far_both l)
 
 -- ---- a square
-few-square : (x : ℕ) → x ≤ reach → x * x ≤ reach * reach
-few-square x h = mul-le-mul {n₁ = x} {m₁ = x} {n₂ = reach} {m₂ = reach} h h
+few_square : (x : ℕ) → x ≤ reach → x * x ≤ reach * reach
+few_square x h = mul-le-mul {n₁ = x} {m₁ = x} {n₂ = reach} {m₂ = reach} h h
 
-pub square-fits : (x : ℕ) → x ≤ reach → x * x < 18446744073709551616
-square-fits x h = lt_of_le_of_lt (few-square x h) (lit< tt)
+pub square_fits : (x : ℕ) → x ≤ reach → x * x < 18446744073709551616
+square_fits x h = lt_of_le_of_lt (few_square x h) (lit< tt)
 
-pub squared-is : (x : ℕ) → x ≤ reach → Squared x (x * x)
-squared-is x h = record { is = refl; few = few-square x h }
+pub squared_is : (x : ℕ) → x ≤ reach → Squared x (x * x)
+squared_is x h = record { is = refl; few = few_square x h }
 
 -- ---- a vertex
 
 -- a distance told within the reach is the distance, and one told beyond it is beyond it
-told-near : (p a : ℕ) → min p (suc reach) ≡ min a (suc reach) → p ≤ reach → p ≡ a
-told-near p a e h = omega arith
+told_near : (p a : ℕ) → min p (suc reach) ≡ min a (suc reach) → p ≤ reach → p ≡ a
+told_near p a e h = omega arith
 
-told-beyond : (p a : ℕ) → min p (suc reach) ≡ min a (suc reach) → reach < p → leb a reach ≡ false
-told-beyond p a e h = lt-leb a reach (omega arith)
+told_beyond : (p a : ℕ) → min p (suc reach) ≡ min a (suc reach) → reach < p → leb a reach ≡ false
+told_beyond p a e h = lt-leb a reach (omega arith)
 
-told-within : (p a : ℕ) → min p (suc reach) ≡ min a (suc reach) → p ≤ reach → leb a reach ≡ true
-told-within p a e h = le-leb a reach (omega arith)
+told_within : (p a : ℕ) → min p (suc reach) ≡ min a (suc reach) → p ≤ reach → leb a reach ≡ true
+told_within p a e h = le-leb a reach (omega arith)
 
 -- its square
-told-square : (p a p² : ℕ) → min p (suc reach) ≡ min a (suc reach) → p ≤ reach → Squared p p² → p² ≡ a * a
-told-square p a p² e h s = s.is ∙ (λ i. told-near p a e h i * told-near p a e h i)
+told_square : (p a p² : ℕ) → min p (suc reach) ≡ min a (suc reach) → p ≤ reach → Squared p p² → p² ≡ a * a
+told_square p a p² e h s = s.is ∙ (λ i. told_near p a e h i * told_near p a e h i)
 
-module _ (t : Target) (x y z : Float) (p : ℕ) (ep : min p (suc reach) ≡ min (apartFrom t.x x) (suc reach)) where
-  pub far-x : reach < p → beyond ≡ squareTo t x y z
-  unfolding squareTo
-  far-x h = rw (told-beyond p (apartFrom t.x x) ep h)
+module _ (t : Target) (x y z : Float) (p : ℕ) (ep : min p (suc reach) ≡ min (apart_from t.x x) (suc reach)) where
+  pub far_x : reach < p → beyond ≡ square_to t x y z
+  unfolding square_to
+  far_x h = rw (told_beyond p (apart_from t.x x) ep h)
 
-  module _ (hp : p ≤ reach) (q : ℕ) (eq : min q (suc reach) ≡ min (apartFrom t.y y) (suc reach)) where
-    pub far-y : reach < q → beyond ≡ squareTo t x y z
-    unfolding squareTo
-    far-y h = rw (told-within p (apartFrom t.x x) ep hp, told-beyond q (apartFrom t.y y) eq h)
+  module _ (hp : p ≤ reach) (q : ℕ) (eq : min q (suc reach) ≡ min (apart_from t.y y) (suc reach)) where
+    pub far_y : reach < q → beyond ≡ square_to t x y z
+    unfolding square_to
+    far_y h = rw (told_within p (apart_from t.x x) ep hp, told_beyond q (apart_from t.y y) eq h)
 
-    module _ (hq : q ≤ reach) (r : ℕ) (er : min r (suc reach) ≡ min (apartFrom t.z z) (suc reach)) where
-      pub far-z : reach < r → beyond ≡ squareTo t x y z
-      unfolding squareTo
-      far-z h = rw (told-within p (apartFrom t.x x) ep hp, told-within q (apartFrom t.y y) eq hq, told-beyond r (apartFrom t.z z) er h)
+    module _ (hq : q ≤ reach) (r : ℕ) (er : min r (suc reach) ≡ min (apart_from t.z z) (suc reach)) where
+      pub far_z : reach < r → beyond ≡ square_to t x y z
+      unfolding square_to
+      far_z h = rw (told_within p (apart_from t.x x) ep hp, told_within q (apart_from t.y y) eq hq, told_beyond r (apart_from t.z z) er h)
 
-      pub square-sum : {p² q² r² : ℕ} → r ≤ reach → Squared p p² → Squared q q² → Squared r r² → p² + q² + r² ≡ squareTo t x y z
-      unfolding squareTo
-      square-sum {p²} {q²} {r²} hr sp sq sr =
-          (λ i. told-square p (apartFrom t.x x) p² ep hp sp i + told-square q (apartFrom t.y y) q² eq hq sq i + told-square r (apartFrom t.z z) r² er hr sr i)
-          ∙ rw (told-within p (apartFrom t.x x) ep hp, told-within q (apartFrom t.y y) eq hq, told-within r (apartFrom t.z z) er hr)
+      pub square_sum : {p² q² r² : ℕ} → r ≤ reach → Squared p p² → Squared q q² → Squared r r² → p² + q² + r² ≡ square_to t x y z
+      unfolding square_to
+      square_sum {p²} {q²} {r²} hr sp sq sr =
+          (λ i. told_square p (apart_from t.x x) p² ep hp sp i + told_square q (apart_from t.y y) q² eq hq sq i + told_square r (apart_from t.z z) r² er hr sr i)
+          ∙ rw (told_within p (apart_from t.x x) ep hp, told_within q (apart_from t.y y) eq hq, told_within r (apart_from t.z z) er hr)
 
 -- ---- a row
 
 -- the vertex at k, and those behind it
-least-next : (t : Target) (ps : List Float) (k : ℕ) → k + 2 < length ps
-    → leastTo t (drop k ps) ≡ min (squareTo t (get_or ps k nan) (get_or ps (k + 1) nan) (get_or ps (k + 2) nan)) (leastTo t (drop (k + 3) ps))
-unfolding leastTo
-least-next t ps k h =
+least_next : (t : Target) (ps : List Float) (k : ℕ) → k + 2 < length ps
+    → least_to t (drop k ps) ≡ min (square_to t (get_or ps k nan) (get_or ps (k + 1) nan) (get_or ps (k + 2) nan)) (least_to t (drop (k + 3) ps))
+unfolding least_to
+least_next t ps k h =
     simp towards_suc
-    (ap (leastTo t)
+    (ap (least_to t)
     (drop-cons ps k nan (omega arith)
     ∙ ap (λ (l : List Float). get_or ps k nan ∷ l) (drop-cons ps (suc k) nan (omega arith) ∙ ap (λ (l : List Float). get_or ps (suc k) nan ∷ l) (drop-cons ps (suc (suc k)) nan (omega arith)))))
 
 -- fewer than three coordinates are no vertex
-least-end : (t : Target) (ps : List Float) → length ps < 3 → leastTo t ps ≡ beyond
-unfolding leastTo
-least-end t [] h = refl
-least-end t (x ∷ []) h = refl
-least-end t (x ∷ y ∷ []) h = refl
-least-end t (x ∷ y ∷ z ∷ ps) h = absurd (no (length ps) h)
+least_end : (t : Target) (ps : List Float) → length ps < 3 → least_to t ps ≡ beyond
+unfolding least_to
+least_end t [] h = refl
+least_end t (x ∷ []) h = refl
+least_end t (x ∷ y ∷ []) h = refl
+least_end t (x ∷ y ∷ z ∷ ps) h = absurd (no (length ps) h)
   where
     no : (n : ℕ) → suc (suc (suc n)) < 3 → ⊥
     no n l = omega arith
@@ -170,28 +170,28 @@ pub record Lessening (t : Target) (ps : List Float) (n k least : ℕ) : Type 0 w
   pub all : n ≡ length ps
   pub low : k ≤ n
   pub few : least ≤ beyond
-  pub rest : min least (leastTo t (drop k ps)) ≡ leastTo t ps
+  pub rest : min least (least_to t (drop k ps)) ≡ least_to t ps
 
 -- no vertex that counts has more than that
-least-few : (t : Target) (ps : List Float) → leastTo t ps ≤ beyond
-unfolding leastTo
-least-few t [] = omega arith
-least-few t (x ∷ []) = omega arith
-least-few t (x ∷ y ∷ []) = omega arith
-least-few t (x ∷ y ∷ z ∷ ps) = let h = least-few t ps in omega arith
+least_few : (t : Target) (ps : List Float) → least_to t ps ≤ beyond
+unfolding least_to
+least_few t [] = omega arith
+least_few t (x ∷ []) = omega arith
+least_few t (x ∷ y ∷ []) = omega arith
+least_few t (x ∷ y ∷ z ∷ ps) = let h = least_few t ps in omega arith
 
-pub least-none : (t : Target) (ps : List Float) {n : ℕ} → n ≡ length ps → Lessening t ps n 0 beyond
-least-none t ps e = record { all = e; low = omega arith; few = omega arith; rest = let h = least-few t ps in omega arith }
+pub least_none : (t : Target) (ps : List Float) {n : ℕ} → n ≡ length ps → Lessening t ps n 0 beyond
+least_none t ps e = record { all = e; low = omega arith; few = omega arith; rest = let h = least_few t ps in omega arith }
 
 module _ (t : Target) (ps : List Float) (n k least s : ℕ) (v : Lessening t ps n k least) (h : 3 ≤ n - k)
-    (e : s ≡ squareTo t (get_or ps k nan) (get_or ps (k + 1) nan) (get_or ps (k + 2) nan)) where
+    (e : s ≡ square_to t (get_or ps k nan) (get_or ps (k + 1) nan) (get_or ps (k + 2) nan)) where
   pub least_more : {r : ℕ} → r ≡ min s least → Lessening t ps n (k + 3) r
   least_more q = record {
     all = v.all;
     low = omega arith;
     few = omega (arith, v.few);
-    rest = omega (arith, e, v.rest, least-next t ps k (omega (arith, v.all)));
+    rest = omega (arith, e, v.rest, least_next t ps k (omega (arith, v.all)));
   }
 
-pub least-all : (t : Target) (ps : List Float) (n k least : ℕ) → Lessening t ps n k least → n - k < 3 → least ≡ leastTo t ps
-least-all t ps n k least v h = omega (arith, v.rest, v.few, least-end t (drop k ps) (simp length-drop (omega (arith, v.all))))
+pub least_all : (t : Target) (ps : List Float) (n k least : ℕ) → Lessening t ps n k least → n - k < 3 → least ≡ least_to t ps
+least_all t ps n k least v h = omega (arith, v.rest, v.few, least_end t (drop k ps) (simp length-drop (omega (arith, v.all))))

@@ -19,30 +19,30 @@ beyond = 75000001
 
 -- the words of a peg that stands at x, y, z, which is in range
 pub record PegAt (x y z : ℤ) (r : PegWords) : Type 0 where
-  pub on-x : pos r.x ≡ x +ℤ pos farthest
-  pub on-y : pos r.y ≡ y +ℤ pos farthest
-  pub on-z : pos r.z ≡ z +ℤ pos farthest
-  pub x-range : nat_abs x ≤ farthest
-  pub y-range : nat_abs y ≤ farthest
-  pub z-range : nat_abs z ≤ farthest
+  pub on_x : pos r.x ≡ x +ℤ pos farthest
+  pub on_y : pos r.y ≡ y +ℤ pos farthest
+  pub on_z : pos r.z ≡ z +ℤ pos farthest
+  pub x_range : nat_abs x ≤ farthest
+  pub y_range : nat_abs y ≤ farthest
+  pub z_range : nat_abs z ≤ farthest
 
 -- ---- the peg less a place
 
 -- number i of the places and the peg's word on that axis are in range
 pub record AxisRange (places : List ℤ) (i peg : ℕ) : Type 0 where
   pub there : i < length places
-  pub place-range : nat_abs (get_or places i (pos 0)) ≤ farthest
-  pub peg-range : peg ≤ 2 * farthest
+  pub place_range : nat_abs (get_or places i (pos 0)) ≤ farthest
+  pub peg_range : peg ≤ 2 * farthest
 
 -- so is the place of row k
 pub record RowRange (places : List ℤ) (k : ℕ) (peg : PegWords) : Type 0 where
   pub there : 3 * k + 2 < length places
-  pub on-x : nat_abs (get_or places (3 * k) (pos 0)) ≤ farthest
-  pub on-y : nat_abs (get_or places (3 * k + 1) (pos 0)) ≤ farthest
-  pub on-z : nat_abs (get_or places (3 * k + 2) (pos 0)) ≤ farthest
-  pub peg-x : peg.x ≤ 2 * farthest
-  pub peg-y : peg.y ≤ 2 * farthest
-  pub peg-z : peg.z ≤ 2 * farthest
+  pub on_x : nat_abs (get_or places (3 * k) (pos 0)) ≤ farthest
+  pub on_y : nat_abs (get_or places (3 * k + 1) (pos 0)) ≤ farthest
+  pub on_z : nat_abs (get_or places (3 * k + 2) (pos 0)) ≤ farthest
+  pub peg_x : peg.x ≤ 2 * farthest
+  pub peg_y : peg.y ≤ 2 * farthest
+  pub peg_z : peg.z ≤ 2 * farthest
 
 -- a target that a peg and a place in range may have
 pub record InReach (t : ℕ) : Type 0 where
@@ -56,21 +56,21 @@ pub record AxisAim (places : List ℤ) (i peg r : ℕ) : Type 0 where
 
 -- a target on three axes
 pub record Aimed (t : Target) : Type 0 where
-  pub on-x : InReach t.x
-  pub on-y : InReach t.y
-  pub on-z : InReach t.z
+  pub on_x : InReach t.x
+  pub on_y : InReach t.y
+  pub on_z : InReach t.z
 
 -- r is the peg less the place of row k
 pub record RowAim (places : List ℤ) (k : ℕ) (peg : PegWords) (r : Target) : Type 0 where
-  pub on-x : AxisAim places (3 * k) peg.x r.x
-  pub on-y : AxisAim places (3 * k + 1) peg.y r.y
-  pub on-z : AxisAim places (3 * k + 2) peg.z r.z
+  pub on_x : AxisAim places (3 * k) peg.x r.x
+  pub on_y : AxisAim places (3 * k + 1) peg.y r.y
+  pub on_z : AxisAim places (3 * k + 2) peg.z r.z
 
 -- ---- a row's vertices
 
 -- how far a coordinate is from a target on its axis
-abbrev pub apartFrom : ℕ → Float → ℕ
-apartFrom t v = nat_abs ((nearest micrometres v +ℤ pos middle) -ℤ pos t)
+abbrev pub apart_from : ℕ → Float → ℕ
+apart_from t v = nat_abs ((nearest micrometres v +ℤ pos middle) -ℤ pos t)
 
 -- r is the square of a distance within the reach
 pub record Squared (x r : ℕ) : Type 0 where
@@ -78,13 +78,13 @@ pub record Squared (x r : ℕ) : Type 0 where
   pub few : r ≤ reach * reach
 
 -- the sum of squares of a vertex, or more than any that counts if it is ignored
-unfoldable pub squareTo : Target → Float → Float → Float → ℕ
-squareTo t x y z =
-    let a = apartFrom t.x x in let b = apartFrom t.y y in let c = apartFrom t.z z in cond (leb a reach && (leb b reach && leb c reach)) (a * a + b * b + c * c) beyond
+unfoldable pub square_to : Target → Float → Float → Float → ℕ
+square_to t x y z =
+    let a = apart_from t.x x in let b = apart_from t.y y in let c = apart_from t.z z in cond (leb a reach && (leb b reach && leb c reach)) (a * a + b * b + c * c) beyond
 
 -- the smallest of some vertices
-unfoldable pub leastTo : Target → List Float → ℕ
-leastTo t [] = beyond
-leastTo t (x ∷ []) = beyond
-leastTo t (x ∷ y ∷ []) = beyond
-leastTo t (x ∷ y ∷ z ∷ ps) = min (squareTo t x y z) (leastTo t ps)
+unfoldable pub least_to : Target → List Float → ℕ
+least_to t [] = beyond
+least_to t (x ∷ []) = beyond
+least_to t (x ∷ y ∷ []) = beyond
+least_to t (x ∷ y ∷ z ∷ ps) = min (square_to t x y z) (least_to t ps)

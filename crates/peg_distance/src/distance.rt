@@ -3,7 +3,7 @@
 ghost use Rattle.std.specs.Prelude.{◌≡◌, ◌+◌, ◌≤◌, ◌<◌, min, suc, get_or, length};
 ghost use Rattle.std.specs.Float.{nan};
 ghost use Rattle.peg_definition.specs.Peg.{reach};
-ghost use Rattle.peg_distance.specs.Words.{Aimed, InReach, Squared, apartFrom, leastTo, squareTo};
+ghost use Rattle.peg_distance.specs.Words.{Aimed, InReach, Squared, apart_from, least_to, square_to};
 
 use crate::target::{MIDDLE, Target};
 use point_cell::nearest_word;
@@ -20,7 +20,7 @@ pub const BEYOND: u64 = 75_000_001;
 // How far a coordinate is from the target on its axis; beyond the reach it may be told nearer, but not within.
 fn apart(v: f32, target: u64) -> u64
     requires { InReach target }
-    ensures { min result (suc reach) ≡ min (apartFrom target v) (suc reach) }
+    ensures { min result (suc reach) ≡ min (apart_from target v) (suc reach) }
 {
     let w = nearest_word(v, MICROMETRES, MIDDLE);
     if w < target { target - w } else { w - target }
@@ -38,7 +38,7 @@ fn squared(x: u64) -> u64
 fn square_at(positions: &[f32], k: usize, target: Target) -> u64
     requires k_in_bounds { k + 2 < length positions.now }
     requires aimed { Aimed target }
-    ensures { result ≡ squareTo target (get_or positions.now k nan) (get_or positions.now (k + 1) nan)
+    ensures { result ≡ square_to target (get_or positions.now k nan) (get_or positions.now (k + 1) nan)
         (get_or positions.now (k + 2) nan) }
 {
     let x = apart(positions[k], target.x);
@@ -66,7 +66,7 @@ fn lesser(a: u64, b: u64) -> u64
 // The smallest sum of squares of a row's vertices, `BEYOND` if all are ignored.
 pub fn row_least(positions: &[f32], target: Target) -> u64
     requires { Aimed target }
-    ensures { result ≡ leastTo target positions.now }
+    ensures { result ≡ least_to target positions.now }
 {
     let mut least = BEYOND;
     let mut k = 0usize;

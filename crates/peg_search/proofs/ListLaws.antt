@@ -13,30 +13,30 @@ use lib.ListN.{length, set, length-append}
 use lib.Seq.{sets}
 use Rattle.lists.specs.Lists.{filter, written}
 use Rattle.lists.specs.Members.{Has}
-use Rattle.lists.specs.Rising.{Rising, rising-all, rising-from, rising_none}
-use Rattle.slice_append.specs.Appended.{Appended, appended-none, appended-sets, appended-written, behind}
-use Rattle.body_refusals.specs.TableChecks.{mostBin}
-use Rattle.peg_definition.specs.Peg.{Hit, nearestBins}
-use Rattle.peg_definition.specs.Nearest.{nearest-bins}
+use Rattle.lists.specs.Rising.{Rising, rising_all, rising_from, rising_none}
+use Rattle.slice_append.specs.Appended.{Appended, appended_none, appended_sets, appended_written, behind}
+use Rattle.body_refusals.specs.TableChecks.{most_bin}
+use Rattle.peg_definition.specs.Peg.{Hit, nearest_bins}
+use Rattle.peg_definition.specs.Nearest.{nearest_bins_lem}
 use Rattle.peg_distance.specs.Words.{beyond}
-use Rattle.peg_search.specs.Hits.{Ties, leastOf, listed-ties, ties-listed}
-use Rattle.peg_search.specs.Search.{BestOf, BinPut, BinTies, Listed, NextBin, OneListed, Placed, bodyHits, noBin}
+use Rattle.peg_search.specs.Hits.{Ties, least_of, listed_ties, ties_listed}
+use Rattle.peg_search.specs.Search.{BestOf, BinPut, BinTies, Listed, NextBin, OneListed, Placed, body_hits, no_bin}
 use Rattle.peg_distance.specs.declared.target.PegWords.{PegWords}
-use Rattle.peg_search.proofs.RowLaws.{OfRow, ties-row}
+use Rattle.peg_search.proofs.RowLaws.{OfRow, ties_row}
 use Rattle.peg_search.specs.declared.best.Best.{Best}
 
 -- the smallest sum of squares is the best's
-pub least-is : (hits : List Hit) (best : Best) → BestOf hits best → best.square ≡ leastOf hits
-least-is hits best o = o.least
+pub least_is : (hits : List Hit) (best : Best) → BestOf hits best → best.square ≡ least_of hits
+least_is hits best o = o.least
 
 -- a bin put behind those that a list has
-put-behind : (done E W new : List ℕ) (i n : ℕ) → i ≡ length done → length W ≡ length E → BinPut W i n new → i + 1 ≤ length E → Appended 0 done E W → Appended 0 (done ++ n ∷ []) E new
-put-behind done E W new i n e l p h a = behind a (sym e) (appended-sets {o = i} {xs = n ∷ []} {out = W} {new = new} (omega arith) (p.inside (omega arith)))
+put_behind : (done E W new : List ℕ) (i n : ℕ) → i ≡ length done → length W ≡ length E → BinPut W i n new → i + 1 ≤ length E → Appended 0 done E W → Appended 0 (done ++ n ∷ []) E new
+put_behind done E W new i n e l p h a = behind a (sym e) (appended_sets {o = i} {xs = n ∷ []} {out = W} {new = new} (omega arith) (p.inside (omega arith)))
 
 -- i bins stand in the list, those below b
 pub record Listing (hits : List Hit) (best : Best) (E W : List ℕ) (b i : ℕ) : Type 0 where
   pub done : List ℕ
-  pub split : done ++ filter (leb b) (nearestBins hits) ≡ nearestBins hits
+  pub split : done ++ filter (leb b) (nearest_bins hits) ≡ nearest_bins hits
   pub count : i ≡ length done
   pub few : i ≤ b
   pub last : b ≤ best.high
@@ -50,8 +50,8 @@ one_kept hits s bin i E t v q = record { tells = t; ties = v; put = λ z. absurd
     no : false ≡ true → ⊥
     no z = let y : ◌≡◌ {A = ℕ} 0 1 = cc in omega arith
 
-pub one-put : (hits : List Hit) (s bin i : ℕ) (E W : List ℕ) (t : Bool) → BinTies hits s bin t → not t ≡ false → BinPut E i bin W → OneListed hits s bin E W i (i + 1)
-one-put hits s bin i E W t v q p = record { tells = t; ties = v; put = λ z. (p, refl); kept = λ z. absurd (no (sym (not-false t q) ∙ z)) }
+pub one_put : (hits : List Hit) (s bin i : ℕ) (E W : List ℕ) (t : Bool) → BinTies hits s bin t → not t ≡ false → BinPut E i bin W → OneListed hits s bin E W i (i + 1)
+one_put hits s bin i E W t v q p = record { tells = t; ties = v; put = λ z. (p, refl); kept = λ z. absurd (no (sym (not-false t q) ∙ z)) }
   where
     no : true ≡ false → ⊥
     no z = let y : ◌≡◌ {A = ℕ} 0 1 = cc in omega arith
@@ -70,71 +70,71 @@ skipped a b (x ∷ xs) l f = go (leb a x) refl (leb b x) refl (skipped a b xs l 
     go false p true q e = absurd (let y = leb-false a x p in let z = leb-true b x q in omega arith)
 
 module _ (hits : List Hit) (best : Best) (o : BestOf hits best) (h : best.square < beyond) where
-  small : leastOf hits < beyond
+  small : least_of hits < beyond
   small = omega (arith, o.least)
 
   -- a listed bin shares the smallest sum of squares, and the other way round
-  has-ties : (b : ℕ) → Has b (nearestBins hits) → Ties best.square b hits
-  has-ties b m = subst (λ (n : ℕ). Ties n b hits) (sym o.least) (listed-ties b hits m small)
+  has_ties : (b : ℕ) → Has b (nearest_bins hits) → Ties best.square b hits
+  has_ties b m = subst (λ (n : ℕ). Ties n b hits) (sym o.least) (listed_ties b hits m small)
 
-  ties-has : (b : ℕ) → Ties best.square b hits → Has b (nearestBins hits)
-  ties-has b t = ties-listed b hits (subst (λ (n : ℕ). Ties n b hits) o.least t)
+  ties_has : (b : ℕ) → Ties best.square b hits → Has b (nearest_bins hits)
+  ties_has b t = ties_listed b hits (subst (λ (n : ℕ). Ties n b hits) o.least t)
 
-  rises : Rising 0 (nearestBins hits)
-  rises = (nearest-bins hits).rising
+  rises : Rising 0 (nearest_bins hits)
+  rises = (nearest_bins_lem hits).rising
 
   -- from a listed bin on, the list begins with it
-  from-bin : (b : ℕ) → Has b (nearestBins hits) → filter (leb b) (nearestBins hits) ≡ b ∷ filter (leb (suc b)) (nearestBins hits)
-  from-bin b m = rising-from b b 0 (nearestBins hits) rises m (omega arith) (λ y k n. k)
+  from_bin : (b : ℕ) → Has b (nearest_bins hits) → filter (leb b) (nearest_bins hits) ≡ b ∷ filter (leb (suc b)) (nearest_bins hits)
+  from_bin b m = rising_from b b 0 (nearest_bins hits) rises m (omega arith) (λ y k n. k)
 
   -- the lowest is the first
   pub listing_none : (E : List ℕ) → Listing hits best E E best.low 0
   listing_none E = record {
     done = [];
     split =
-        sym (skipped 0 best.low (nearestBins hits) (omega arith) (λ y p q m. absurd (let k = (o.between y (has-ties y m)).0 in omega arith)))
-        ∙ rising-all 0 0 (nearestBins hits) (omega arith) rises;
+        sym (skipped 0 best.low (nearest_bins hits) (omega arith) (λ y p q m. absurd (let k = (o.between y (has_ties y m)).0 in omega arith)))
+        ∙ rising_all 0 0 (nearest_bins hits) (omega arith) rises;
     count = refl;
     few = omega arith;
     last = o.order;
     long = refl;
-    put = λ k. appended-none 0 E;
+    put = λ k. appended_none 0 E;
   }
 
   module _ (E W : List ℕ) (b i : ℕ) (v : Listing hits best E W b i) where
-    pub listing-fits : b < best.high → b + 1 < 4294967296
-    listing-fits l = omega (arith, o.most)
+    pub listing_fits : b < best.high → b + 1 < 4294967296
+    listing_fits l = omega (arith, o.most)
 
-    pub count-few : i < 65536
-    count-few = omega (arith, v.few, v.last, o.most)
+    pub count_few : i < 65536
+    count_few = omega (arith, v.few, v.last, o.most)
 
     pub count_fits : i + 1 < 18446744073709551616
-    count_fits = omega (arith, count-few)
+    count_fits = omega (arith, count_few)
 
     -- what stands once b was looked at, and no listed bin is from there up to r
-    module _ (l : b < best.high) {r : ℕ} (from : suc b ≤ r) (high : r ≤ best.high) (free : (y : ℕ) → suc b ≤ y → y < r → Has y (nearestBins hits) → ⊥) where
-      rest : filter (leb (suc b)) (nearestBins hits) ≡ filter (leb r) (nearestBins hits)
-      rest = skipped (suc b) r (nearestBins hits) from free
+    module _ (l : b < best.high) {r : ℕ} (from : suc b ≤ r) (high : r ≤ best.high) (free : (y : ℕ) → suc b ≤ y → y < r → Has y (nearest_bins hits) → ⊥) where
+      rest : filter (leb (suc b)) (nearest_bins hits) ≡ filter (leb r) (nearest_bins hits)
+      rest = skipped (suc b) r (nearest_bins hits) from free
 
-      taken : {j : ℕ} {new : List ℕ} → length new ≡ length W → Has b (nearestBins hits) → BinPut W i b new → j ≡ i + 1 → Listing hits best E new r j
+      taken : {j : ℕ} {new : List ℕ} → length new ≡ length W → Has b (nearest_bins hits) → BinPut W i b new → j ≡ i + 1 → Listing hits best E new r j
       taken {j} {new} k m p e = record {
         done = v.done ++ b ∷ [];
         split =
-            append_assoc v.done (b ∷ []) (filter (leb r) (nearestBins hits))
+            append_assoc v.done (b ∷ []) (filter (leb r) (nearest_bins hits))
             ∙ ap (λ (xs : List ℕ). v.done ++ b ∷ xs) (sym rest)
-            ∙ ap (λ (xs : List ℕ). v.done ++ xs) (sym (from-bin b m))
+            ∙ ap (λ (xs : List ℕ). v.done ++ xs) (sym (from_bin b m))
             ∙ v.split;
         count = omega (arith, v.count, length-append v.done (b ∷ []));
         few = omega (arith, v.few);
         last = high;
         long = k ∙ v.long;
-        put = λ q. put-behind v.done E W new i b v.count v.long p (omega arith) (v.put (omega arith));
+        put = λ q. put_behind v.done E W new i b v.count v.long p (omega arith) (v.put (omega arith));
       }
 
-      passed : {j : ℕ} {new : List ℕ} → length new ≡ length W → (Has b (nearestBins hits) → ⊥) → new ≡ W → j ≡ i → Listing hits best E new r j
+      passed : {j : ℕ} {new : List ℕ} → length new ≡ length W → (Has b (nearest_bins hits) → ⊥) → new ≡ W → j ≡ i → Listing hits best E new r j
       passed {j} {new} k n p e = record {
         done = v.done;
-        split = ap (λ (xs : List ℕ). v.done ++ xs) (sym (skipped b (suc b) (nearestBins hits) (omega arith) here ∙ rest)) ∙ v.split;
+        split = ap (λ (xs : List ℕ). v.done ++ xs) (sym (skipped b (suc b) (nearest_bins hits) (omega arith) here ∙ rest)) ∙ v.split;
         count = e ∙ v.count;
         few = omega (arith, v.few);
         last = high;
@@ -142,37 +142,37 @@ module _ (hits : List Hit) (best : Best) (o : BestOf hits best) (h : best.square
         put = λ q. subst (Appended 0 v.done E) (sym p) (v.put (omega arith));
       }
         where
-          here : (y : ℕ) → b ≤ y → y < suc b → Has y (nearestBins hits) → ⊥
-          here y p q h = n (subst (λ (x : ℕ). Has x (nearestBins hits)) (let e : y ≡ b = omega arith in e) h)
+          here : (y : ℕ) → b ≤ y → y < suc b → Has y (nearest_bins hits) → ⊥
+          here y p q h = n (subst (λ (x : ℕ). Has x (nearest_bins hits)) (let e : y ≡ b = omega arith in e) h)
 
       went : {j : ℕ} {new : List ℕ} → length new ≡ length W → OneListed hits best.square b W new i j → Listing hits best E new r j
       went {j} {new} k w = go w.tells refl
         where
           go : (t : Bool) → w.tells ≡ t → Listing hits best E new r j
-          go true q = let p = w.put q in taken k (ties-has b (w.ties.has q)) p.0 p.1
-          go false q = let p = w.kept q in passed k (λ m. w.ties.none q (has-ties b m)) p.0 p.1
+          go true q = let p = w.put q in taken k (ties_has b (w.ties.has q)) p.0 p.1
+          go false q = let p = w.kept q in passed k (λ m. w.ties.none q (has_ties b m)) p.0 p.1
 
     -- the highest was put there: that is all
-    pub listing-all : best.high ≤ b → {new : List ℕ} → length new ≡ length W → BinPut W i b new → Listed (nearestBins hits) E new (i + 1)
-    listing-all l {new} k p =
+    pub listing_all : best.high ≤ b → {new : List ℕ} → length new ≡ length W → BinPut W i b new → Listed (nearest_bins hits) E new (i + 1)
+    listing_all l {new} k p =
         let top : best.high ≡ b = omega (arith, v.last) in
-        let m : Has b (nearestBins hits) = ties-has b (subst (λ (x : ℕ). Ties best.square x hits) top (o.highest h)) in
-        let none : filter (leb (suc b)) (nearestBins hits) ≡ [] = rising_none (suc b) (nearestBins hits) (λ y q n. let z = (o.between y (has-ties y n)).1 in omega arith) in
-        let all : v.done ++ b ∷ [] ≡ nearestBins hits = ap (λ (xs : List ℕ). v.done ++ b ∷ xs) (sym none) ∙ ap (λ (xs : List ℕ). v.done ++ xs) (sym (from-bin b m)) ∙ v.split in
+        let m : Has b (nearest_bins hits) = ties_has b (subst (λ (x : ℕ). Ties best.square x hits) top (o.highest h)) in
+        let none : filter (leb (suc b)) (nearest_bins hits) ≡ [] = rising_none (suc b) (nearest_bins hits) (λ y q n. let z = (o.between y (has_ties y n)).1 in omega arith) in
+        let all : v.done ++ b ∷ [] ≡ nearest_bins hits = ap (λ (xs : List ℕ). v.done ++ b ∷ xs) (sym none) ∙ ap (λ (xs : List ℕ). v.done ++ xs) (sym (from_bin b m)) ∙ v.split in
         record {
           count = omega (arith, v.count, length-append v.done (b ∷ []), ap (length {A = ℕ}) all);
           few = omega (arith, v.few, v.last, o.most);
           long = k ∙ v.long;
-          front = λ q. appended-written (subst (λ (xs : List ℕ). Appended 0 xs E new) all (put-behind v.done E W new i b v.count v.long p q (v.put (omega arith))));
+          front = λ q. appended_written (subst (λ (xs : List ℕ). Appended 0 xs E new) all (put_behind v.done E W new i b v.count v.long p q (v.put (omega arith))));
         }
 
 -- ---- the bins of a placed body
-module _ (table : List ℕ) (ps : List Float) (list : List ℤ) (peg : PegWords) (p : Placed table ps list peg) (best : Best) (o : BestOf (bodyHits table ps list peg) best) (h : best.square < beyond)
-    (E W : List ℕ) (b i : ℕ) (v : Listing (bodyHits table ps list peg) best E W b i) (l : b < best.high) {r : ℕ} (n : NextBin table (b + 1) r) where
+module _ (table : List ℕ) (ps : List Float) (list : List ℤ) (peg : PegWords) (p : Placed table ps list peg) (best : Best) (o : BestOf (body_hits table ps list peg) best) (h : best.square < beyond)
+    (E W : List ℕ) (b i : ℕ) (v : Listing (body_hits table ps list peg) best E W b i) (l : b < best.high) {r : ℕ} (n : NextBin table (b + 1) r) where
   -- a listed bin is a row's
-  next_low : (y : ℕ) → b + 1 ≤ y → Ties best.square y (bodyHits table ps list peg) → r ≤ y
+  next_low : (y : ℕ) → b + 1 ≤ y → Ties best.square y (body_hits table ps list peg) → r ≤ y
   next_low y m t =
-      let w : OfRow table y = ties-row table ps list peg p best.square y t in
+      let w : OfRow table y = ties_row table ps list peg p best.square y t in
       subst (λ (x : ℕ). r ≤ x) w.is (n.lowest w.row w.there (subst (λ (x : ℕ). b + 1 ≤ x) (sym w.is) m))
 
   high : r ≤ best.high
@@ -181,11 +181,11 @@ module _ (table : List ℕ) (ps : List Float) (list : List ℤ) (peg : PegWords)
   from : b + 1 ≤ r
   from = n.from (omega (arith, high, o.most))
 
-  pub listing-more : {j : ℕ} {new : List ℕ} → length new ≡ length W → OneListed (bodyHits table ps list peg) best.square b W new i j → Listing (bodyHits table ps list peg) best E new r j
-  listing-more {j} {new} k w =
-      went (bodyHits table ps list peg) best o h E W b i v l (omega (arith, from)) high
-      (λ y m q t. absurd (let z = next_low y (omega arith) (has-ties (bodyHits table ps list peg) best o h y t) in omega arith)) k w
+  pub listing_more : {j : ℕ} {new : List ℕ} → length new ≡ length W → OneListed (body_hits table ps list peg) best.square b W new i j → Listing (body_hits table ps list peg) best E new r j
+  listing_more {j} {new} k w =
+      went (body_hits table ps list peg) best o h E W b i v l (omega (arith, from)) high
+      (λ y m q t. absurd (let z = next_low y (omega arith) (has_ties (body_hits table ps list peg) best o h y t) in omega arith)) k w
 
   -- how far it is to the highest
-  pub listing-nearer : best.high - r < best.high - b
-  listing-nearer = omega (arith, from)
+  pub listing_nearer : best.high - r < best.high - b
+  listing_nearer = omega (arith, from)

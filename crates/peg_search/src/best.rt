@@ -1,7 +1,7 @@
 // The smallest sum of squares of some rows, with the lowest and the highest bin that share it.
 
 ghost use Rattle.std.specs.Prelude.{◌≡◌};
-ghost use Rattle.peg_search.specs.Search.{bestWith, noBest};
+ghost use Rattle.peg_search.specs.Search.{best_with, no_best};
 
 use peg_distance::BEYOND;
 
@@ -15,7 +15,7 @@ pub struct Best {
 
 // That of no rows.
 pub fn no_best() -> Best
-    ensures { result ≡ noBest }
+    ensures { result ≡ no_best }
 {
     Best {
         square: BEYOND,
@@ -26,7 +26,7 @@ pub fn no_best() -> Best
 
 // That of some rows and of one more, whose bin comes as near as `square`.
 pub fn best_with(best: Best, square: u64, bin: u32) -> Best
-    ensures { result ≡ bestWith best square bin }
+    ensures { result ≡ best_with best square bin }
 {
     if square < best.square {
         return Best {

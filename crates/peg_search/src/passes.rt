@@ -2,11 +2,11 @@
 
 ghost use Rattle.std.specs.Prelude.{◌≡◌, ◌-◌, ◌<◌, ◌≤◌, drop, length, take};
 ghost use Rattle.peg_distance.specs.Words.{RowRange, beyond};
-ghost use Rattle.peg_definition.specs.Peg.{nearestBins, rowHits};
-ghost use Rattle.peg_definition.specs.PlaceLaws.{placeAt};
-ghost use Rattle.peg_search.specs.Hits.{leastOf};
-ghost use Rattle.peg_search.specs.Search.{BestOf, BinPut, BinTies, Listed, NextBin, OneListed, Placed, RowThere, bodyHits, lowerBin, pegOf, rowTies};
-ghost use Rattle.body_rows.specs.Rows.{rowAt};
+ghost use Rattle.peg_definition.specs.Peg.{nearest_bins, row_hits};
+ghost use Rattle.peg_definition.specs.PlaceLaws.{place_at};
+ghost use Rattle.peg_search.specs.Hits.{least_of};
+ghost use Rattle.peg_search.specs.Search.{BestOf, BinPut, BinTies, Listed, NextBin, OneListed, Placed, RowThere, body_hits, lower_bin, peg_of, row_ties};
+ghost use Rattle.body_rows.specs.Rows.{row_at};
 
 use crate::best::{Best, best_with, no_best};
 use body_rows::{bin, row_count, vertices};
@@ -27,7 +27,7 @@ fn row_square(
     requires from_le_to { from ≤ to }
     requires to_in_bounds { to ≤ length positions.now }
     requires row_range { RowRange places.now k peg }
-    ensures { result ≡ leastOf (rowHits (pegOf peg) 0 (placeAt places.now k) (take (to - from) (drop from positions.now))) }
+    ensures { result ≡ least_of (row_hits (peg_of peg) 0 (place_at places.now k) (take (to - from) (drop from positions.now))) }
 {
     let target = row_target(places, k, peg);
     row_least(&positions[from..to], target)
@@ -36,7 +36,7 @@ fn row_square(
 // One pass over all vertices: the smallest sum of squares, with the lowest and the highest bin that have it.
 pub fn find_best(rows: &[u32], positions: &[f32], places: &[i64], peg: PegWords) -> Best
     requires { Placed rows.now positions.now places.now peg }
-    ensures { BestOf (bodyHits rows.now positions.now places.now peg) result }
+    ensures { BestOf (body_hits rows.now positions.now places.now peg) result }
 {
     let n = row_count(rows);
     let mut best = no_best();
@@ -54,7 +54,7 @@ pub fn find_best(rows: &[u32], positions: &[f32], places: &[i64], peg: PegWords)
 
 // The lower of a row's bin, from `first` on, and what was found.
 fn lower_bin(bin: u32, first: u32, found: u32) -> u32
-    ensures { result ≡ lowerBin bin first found }
+    ensures { result ≡ lower_bin bin first found }
 {
     if bin < first {
         return found;
@@ -92,8 +92,8 @@ fn row_ties(
     wanted: u32,
 ) -> bool
     requires { RowThere rows.now positions.now places.now peg k from to }
-    ensures { result ≡ rowTies (rowAt rows.now k).bin wanted square
-        (leastOf (rowHits (pegOf peg) 0 (placeAt places.now k) (take (to - from) (drop from positions.now)))) }
+    ensures { result ≡ row_ties (row_at rows.now k).bin wanted square
+        (least_of (row_hits (peg_of peg) 0 (place_at places.now k) (take (to - from) (drop from positions.now)))) }
 {
     if bin(rows, k) != wanted {
         return false;
@@ -111,9 +111,9 @@ fn bin_ties(
     wanted: u32,
 ) -> bool
     requires placed { Placed rows.now positions.now places.now peg }
-    requires square_value { square ≡ leastOf (bodyHits rows.now positions.now places.now peg) }
+    requires square_value { square ≡ least_of (body_hits rows.now positions.now places.now peg) }
     requires square_lt_beyond { square < beyond }
-    ensures { BinTies (bodyHits rows.now positions.now places.now peg) square wanted result }
+    ensures { BinTies (body_hits rows.now positions.now places.now peg) square wanted result }
 {
     let n = row_count(rows);
     let mut from = 0usize;
@@ -150,10 +150,10 @@ fn list_bin(
     i: usize,
 ) -> usize
     requires placed { Placed rows.now positions.now places.now peg }
-    requires square_value { square ≡ leastOf (bodyHits rows.now positions.now places.now peg) }
+    requires square_value { square ≡ least_of (body_hits rows.now positions.now places.now peg) }
     requires square_lt_beyond { square < beyond }
     requires i_bound { i < 65536 }
-    ensures { OneListed (bodyHits rows.now positions.now places.now peg) square wanted bins.old
+    ensures { OneListed (body_hits rows.now positions.now places.now peg) square wanted bins.old
         bins.new i result }
 {
     if !bin_ties(rows, positions, places, peg, square, wanted) {
@@ -174,9 +174,9 @@ pub fn list_bins(
     bins: &mut [u32],
 ) -> usize
     requires placed { Placed rows.now positions.now places.now peg }
-    requires best_of { BestOf (bodyHits rows.now positions.now places.now peg) best }
+    requires best_of { BestOf (body_hits rows.now positions.now places.now peg) best }
     requires square_lt_beyond { best.square < beyond }
-    ensures { Listed (nearestBins (bodyHits rows.now positions.now places.now peg))
+    ensures { Listed (nearest_bins (body_hits rows.now positions.now places.now peg))
         bins.old bins.new result }
 {
     let mut b = best.low;

@@ -5,24 +5,24 @@ use Rattle.plan_definition.specs.declared.PlanAnswer.TheVariants as PlanAnswer
 use Rattle.plan_definition.specs.declared.ListingAnswer.{ListingAnswer}
 use Rattle.plan_definition.specs.declared.ListingAnswer.TheVariants as ListingAnswer
 use Rattle.plan_definition.specs.Reading as Reading
-use Rattle.plan_definition.specs.Reading.{Reading, plan_of, roomOf}
+use Rattle.plan_definition.specs.Reading.{Reading, plan_of, room_of}
 use Rattle.plan_definition.specs.Writing as Writing
-use Rattle.plan_definition.specs.Writing.{Writing, entriesIn, writingOf}
+use Rattle.plan_definition.specs.Writing.{Writing, entries_in, writing_of}
 
 -- what a text is read as, with a list that was lent
 abbrev pub reading_of : List ℕ → List ℤ → Reading
-reading_of text list = plan_of (roomOf (length list)) text
+reading_of text list = plan_of (room_of (length list)) text
 
 -- its answer: how many bins, or the refusal
-unfoldable pub planAnswer : Reading → PlanAnswer
-planAnswer (Reading.Refused n) = PlanAnswer.Refused n
-planAnswer (Reading.Listed es) = PlanAnswer.Listed (length es)
+unfoldable pub plan_answer : Reading → PlanAnswer
+plan_answer (Reading.Refused n) = PlanAnswer.Refused n
+plan_answer (Reading.Listed es) = PlanAnswer.Listed (length es)
 
 -- what writing a list that was lent comes to, with a slice of so many bytes
-abbrev pub listingOf : List ℤ → List ℕ → Writing
-listingOf list out = writingOf (length out) (entriesIn list)
+abbrev pub listing_of : List ℤ → List ℕ → Writing
+listing_of list out = writing_of (length out) (entries_in list)
 
 -- its answer: how many bytes, or the refusal
-unfoldable pub listingAnswer : Writing → ListingAnswer
-listingAnswer (Writing.Refused n) = ListingAnswer.Refused n
-listingAnswer (Writing.Written text) = ListingAnswer.Written (length text)
+unfoldable pub listing_answer : Writing → ListingAnswer
+listing_answer (Writing.Refused n) = ListingAnswer.Refused n
+listing_answer (Writing.Written text) = ListingAnswer.Written (length text)

@@ -2,11 +2,11 @@
 use Rattle.std.specs.Prelude.{List, [], ◌∷◌, ◌++◌, map, ◌≡◌, refl, ℕ, zero, suc, ℤ, pos, negsuc, replicate}
 use Rattle.sheet_digits.specs.Bytes.{bytes, lines}
 use Rattle.plan_definition.specs.Places.{Place}
-use Rattle.plan_definition.specs.Grammar.{Plan, nothing, bin, group, Entry, entry, planText, placed}
+use Rattle.plan_definition.specs.Grammar.{Plan, nothing, bin, group, Entry, entry, plan_text, placed}
 use Rattle.plan_definition.specs.Lines.{lines_of}
-use Rattle.plan_definition.specs.Reading.{Listed, plan_of, refusalOf, listAfter}
+use Rattle.plan_definition.specs.Reading.{Listed, plan_of, refusal_of, list_after}
 use Rattle.plan_definition.specs.Reading as Reading
-use Rattle.plan_definition.specs.Writing.{Written, entriesIn, writingOf, textAfter}
+use Rattle.plan_definition.specs.Writing.{Written, entries_in, writing_of, text_after}
 use Rattle.plan_definition.specs.Writing as Writing
 use Rattle.plan_definition.specs.Evaluation.{evaluation}
 
@@ -16,7 +16,7 @@ at x y z = record { x = pos x; y = pos y; z = pos z }
 
 -- the numbers of texts that are refused, 0 for one that isn't, by a list with room for two bins
 refusals : List (List (List ℕ)) → List ℕ
-refusals ts = map (λ t. refusalOf 2 [] 0 (lines_of (lines t))) ts
+refusals ts = map (λ t. refusal_of 2 [] 0 (lines_of (lines t))) ts
 
 -- ---- what is accepted
 
@@ -24,20 +24,20 @@ refusals ts = map (λ t. refusalOf 2 [] 0 (lines_of (lines t))) ts
 nested : Plan
 nested = bin 1 (at 5 0 0) (group (at 100 0 0) (bin 2 (at 1 2 3) (group (at 0 10 0) (bin 3 (at 0 0 1) nothing) nothing)) (bin 1 (at 7 7 7) nothing))
 
-nested-read : plan_of 4 (planText nested) ≡ Listed (entry (pos 1) (at 5 0 0) ∷ entry (pos 2) (at 101 2 3) ∷ entry (pos 3) (at 100 10 1) ∷ entry (pos 1) (at 7 7 7) ∷ [])
+nested_read : plan_of 4 (plan_text nested) ≡ Listed (entry (pos 1) (at 5 0 0) ∷ entry (pos 2) (at 101 2 3) ∷ entry (pos 3) (at 100 10 1) ∷ entry (pos 1) (at 7 7 7) ∷ [])
 unfolding evaluation nested at
-nested-read = refl
+nested_read = refl
 
-nested-text : planText nested
+nested_text : plan_text nested
     ≡ lines (bytes "(bin 1 5 0 0)" ∷ bytes "(group 100 0 0" ∷ bytes "(bin 2 1 2 3)" ∷ bytes "(group 0 10 0" ∷ bytes "(bin 3 0 0 1)" ∷ bytes ")" ∷ bytes ")" ∷ bytes "(bin 1 7 7 7)" ∷ [])
 unfolding evaluation nested at
-nested-text = refl
+nested_text = refl
 
 -- negative offsets, and the farthest
-farthest-read : plan_of 2 (lines (bytes "(bin 65535 -1099511627776 1099511627776 -1)" ∷ []))
+farthest_read : plan_of 2 (lines (bytes "(bin 65535 -1099511627776 1099511627776 -1)" ∷ []))
     ≡ Listed (entry (pos 65535) (record { x = negsuc 1099511627775; y = pos 1099511627776; z = negsuc 0 }) ∷ [])
 unfolding evaluation
-farthest-read = refl
+farthest_read = refl
 
 -- no line, an empty group, sixteen groups open at once, groups whose sum is out of range while the bin's place is not
 accepted : refusals (
@@ -97,33 +97,33 @@ limits = refl
 old : List ℤ
 old = replicate 7 (pos 9)
 
-list-after : listAfter (plan_of 1 (lines (bytes "(bin 3 1 -2 0)" ∷ []))) old ≡ pos 3 ∷ pos 1 ∷ negsuc 1 ∷ pos 0 ∷ pos 9 ∷ pos 9 ∷ pos 9 ∷ []
+list_after_lem : list_after (plan_of 1 (lines (bytes "(bin 3 1 -2 0)" ∷ []))) old ≡ pos 3 ∷ pos 1 ∷ negsuc 1 ∷ pos 0 ∷ pos 9 ∷ pos 9 ∷ pos 9 ∷ []
 unfolding evaluation old
-list-after = refl
+list_after_lem = refl
 
-list-kept : listAfter (plan_of 1 (lines (bytes "(bin 3 1 -2 0)" ∷ bytes ")" ∷ []))) old ≡ old
+list_kept : list_after (plan_of 1 (lines (bytes "(bin 3 1 -2 0)" ∷ bytes ")" ∷ []))) old ≡ old
 unfolding evaluation old
-list-kept = refl
+list_kept = refl
 
 -- a listing of fifteen bytes written into seventeen, and into one too few
 listed : List ℤ
 listed = pos 3 ∷ pos 1 ∷ negsuc 1 ∷ pos 0 ∷ pos 9 ∷ []
 
-text-after : textAfter (writingOf 17 (entriesIn listed)) (replicate 17 7) ≡ bytes "(bin 3 1 -2 0)" ++ 10 ∷ 7 ∷ 7 ∷ []
+text_after_lem : text_after (writing_of 17 (entries_in listed)) (replicate 17 7) ≡ bytes "(bin 3 1 -2 0)" ++ 10 ∷ 7 ∷ 7 ∷ []
 unfolding evaluation listed
-text-after = refl
+text_after_lem = refl
 
-text-short : writingOf 14 (entriesIn listed) ≡ Writing.Refused 68
+text_short : writing_of 14 (entries_in listed) ≡ Writing.Refused 68
 unfolding evaluation listed
-text-short = refl
+text_short = refl
 
 -- a bin below 0 and above 65,535, and a place out of range, which comes after the bin
-text-refused :
-    (writingOf 0 (entriesIn (negsuc 0 ∷ pos 0 ∷ pos 0 ∷ pos 0 ∷ []))
-    ∷ writingOf 0 (entriesIn (pos 65536 ∷ pos 1099511627777 ∷ pos 0 ∷ pos 0 ∷ []))
-    ∷ writingOf 0 (entriesIn (pos 65535 ∷ pos 1099511627777 ∷ pos 0 ∷ pos 0 ∷ []))
-    ∷ writingOf 0 (entriesIn (pos 0 ∷ pos 0 ∷ pos 0 ∷ pos 0 ∷ []))
-    ∷ writingOf 0 [] ∷ [])
+text_refused :
+    (writing_of 0 (entries_in (negsuc 0 ∷ pos 0 ∷ pos 0 ∷ pos 0 ∷ []))
+    ∷ writing_of 0 (entries_in (pos 65536 ∷ pos 1099511627777 ∷ pos 0 ∷ pos 0 ∷ []))
+    ∷ writing_of 0 (entries_in (pos 65535 ∷ pos 1099511627777 ∷ pos 0 ∷ pos 0 ∷ []))
+    ∷ writing_of 0 (entries_in (pos 0 ∷ pos 0 ∷ pos 0 ∷ pos 0 ∷ []))
+    ∷ writing_of 0 [] ∷ [])
     ≡ Writing.Refused 61 ∷ Writing.Refused 61 ∷ Writing.Refused 63 ∷ Writing.Refused 68 ∷ Written [] ∷ []
 unfolding evaluation
-text-refused = refl
+text_refused = refl

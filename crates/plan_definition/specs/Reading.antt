@@ -3,21 +3,21 @@ use Rattle.std.specs.Prelude.{true, false, List, [], ◌∷◌, ◌++◌, ℕ, z
 use Rattle.std.proofs.Math.Option.{none, some}
 use Rattle.lists.specs.Lists.{written}
 use Rattle.plan_definition.specs.Places.{Place, total, in_range}
-use Rattle.plan_definition.specs.Grammar.{Entry, entry, mostDepth}
+use Rattle.plan_definition.specs.Grammar.{Entry, entry, most_depth}
 use Rattle.plan_definition.specs.Lines.{Open, Bin, Close, line_of, lines_of}
 
 -- the refusals
 abbrev pub malformed : ℕ
 malformed = 61
 
-abbrev pub tooDeep : ℕ
-tooDeep = 62
+abbrev pub too_deep : ℕ
+too_deep = 62
 
-abbrev pub outOfRange : ℕ
-outOfRange = 63
+abbrev pub out_of_range : ℕ
+out_of_range = 63
 
-abbrev pub tooMany : ℕ
-tooMany = 64
+abbrev pub too_many : ℕ
+too_many = 64
 
 -- the groups that are open once the innermost is closed
 abbrev pub outer : List Place → List Place
@@ -25,27 +25,27 @@ outer [] = []
 outer (o ∷ path) = path
 
 -- The number of the first offending line, 0 if there is none: the groups of a path are open, the list has room for so many bins, and so many stand already.
-unfoldable pub refusalOf : ℕ → List Place → ℕ → List (List ℕ) → ℕ
-refusalOf room [] count [] = 0
-refusalOf room (o ∷ path) count [] = malformed
-refusalOf room path count (l ∷ ls) = elim (line_of l) [
+unfoldable pub refusal_of : ℕ → List Place → ℕ → List (List ℕ) → ℕ
+refusal_of room [] count [] = 0
+refusal_of room (o ∷ path) count [] = malformed
+refusal_of room path count (l ∷ ls) = elim (line_of l) [
   | none ↦ malformed
-  | some (Open o) ↦ elim (ltb (length path) mostDepth) [ true ↦ refusalOf room (o ∷ path) count ls | false ↦ tooDeep ]
+  | some (Open o) ↦ elim (ltb (length path) most_depth) [ true ↦ refusal_of room (o ∷ path) count ls | false ↦ too_deep ]
   | some (Bin n o) ↦ elim (in_range (total (o ∷ path))) [
-    | true ↦ elim (ltb count room) [ true ↦ refusalOf room path (suc count) ls | false ↦ tooMany ]
-    | false ↦ outOfRange
+    | true ↦ elim (ltb count room) [ true ↦ refusal_of room path (suc count) ls | false ↦ too_many ]
+    | false ↦ out_of_range
   ]
-  | some Close ↦ elim (ltb 0 (length path)) [ true ↦ refusalOf room (outer path) count ls | false ↦ malformed ]
+  | some Close ↦ elim (ltb 0 (length path)) [ true ↦ refusal_of room (outer path) count ls | false ↦ malformed ]
 ]
 
 -- the bins in the order read, each at the sum along its path
-unfoldable pub entriesOf : List Place → List (List ℕ) → List Entry
-entriesOf path [] = []
-entriesOf path (l ∷ ls) = elim (line_of l) [
+unfoldable pub entries_of : List Place → List (List ℕ) → List Entry
+entries_of path [] = []
+entries_of path (l ∷ ls) = elim (line_of l) [
   | none ↦ []
-  | some (Open o) ↦ entriesOf (o ∷ path) ls
-  | some (Bin n o) ↦ entry (pos n) (total (o ∷ path)) ∷ entriesOf path ls
-  | some Close ↦ entriesOf (outer path) ls
+  | some (Open o) ↦ entries_of (o ∷ path) ls
+  | some (Bin n o) ↦ entry (pos n) (total (o ∷ path)) ∷ entries_of path ls
+  | some Close ↦ entries_of (outer path) ls
 ]
 
 -- what a text is read as
@@ -55,21 +55,21 @@ pub data Reading : Type 0 where
 
 -- what it is, with a list that has room for so many bins
 unfoldable pub plan_of : ℕ → List ℕ → Reading
-plan_of room text = elim (refusalOf room [] 0 (lines_of text)) [ zero ↦ Listed (entriesOf [] (lines_of text)) | suc n ↦ Refused (suc n) ]
+plan_of room text = elim (refusal_of room [] 0 (lines_of text)) [ zero ↦ Listed (entries_of [] (lines_of text)) | suc n ↦ Refused (suc n) ]
 
 -- ---- lent lists
 
 -- numbers of an entry in a lent list: bin, x, y, z
-abbrev pub entryWidth : ℕ
-entryWidth = 4
+abbrev pub entry_width : ℕ
+entry_width = 4
 
 -- the most bins of a plan
-abbrev pub mostEntries : ℕ
-mostEntries = 4096
+abbrev pub most_entries : ℕ
+most_entries = 4096
 
 -- how many bins a lent list of so many numbers has room for
-abbrev pub roomOf : ℕ → ℕ
-roomOf n = min (n / entryWidth) mostEntries
+abbrev pub room_of : ℕ → ℕ
+room_of n = min (n / entry_width) most_entries
 
 -- entries as a lent list has them
 unfoldable pub list_of : List Entry → List ℤ
@@ -77,6 +77,6 @@ list_of [] = []
 list_of (e ∷ es) = e.bin ∷ e.place.x ∷ e.place.y ∷ e.place.z ∷ list_of es
 
 -- what reading leaves of a lent list: the entries in front, or all as it was
-unfoldable pub listAfter : Reading → List ℤ → List ℤ
-listAfter (Refused n) old = old
-listAfter (Listed es) old = written (list_of es) old
+unfoldable pub list_after : Reading → List ℤ → List ℤ
+list_after (Refused n) old = old
+list_after (Listed es) old = written (list_of es) old

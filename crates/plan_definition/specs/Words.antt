@@ -6,14 +6,14 @@ use Rattle.signed_numbers.specs.Linear.{up, down, alone, abs, minus}
 use Rattle.sheet_digits.specs.Digits.{decimal}
 use Rattle.sheet_digits.specs.Offsets as Offsets
 use Rattle.sheet_digits.specs.Offsets.{offset}
-use Rattle.sheet_digits.specs.OffsetLaws.{offsetWords}
+use Rattle.sheet_digits.specs.OffsetLaws.{offset_words}
 use Rattle.plan_definition.specs.Grammar.{integer}
 use Rattle.plan_definition.specs.Lines.{offset_of}
 
 -- the text of an offset is the text of its word
-pub integer-word : (w : ℕ) → integer (offset_of w) ≡ offset w
+pub integer_word : (w : ℕ) → integer (offset_of w) ≡ offset w
 unfolding integer offset
-integer-word w = go (ltb w farthest) refl
+integer_word w = go (ltb w farthest) refl
   where
     go : (b : Bool) → ltb w farthest ≡ b → integer (cond b (negsuc (farthest - suc w)) (pos (w - farthest))) ≡ cond b (Offsets.minus ∷ decimal (farthest - w)) (decimal (w - farthest))
     go true q =
@@ -33,14 +33,14 @@ word_back (negsuc n) t =
     let h : suc n ≤ farthest = leb→le (suc n) farthest t in
     rw (lt-ltb (farthest - suc n) farthest (omega arith)) (ap negsuc (let e : farthest - suc (farthest - suc n) ≡ n = omega arith in e))
 
-pub word_small : (z : ℤ) → T (within z) → word z < offsetWords
+pub word_small : (z : ℤ) → T (within z) → word z < offset_words
 unfolding word
 word_small (pos n) t = let h : n ≤ farthest = leb→le n farthest t in omega arith
 word_small (negsuc n) t = let h : suc n ≤ farthest = leb→le (suc n) farthest t in omega arith
 
 -- the offset of a word is in range
-pub word-within : (w : ℕ) → w < offsetWords → T (within (offset_of w))
-word-within w h = le→leb (nat_abs (offset_of w)) farthest (omega (arith, minus (pos w) (pos farthest), alone (offset_of w), abs (offset_of w)))
+pub word_within : (w : ℕ) → w < offset_words → T (within (offset_of w))
+word_within w h = le→leb (nat_abs (offset_of w)) farthest (omega (arith, minus (pos w) (pos farthest), alone (offset_of w), abs (offset_of w)))
 
-pub word-text : (z : ℤ) → T (within z) → integer z ≡ offset (word z)
-word-text z t = ap integer (sym (word_back z t)) ∙ integer-word (word z)
+pub word_text : (z : ℤ) → T (within z) → integer z ≡ offset (word z)
+word_text z t = ap integer (sym (word_back z t)) ∙ integer_word (word z)

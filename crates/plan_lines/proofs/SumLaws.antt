@@ -13,52 +13,52 @@ use Rattle.plan_definition.specs.Lines.{offset_of}
 use Rattle.plan_lines.specs.declared.OffsetWords.{OffsetWords}
 use Rattle.plan_lines.specs.declared.places.SumWords.{SumWords}
 use Rattle.plan_lines.specs.Given.{InWords}
-use Rattle.plan_lines.specs.Sums.{MovedTo, Near, NearZero, sumZero, sum_word, sum_of}
+use Rattle.plan_lines.specs.Sums.{MovedTo, Near, NearZero, sum_zero, sum_word, sum_of}
 
 -- a word of a sum with an offset added
 axis : (k a b : ℕ) → NearZero k a → k ≤ 16 → sum_word (a + b - 1099511627776) ≡ sum_word a +ℤ offset_of b
 axis k a b n h =
     equal (sum_word (a + b - 1099511627776)) (sum_word a +ℤ offset_of b)
-    (omega (arith, n.low, plus (sum_word a) (offset_of b), minus (pos (a + b - 1099511627776)) (pos sumZero), minus (pos a) (pos sumZero), minus (pos b) (pos farthest)))
+    (omega (arith, n.low, plus (sum_word a) (offset_of b), minus (pos (a + b - 1099511627776)) (pos sum_zero), minus (pos a) (pos sum_zero), minus (pos b) (pos farthest)))
 
-axis-near : (k a b : ℕ) → NearZero k a → k ≤ 16 → b < suc (farthest + farthest) → NearZero (suc k) (a + b - 1099511627776)
-axis-near k a b n h l = record { low = omega (arith, n.low, n.high); high = omega (arith, n.low, n.high) }
+axis_near : (k a b : ℕ) → NearZero k a → k ≤ 16 → b < suc (farthest + farthest) → NearZero (suc k) (a + b - 1099511627776)
+axis_near k a b n h l = record { low = omega (arith, n.low, n.high); high = omega (arith, n.low, n.high) }
 
 pub moved_to : (k : ℕ) (sum : SumWords) (o : OffsetWords) → Near k sum → InWords o → k ≤ 16
     → MovedTo k sum o (record { x = sum.x + o.x - 1099511627776; y = sum.y + o.y - 1099511627776; z = sum.z + o.z - 1099511627776 })
 moved_to k sum o n w h = record {
-  is = λ i. record { x = axis k sum.x o.x n.on-x h i; y = axis k sum.y o.y n.on-y h i; z = axis k sum.z o.z n.on-z h i };
+  is = λ i. record { x = axis k sum.x o.x n.on_x h i; y = axis k sum.y o.y n.on_y h i; z = axis k sum.z o.z n.on_z h i };
   near = record {
-    on-x = axis-near k sum.x o.x n.on-x h w.x-small;
-    on-y = axis-near k sum.y o.y n.on-y h w.y-small;
-    on-z = axis-near k sum.z o.z n.on-z h w.z-small;
+    on_x = axis_near k sum.x o.x n.on_x h w.x_small;
+    on_y = axis_near k sum.y o.y n.on_y h w.y_small;
+    on_z = axis_near k sum.z o.z n.on_z h w.z_small;
   };
 }
 
 -- ---- the range
-size : (n : ℕ) → nat_abs (sum_word n) ≡ (n - sumZero) + (sumZero - n)
-size n = omega (arith, minus (pos n) (pos sumZero), alone (sum_word n), abs (sum_word n))
+size : (n : ℕ) → nat_abs (sum_word n) ≡ (n - sum_zero) + (sum_zero - n)
+size n = omega (arith, minus (pos n) (pos sum_zero), alone (sum_word n), abs (sum_word n))
 
-pub word-under : (n : ℕ) → n < 34084860461056 → false ≡ within (sum_word n)
-word-under n h = sym (lt-leb (nat_abs (sum_word n)) farthest (omega (arith, size n)))
+pub word_under : (n : ℕ) → n < 34084860461056 → false ≡ within (sum_word n)
+word_under n h = sym (lt-leb (nat_abs (sum_word n)) farthest (omega (arith, size n)))
 
-pub word-tested : (n : ℕ) → 34084860461056 ≤ n → leb n 36283883716608 ≡ within (sum_word n)
-word-tested n h = go (leb n 36283883716608) refl
+pub word_tested : (n : ℕ) → 34084860461056 ≤ n → leb n 36283883716608 ≡ within (sum_word n)
+word_tested n h = go (leb n 36283883716608) refl
   where
     go : (b : Bool) → leb n 36283883716608 ≡ b → leb n 36283883716608 ≡ within (sum_word n)
     go true q = q ∙ sym (le-leb (nat_abs (sum_word n)) farthest (omega (arith, size n, leb-true n 36283883716608 q)))
     go false q = q ∙ sym (lt-leb (nat_abs (sum_word n)) farthest (omega (arith, size n, leb-false n 36283883716608 q)))
 
 -- each axis in turn
-pub x-out : (w : SumWords) (r : Bool) → r ≡ within (sum_word w.x) → not r ≡ true → false ≡ in_range (sum_of w)
-x-out w r e n = ap (λ (b : Bool). b && (within (sum_word w.y) && within (sum_word w.z))) (sym (not-true r n) ∙ e)
+pub x_out : (w : SumWords) (r : Bool) → r ≡ within (sum_word w.x) → not r ≡ true → false ≡ in_range (sum_of w)
+x_out w r e n = ap (λ (b : Bool). b && (within (sum_word w.y) && within (sum_word w.z))) (sym (not-true r n) ∙ e)
 
 module _ (w : SumWords) (r : Bool) (e : r ≡ within (sum_word w.x)) (y : not r ≡ false) where
-  x-in : within (sum_word w.y) && within (sum_word w.z) ≡ in_range (sum_of w)
-  x-in = ap (λ (b : Bool). b && (within (sum_word w.y) && within (sum_word w.z))) (sym (not-false r y) ∙ e)
+  x_in : within (sum_word w.y) && within (sum_word w.z) ≡ in_range (sum_of w)
+  x_in = ap (λ (b : Bool). b && (within (sum_word w.y) && within (sum_word w.z))) (sym (not-false r y) ∙ e)
 
-  pub y-out : (s : Bool) → s ≡ within (sum_word w.y) → not s ≡ true → false ≡ in_range (sum_of w)
-  y-out s f n = ap (λ (b : Bool). b && within (sum_word w.z)) (sym (not-true s n) ∙ f) ∙ x-in
+  pub y_out : (s : Bool) → s ≡ within (sum_word w.y) → not s ≡ true → false ≡ in_range (sum_of w)
+  y_out s f n = ap (λ (b : Bool). b && within (sum_word w.z)) (sym (not-true s n) ∙ f) ∙ x_in
 
-  pub z-last : (s t : Bool) → s ≡ within (sum_word w.y) → not s ≡ false → t ≡ within (sum_word w.z) → t ≡ in_range (sum_of w)
-  z-last s t f n g = g ∙ ap (λ (b : Bool). b && within (sum_word w.z)) (sym (not-false s n) ∙ f) ∙ x-in
+  pub z_last : (s t : Bool) → s ≡ within (sum_word w.y) → not s ≡ false → t ≡ within (sum_word w.z) → t ≡ in_range (sum_of w)
+  z_last s t f n g = g ∙ ap (λ (b : Bool). b && within (sum_word w.z)) (sym (not-false s n) ∙ f) ∙ x_in

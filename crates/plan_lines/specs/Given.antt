@@ -2,11 +2,11 @@
 use Rattle.std.specs.Prelude.{Bool, true, false, List, [], ◌∷◌, ◌≡◌, ℕ, ◌≤◌, ◌<◌, length, drop}
 use Rattle.std.proofs.Math.Option.{Option, none, some}
 use Rattle.std.proofs.Math.Seq.{slice}
-use Rattle.body_refusals.specs.TableChecks.{mostBin}
-use Rattle.sheet_digits.specs.OffsetLaws.{offsetWords}
+use Rattle.body_refusals.specs.TableChecks.{most_bin}
+use Rattle.sheet_digits.specs.OffsetLaws.{offset_words}
 use Rattle.plan_definition.specs.Places.{Place}
 use Rattle.plan_definition.specs.Lines as Lines
-use Rattle.plan_definition.specs.Lines.{line_of, lines_of, offsetsOf}
+use Rattle.plan_definition.specs.Lines.{line_of, lines_of, offsets_of}
 use Rattle.plan_lines.specs.declared.OffsetWords.{OffsetWords}
 use Rattle.plan_lines.specs.declared.lines.LineAt.{LineAt}
 use Rattle.plan_lines.specs.declared.lines.PlanLine.{PlanLine}
@@ -20,7 +20,7 @@ pub record LineEnd (text : List ℕ) (at r : ℕ) : Type 0 where
 
 -- the offset of its words
 abbrev pub place_of : OffsetWords → Place
-place_of w = offsetsOf w.x w.y w.z
+place_of w = offsets_of w.x w.y w.z
 
 -- the line that an answer tells of
 unfoldable pub given : PlanLine → Option Lines.Line
@@ -32,14 +32,14 @@ given PlanLine.End = none
 
 -- each is the word of an offset
 pub record InWords (w : OffsetWords) : Type 0 where
-  pub x-small : w.x < offsetWords
-  pub y-small : w.y < offsetWords
-  pub z-small : w.z < offsetWords
+  pub x_small : w.x < offset_words
+  pub y_small : w.y < offset_words
+  pub z_small : w.z < offset_words
 
 -- the numbers of an answer are in range
 unfoldable pub Small : PlanLine → Type 0
 Small (PlanLine.Open w) = InWords w
-Small (PlanLine.Bin n w) = (n ≤ mostBin) × InWords w
+Small (PlanLine.Bin n w) = (n ≤ most_bin) × InWords w
 Small PlanLine.Close = Unit {0}
 Small PlanLine.Malformed = Unit {0}
 Small PlanLine.End = Unit {0}

@@ -3,26 +3,26 @@ use Rattle.std.specs.Prelude.{List, [], ◌∷◌, ◌++◌, ◌≡◌, refl, �
 use Rattle.std.proofs.Common.{ap, ◌∙◌}
 use Rattle.sheet_digits.specs.Bytes.{bytes}
 use Rattle.sheet_lines.specs.Forms.{Piece, read}
-use Rattle.sheet_lines.specs.Pattern.{piece, pieces, split, read-split}
-use Rattle.plan_definition.specs.Lines.{groupForm, binForm, closeForm}
+use Rattle.sheet_lines.specs.Pattern.{piece, pieces, split, read_split}
+use Rattle.plan_definition.specs.Lines.{group_form, bin_form, close_form}
 
-abbrev pub groupPattern : List ℕ
-groupPattern = bytes "(group%%%" ++ 10 ∷ []
+abbrev pub group_pattern : List ℕ
+group_pattern = bytes "(group%%%" ++ 10 ∷ []
 
-abbrev pub binPattern : List ℕ
-binPattern = bytes "(bin#%%%)" ++ 10 ∷ []
+abbrev pub bin_pattern : List ℕ
+bin_pattern = bytes "(bin#%%%)" ++ 10 ∷ []
 
-abbrev pub closePattern : List ℕ
-closePattern = bytes ")" ++ 10 ∷ []
+abbrev pub close_pattern : List ℕ
+close_pattern = bytes ")" ++ 10 ∷ []
 
-pub group-read : (xs : List ℕ) → read (pieces groupPattern) xs ≡ read groupForm xs
+pub group_read : (xs : List ℕ) → read (pieces group_pattern) xs ≡ read group_form xs
 unfolding piece split
-group-read xs = read-split groupForm xs
+group_read xs = read_split group_form xs
 
-pub bin-read : (xs : List ℕ) → read (pieces binPattern) xs ≡ read binForm xs
+pub bin_read : (xs : List ℕ) → read (pieces bin_pattern) xs ≡ read bin_form xs
 unfolding piece split
-bin-read xs = read-split binForm xs
+bin_read xs = read_split bin_form xs
 
-pub close-read : (xs : List ℕ) → read (pieces closePattern) xs ≡ read closeForm xs
+pub close_read : (xs : List ℕ) → read (pieces close_pattern) xs ≡ read close_form xs
 unfolding piece split
-close-read xs = read-split closeForm xs
+close_read xs = read_split close_form xs

@@ -2,7 +2,7 @@
 
 ghost use Rattle.std.specs.Prelude.{◌≡◌, ◌+◌, ◌≤◌, ◌<◌};
 ghost use Rattle.plan_definition.specs.Places.{in_range};
-ghost use Rattle.plan_lines.specs.Sums.{EntryPut, InWords, MovedTo, Near, entryFor, originWords, sum_of, sum_word};
+ghost use Rattle.plan_lines.specs.Sums.{EntryPut, InWords, MovedTo, Near, entry_for, origin_words, sum_of, sum_word};
 ghost use Rattle.signed_numbers.specs.Range.{within};
 
 use crate::OffsetWords;
@@ -27,7 +27,7 @@ pub struct SumWords {
 
 // The sum of no offsets.
 pub fn origin() -> SumWords
-    ensures { result ≡ originWords }
+    ensures { result ≡ origin_words }
 {
     SumWords {
         x: SUM_ZERO,
@@ -78,7 +78,7 @@ pub fn put_entry(entries: &mut [i64], count: usize, bin: u64, sum: SumWords)
     requires count_bound { count < 4096 }
     requires bin_bound { bin ≤ 65535 }
     requires near { Near 17 sum }
-    ensures { EntryPut entries.old count (entryFor bin sum) entries.new }
+    ensures { EntryPut entries.old count (entry_for bin sum) entries.new }
 {
     let at = ENTRY_WIDTH * count;
     if entries.len() < at + ENTRY_WIDTH {

@@ -1,7 +1,7 @@
 // What the program prints of a plan: a bin line for each entry in the order read, or only the refusal.
 
 ghost use Rattle.std.specs.Prelude.{◌≡◌, take, ◌*◌};
-ghost use Rattle.plan_definition.specs.Reading.{entryWidth};
+ghost use Rattle.plan_definition.specs.Reading.{entry_width};
 ghost use Rattle.plan_print.specs.Printing.{Printed};
 
 use plan_definition::{ListingAnswer, PlanAnswer};
@@ -14,7 +14,7 @@ const ENTRY_WIDTH: usize = 4;
 
 // The first n entries of a list, or all there are.
 fn front_entries(list: &[i64], n: usize) -> &[i64]
-    ensures { result.now ≡ take (entryWidth * n) list.now }
+    ensures { result.now ≡ take (entry_width * n) list.now }
 {
     if n <= list.len() / ENTRY_WIDTH {
         let end = ENTRY_WIDTH * n;

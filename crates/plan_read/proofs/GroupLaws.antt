@@ -10,25 +10,25 @@ use borrow.Author.Tests.{lt-ltb, le-ltb, eqb-true, eqb-false}
 use lib.Dec.{eqb, ltb}
 use lib.IntN.{ℤ, pos}
 use lib.ListN.{length, drop, length-append}
-use Rattle.slice_append.specs.Appended.{Appended, appended-none, appended_then}
+use Rattle.slice_append.specs.Appended.{Appended, appended_none, appended_then}
 use Rattle.plan_definition.specs.Places.{Place, total, moved, in_range}
-use Rattle.plan_definition.specs.Grammar.{Entry, entry, mostDepth}
+use Rattle.plan_definition.specs.Grammar.{Entry, entry, most_depth}
 use Rattle.plan_definition.specs.Lines as Lines
 use Rattle.plan_definition.specs.Lines.{line_of, lines_of}
-use Rattle.plan_definition.specs.Reading.{refusalOf, entriesOf, entryWidth, list_of, malformed, tooDeep, outOfRange, tooMany, outer}
-use Rattle.plan_definition.specs.ListLaws.{list-append, list_length}
+use Rattle.plan_definition.specs.Reading.{refusal_of, entries_of, entry_width, list_of, malformed, too_deep, out_of_range, too_many, outer}
+use Rattle.plan_definition.specs.ListLaws.{list_append, list_length}
 use Rattle.plan_definition.specs.Steps.{
   no_line,
-  group-opened,
-  group-too-deep,
-  bin-placed,
-  bin-out-of-range,
-  bin-too-many,
-  group-closed,
-  none-to-close,
-  opened-entries,
-  bin-entries,
-  closed-entries,
+  group_opened,
+  group_too_deep,
+  bin_placed,
+  bin_out_of_range,
+  bin_too_many,
+  group_closed,
+  none_to_close,
+  opened_entries,
+  bin_entries,
+  closed_entries,
 }
 use Rattle.plan_lines.specs.declared.OffsetWords.{OffsetWords}
 use Rattle.plan_lines.specs.declared.places.SumWords.{SumWords}
@@ -51,23 +51,23 @@ use Rattle.plan_read.specs.Steps.{
   Ready,
   Stands,
   Went,
-  binStep,
+  bin_step,
   closed_step,
-  endStep,
-  entriesAfter,
-  entriesClosed,
-  leafEntries,
-  leafStep,
-  mayOpen,
-  refusalAfter,
-  refusalClosed,
-  refusedStep,
+  end_step,
+  entries_after,
+  entries_closed,
+  leaf_entries,
+  leaf_step,
+  may_open,
+  refusal_after,
+  refusal_closed,
+  refused_step,
   step,
 }
 
 -- ---- a step that offends, and one that doesn't, along every path
 module _ (text : List ℕ) (depth : ℕ) (sum : SumWords) (at count room : ℕ) (E W : List ℤ) (long : length W ≡ length E) where
-  offends : (n : ℕ) → ((path : List Place) → Stands path depth sum → refusalOf room path count (lines_of (drop at text)) ≡ suc n) → ItemRead text depth sum at count room E W (refusedStep (suc n))
+  offends : (n : ℕ) → ((path : List Place) → Stands path depth sum → refusal_of room path count (lines_of (drop at text)) ≡ suc n) → ItemRead text depth sum at count room E W (refused_step (suc n))
   offends n v = record {
     read = record {
       long = long;
@@ -93,14 +93,14 @@ module _ (text : List ℕ) (at : ℕ) (r : LineAt) (v : Found text at r) where
   begins = v.begins
 
   module _ (b : Begins text at r) (path : List Place) where
-    refusal-cut : (room count : ℕ) → refusalOf room path count (lines_of (drop at text)) ≡ refusalOf room path count (b.bytes ∷ lines_of (drop r.end text))
-    refusal-cut room count = ap (refusalOf room path count) b.cut
+    refusal_cut : (room count : ℕ) → refusal_of room path count (lines_of (drop at text)) ≡ refusal_of room path count (b.bytes ∷ lines_of (drop r.end text))
+    refusal_cut room count = ap (refusal_of room path count) b.cut
 
-    entries-cut : entriesOf path (lines_of (drop at text)) ≡ entriesOf path (b.bytes ∷ lines_of (drop r.end text))
-    entries-cut = ap (entriesOf path) b.cut
+    entries_cut : entries_of path (lines_of (drop at text)) ≡ entries_of path (b.bytes ∷ lines_of (drop r.end text))
+    entries_cut = ap (entries_of path) b.cut
 
-    is-line : (x : Lines.Line) → given r.line ≡ some x → line_of b.bytes ≡ some x
-    is-line x e = sym b.is ∙ e
+    is_line : (x : Lines.Line) → given r.line ≡ some x → line_of b.bytes ≡ some x
+    is_line x e = sym b.is ∙ e
 
 -- the sum along the path into a bin or a group
 deeper : (path : List Place) (depth : ℕ) (sum : SumWords) (o : OffsetWords) → Stands path depth sum → moved (sum_of sum) (place_of o) ≡ total (place_of o ∷ path)
@@ -109,49 +109,49 @@ deeper path depth sum o s = ap (λ (p : Place). moved p (place_of o)) s.sum_is
 
 module _ (text : List ℕ) (depth : ℕ) (sum : SumWords) (at end count room : ℕ) (E W : List ℤ) where
   -- a group too deep
-  leaf-deep : (o : OffsetWords) → Found text at (record { line = PlanLine.Open o; end = end }) → ltb depth mostDepth ≡ false → length W ≡ length E
-      → ItemRead text depth sum at count room E W (refusedStep tooDeep)
+  leaf_deep : (o : OffsetWords) → Found text at (record { line = PlanLine.Open o; end = end }) → ltb depth most_depth ≡ false → length W ≡ length E
+      → ItemRead text depth sum at count room E W (refused_step too_deep)
   unfolding given ended
-  leaf-deep o v d l =
+  leaf_deep o v d l =
       let b : Begins text at (record { line = PlanLine.Open o; end = end }) = v.begins refl in
-      offends text depth sum at count room E W l 61 (λ path s. ap (refusalOf room path count) b.cut
-      ∙ group-too-deep room path count b.bytes _ (place_of o) (sym b.is) (ap (λ (n : ℕ). ltb n mostDepth) s.deep ∙ d))
+      offends text depth sum at count room E W l 61 (λ path s. ap (refusal_of room path count) b.cut
+      ∙ group_too_deep room path count b.bytes _ (place_of o) (sym b.is) (ap (λ (n : ℕ). ltb n most_depth) s.deep ∙ d))
 
   -- no line of a plan
-  leaf-none : Found text at (record { line = PlanLine.Malformed; end = end }) → length W ≡ length E → ItemRead text depth sum at count room E W (refusedStep malformed)
+  leaf_none : Found text at (record { line = PlanLine.Malformed; end = end }) → length W ≡ length E → ItemRead text depth sum at count room E W (refused_step malformed)
   unfolding given ended
-  leaf-none v l =
+  leaf_none v l =
       let b : Begins text at (record { line = PlanLine.Malformed; end = end }) = v.begins refl in
-      offends text depth sum at count room E W l 60 (λ path s. ap (refusalOf room path count) b.cut ∙ no_line room path count b.bytes _ (sym b.is))
+      offends text depth sum at count room E W l 60 (λ path s. ap (refusal_of room path count) b.cut ∙ no_line room path count b.bytes _ (sym b.is))
 
   -- a bracket
-  leaf-close : Found text at (record { line = PlanLine.Close; end = end }) → length W ≡ length E
-      → ((closed_step depth end count).refusal ≡ 0 → entryWidth * room ≤ length E → Appended (entryWidth * count) [] E W) → ItemRead text depth sum at count room E W (closed_step depth end count)
-  unfolding given ended refusalClosed entriesClosed list_of
-  leaf-close v l put = go (eqb depth 0) refl put
+  leaf_close : Found text at (record { line = PlanLine.Close; end = end }) → length W ≡ length E
+      → ((closed_step depth end count).refusal ≡ 0 → entry_width * room ≤ length E → Appended (entry_width * count) [] E W) → ItemRead text depth sum at count room E W (closed_step depth end count)
+  unfolding given ended refusal_closed entries_closed list_of
+  leaf_close v l put = go (eqb depth 0) refl put
     where
       b : Begins text at (record { line = PlanLine.Close; end = end })
       b = v.begins refl
 
-      closes : (path : List Place) → 0 < length path → refusalOf room path count (lines_of (drop at text)) ≡ refusalClosed room path count (lines_of (drop end text))
+      closes : (path : List Place) → 0 < length path → refusal_of room path count (lines_of (drop at text)) ≡ refusal_closed room path count (lines_of (drop end text))
       closes [] h = absurd (omega arith)
-      closes (o ∷ path) h = ap (refusalOf room (o ∷ path) count) b.cut ∙ group-closed room (o ∷ path) count b.bytes _ (sym b.is) (lt-ltb 0 (length (o ∷ path)) h)
+      closes (o ∷ path) h = ap (refusal_of room (o ∷ path) count) b.cut ∙ group_closed room (o ∷ path) count b.bytes _ (sym b.is) (lt-ltb 0 (length (o ∷ path)) h)
 
-      lists : (path : List Place) → 0 < length path → entriesOf path (lines_of (drop at text)) ≡ entriesClosed path (lines_of (drop end text))
+      lists : (path : List Place) → 0 < length path → entries_of path (lines_of (drop at text)) ≡ entries_closed path (lines_of (drop end text))
       lists [] h = absurd (omega arith)
-      lists (o ∷ path) h = ap (entriesOf (o ∷ path)) b.cut ∙ closed-entries (o ∷ path) b.bytes _ (sym b.is)
+      lists (o ∷ path) h = ap (entries_of (o ∷ path)) b.cut ∙ closed_entries (o ∷ path) b.bytes _ (sym b.is)
 
       afterwards : Bool → Step
-      afterwards z = cond z (refusedStep malformed) (step 0 true end count)
+      afterwards z = cond z (refused_step malformed) (step 0 true end count)
 
-      go : (z : Bool) → eqb depth 0 ≡ z → ((afterwards z).refusal ≡ 0 → entryWidth * room ≤ length E → Appended (entryWidth * count) [] E W)
+      go : (z : Bool) → eqb depth 0 ≡ z → ((afterwards z).refusal ≡ 0 → entry_width * room ≤ length E → Appended (entry_width * count) [] E W)
           → ItemRead text depth sum at count room E W (afterwards z)
       go true q p =
           let none_open : depth ≡ 0 = eqb-true depth 0 q in
-          offends text depth sum at count room E W l 60 (λ path s. ap (refusalOf room path count) b.cut
-          ∙ none-to-close room path count b.bytes _ (sym b.is) (le-ltb 0 (length path) (omega (arith, s.deep))))
+          offends text depth sum at count room E W l 60 (λ path s. ap (refusal_of room path count) b.cut
+          ∙ none_to_close room path count b.bytes _ (sym b.is) (le-ltb 0 (length path) (omega (arith, s.deep))))
       go false q p =
-          let some-open : ¬ (depth ≡ 0) = eqb-false depth 0 q in
+          let some_open : ¬ (depth ≡ 0) = eqb-false depth 0 q in
           goes_on text depth sum at count room E W l (step 0 true end count) refl v.within v.from (λ e. absurd (no e))
           (λ path s. record {
             entries = [];
@@ -165,49 +165,49 @@ module _ (text : List ℕ) (depth : ℕ) (sum : SumWords) (at end count room : �
           no e = let z : ◌≡◌ {A = ℕ} 0 1 = cc in omega arith
 
   -- the end of the text
-  leaf-end : Found text at (record { line = PlanLine.End; end = end }) → length W ≡ length E
-      → ((endStep depth end count).refusal ≡ 0 → entryWidth * room ≤ length E → Appended (entryWidth * count) [] E W) → ItemRead text depth sum at count room E W (endStep depth end count)
-  unfolding ended refusalOf entriesOf refusalClosed entriesClosed list_of
-  leaf-end v l put = go (eqb depth 0) refl put
+  leaf_end : Found text at (record { line = PlanLine.End; end = end }) → length W ≡ length E
+      → ((end_step depth end count).refusal ≡ 0 → entry_width * room ≤ length E → Appended (entry_width * count) [] E W) → ItemRead text depth sum at count room E W (end_step depth end count)
+  unfolding ended refusal_of entries_of refusal_closed entries_closed list_of
+  leaf_end v l put = go (eqb depth 0) refl put
     where
       none_left : lines_of (drop at text) ≡ []
       none_left = v.none_left refl
 
-      ends : (path : List Place) → length path ≡ 0 → refusalOf room path count (lines_of (drop at text)) ≡ refusalClosed room path count (lines_of (drop end text))
-      ends [] h = ap (refusalOf room [] count) none_left
+      ends : (path : List Place) → length path ≡ 0 → refusal_of room path count (lines_of (drop at text)) ≡ refusal_closed room path count (lines_of (drop end text))
+      ends [] h = ap (refusal_of room [] count) none_left
       ends (o ∷ path) h = absurd (omega arith)
 
-      lists : (path : List Place) → length path ≡ 0 → entriesOf path (lines_of (drop at text)) ≡ entriesClosed path (lines_of (drop end text))
-      lists [] h = ap (entriesOf []) none_left
+      lists : (path : List Place) → length path ≡ 0 → entries_of path (lines_of (drop at text)) ≡ entries_closed path (lines_of (drop end text))
+      lists [] h = ap (entries_of []) none_left
       lists (o ∷ path) h = absurd (omega arith)
 
-      open-still : (path : List Place) → 0 < length path → refusalOf room path count (lines_of (drop at text)) ≡ malformed
-      open-still [] h = absurd (omega arith)
-      open-still (o ∷ path) h = ap (refusalOf room (o ∷ path) count) none_left
+      open_still : (path : List Place) → 0 < length path → refusal_of room path count (lines_of (drop at text)) ≡ malformed
+      open_still [] h = absurd (omega arith)
+      open_still (o ∷ path) h = ap (refusal_of room (o ∷ path) count) none_left
 
       no : true ≡ false → ⊥
       no e = let z : ◌≡◌ {A = ℕ} 0 1 = cc in omega arith
 
       afterwards : Bool → Step
-      afterwards z = cond z (step 0 true end count) (refusedStep malformed)
+      afterwards z = cond z (step 0 true end count) (refused_step malformed)
 
-      go : (z : Bool) → eqb depth 0 ≡ z → ((afterwards z).refusal ≡ 0 → entryWidth * room ≤ length E → Appended (entryWidth * count) [] E W)
+      go : (z : Bool) → eqb depth 0 ≡ z → ((afterwards z).refusal ≡ 0 → entry_width * room ≤ length E → Appended (entry_width * count) [] E W)
           → ItemRead text depth sum at count room E W (afterwards z)
       go true q p =
           let none_open : depth ≡ 0 = eqb-true depth 0 q in
           goes_on text depth sum at count room E W l (step 0 true end count) refl v.within v.from (λ e. absurd (no e))
           (λ path s. record { entries = []; refusal = ends path (omega (arith, s.deep)); listed = lists path (omega (arith, s.deep)); counted = omega arith; put = p refl })
       go false q p =
-          let some-open : ¬ (depth ≡ 0) = eqb-false depth 0 q in
-          offends text depth sum at count room E W l 60 (λ path s. open-still path (omega (arith, s.deep)))
+          let some_open : ¬ (depth ≡ 0) = eqb-false depth 0 q in
+          offends text depth sum at count room E W l 60 (λ path s. open_still path (omega (arith, s.deep)))
 
   -- a bin
-  leaf-bin : (n : ℕ) (o : OffsetWords) → Found text at (record { line = PlanLine.Bin n o; end = end }) → length W ≡ length E
-      → ((binStep (moved (sum_of sum) (place_of o)) end count room).refusal ≡ 0 → entryWidth * room ≤ length E
-      → Appended (entryWidth * count) (list_of (entry (pos n) (moved (sum_of sum) (place_of o)) ∷ [])) E W)
-      → ItemRead text depth sum at count room E W (binStep (moved (sum_of sum) (place_of o)) end count room)
+  leaf_bin : (n : ℕ) (o : OffsetWords) → Found text at (record { line = PlanLine.Bin n o; end = end }) → length W ≡ length E
+      → ((bin_step (moved (sum_of sum) (place_of o)) end count room).refusal ≡ 0 → entry_width * room ≤ length E
+      → Appended (entry_width * count) (list_of (entry (pos n) (moved (sum_of sum) (place_of o)) ∷ [])) E W)
+      → ItemRead text depth sum at count room E W (bin_step (moved (sum_of sum) (place_of o)) end count room)
   unfolding given ended
-  leaf-bin n o v l put = go (in_range place) refl put
+  leaf_bin n o v l put = go (in_range place) refl put
     where
       place : Place
       place = moved (sum_of sum) (place_of o)
@@ -219,55 +219,55 @@ module _ (text : List ℕ) (depth : ℕ) (sum : SumWords) (at end count room : �
       there path s x q = ap in_range (sym (deeper path depth sum o s)) ∙ q
 
       Put : Step → Type 0
-      Put s = s.refusal ≡ 0 → entryWidth * room ≤ length E → Appended (entryWidth * count) (list_of (entry (pos n) place ∷ [])) E W
+      Put s = s.refusal ≡ 0 → entry_width * room ≤ length E → Appended (entry_width * count) (list_of (entry (pos n) place ∷ [])) E W
 
-      within : (x : Bool) → ltb count room ≡ x → in_range place ≡ true → Put (cond x (step 0 false end (suc count)) (refusedStep tooMany))
-          → ItemRead text depth sum at count room E W (cond x (step 0 false end (suc count)) (refusedStep tooMany))
+      within : (x : Bool) → ltb count room ≡ x → in_range place ≡ true → Put (cond x (step 0 false end (suc count)) (refused_step too_many))
+          → ItemRead text depth sum at count room E W (cond x (step 0 false end (suc count)) (refused_step too_many))
       within true q r p =
           goes_on text depth sum at count room E W l (step 0 false end (suc count)) refl v.within v.from (λ e. b.more)
           (λ path s. record {
             entries = entry (pos n) place ∷ [];
-            refusal = ap (refusalOf room path count) b.cut ∙ bin-placed room path count b.bytes _ n (place_of o) (sym b.is) (there path s true r) q;
-            listed = ap (entriesOf path) b.cut ∙ bin-entries path b.bytes _ n (place_of o) (sym b.is)
-                ∙ ap (λ (p : Place). entry (pos n) p ∷ entriesOf path (lines_of (drop end text))) (sym (deeper path depth sum o s));
+            refusal = ap (refusal_of room path count) b.cut ∙ bin_placed room path count b.bytes _ n (place_of o) (sym b.is) (there path s true r) q;
+            listed = ap (entries_of path) b.cut ∙ bin_entries path b.bytes _ n (place_of o) (sym b.is)
+                ∙ ap (λ (p : Place). entry (pos n) p ∷ entries_of path (lines_of (drop end text))) (sym (deeper path depth sum o s));
             counted = omega arith;
             put = p refl;
           })
       within false q r p =
           offends text depth sum at count room E W l 63
-          (λ path s. ap (refusalOf room path count) b.cut ∙ bin-too-many room path count b.bytes _ n (place_of o) (sym b.is) (there path s true r) q)
+          (λ path s. ap (refusal_of room path count) b.cut ∙ bin_too_many room path count b.bytes _ n (place_of o) (sym b.is) (there path s true r) q)
 
-      go : (x : Bool) → in_range place ≡ x → Put (cond x (cond (ltb count room) (step 0 false end (suc count)) (refusedStep tooMany)) (refusedStep outOfRange))
-          → ItemRead text depth sum at count room E W (cond x (cond (ltb count room) (step 0 false end (suc count)) (refusedStep tooMany)) (refusedStep outOfRange))
+      go : (x : Bool) → in_range place ≡ x → Put (cond x (cond (ltb count room) (step 0 false end (suc count)) (refused_step too_many)) (refused_step out_of_range))
+          → ItemRead text depth sum at count room E W (cond x (cond (ltb count room) (step 0 false end (suc count)) (refused_step too_many)) (refused_step out_of_range))
       go true q p = within (ltb count room) refl q p
       go false q p =
           offends text depth sum at count room E W l 62
-          (λ path s. ap (refusalOf room path count) b.cut ∙ bin-out-of-range room path count b.bytes _ n (place_of o) (sym b.is) (there path s false q))
+          (λ path s. ap (refusal_of room path count) b.cut ∙ bin_out_of_range room path count b.bytes _ n (place_of o) (sym b.is) (there path s false q))
 
   -- a line that opens no group, or one too many
-  leaf-any : (line : PlanLine) → Found text at (record { line = line; end = end }) → mayOpen line depth ≡ false → length W ≡ length E
-      → ((leafStep line depth sum end count room).refusal ≡ 0 → entryWidth * room ≤ length E → Appended (entryWidth * count) (list_of (leafEntries line sum)) E W)
-      → ItemRead text depth sum at count room E W (leafStep line depth sum end count room)
-  unfolding leafStep leafEntries mayOpen list_of
-  leaf-any (PlanLine.Open o) v d l put = leaf-deep o v d l
-  leaf-any (PlanLine.Bin n o) v d l put = leaf-bin n o v l put
-  leaf-any PlanLine.Close v d l put = leaf-close v l put
-  leaf-any PlanLine.Malformed v d l put = leaf-none v l
-  leaf-any PlanLine.End v d l put = leaf-end v l put
+  leaf_any : (line : PlanLine) → Found text at (record { line = line; end = end }) → may_open line depth ≡ false → length W ≡ length E
+      → ((leaf_step line depth sum end count room).refusal ≡ 0 → entry_width * room ≤ length E → Appended (entry_width * count) (list_of (leaf_entries line sum)) E W)
+      → ItemRead text depth sum at count room E W (leaf_step line depth sum end count room)
+  unfolding leaf_step leaf_entries may_open list_of
+  leaf_any (PlanLine.Open o) v d l put = leaf_deep o v d l
+  leaf_any (PlanLine.Bin n o) v d l put = leaf_bin n o v l put
+  leaf_any PlanLine.Close v d l put = leaf_close v l put
+  leaf_any PlanLine.Malformed v d l put = leaf_none v l
+  leaf_any PlanLine.End v d l put = leaf_end v l put
 
 -- An item that is no group.
-pub item-leaf : (text : List ℕ) (depth : ℕ) (sum : SumWords) (at count room : ℕ) (E W : List ℤ) (s : Step) (r : LineAt) → Found text at r → mayOpen r.line depth ≡ false
+pub item_leaf : (text : List ℕ) (depth : ℕ) (sum : SumWords) (at count room : ℕ) (E W : List ℤ) (s : Step) (r : LineAt) → Found text at r → may_open r.line depth ≡ false
     → LeafRead r.line depth sum r.end count room E W s → ItemRead text depth sum at count room E W s
-item-leaf text depth sum at count room E W s r v d w =
+item_leaf text depth sum at count room E W s r v d w =
     subst (ItemRead text depth sum at count room E W) (sym w.is)
-    (leaf-any text depth sum at r.end count room E W r.line v d w.long (λ z. w.put (ap (λ (x : Step). x.refusal) w.is ∙ z)))
+    (leaf_any text depth sum at r.end count room E W r.line v d w.long (λ z. w.put (ap (λ (x : Step). x.refusal) w.is ∙ z)))
 
 -- ---- groups
 
 -- what reading from a place asks of a group
-pub ready-inner : (text : List ℕ) (depth : ℕ) (sum inner : SumWords) (at room : ℕ) (r : LineAt) → Ready text depth sum at room → Found text at r → OpensGroup r.line depth sum inner
+pub ready_inner : (text : List ℕ) (depth : ℕ) (sum inner : SumWords) (at room : ℕ) (r : LineAt) → Ready text depth sum at room → Found text at r → OpensGroup r.line depth sum inner
     → Ready text (depth + 1) inner r.end room
-ready-inner text depth sum inner at room r v w o = record {
+ready_inner text depth sum inner at room r v w o = record {
   place = w.within;
   deep = omega (arith, o.shallow);
   near = subst (λ (n : ℕ). Near n inner) (sym (add-one depth)) o.moved_to.near;
@@ -275,10 +275,10 @@ ready-inner text depth sum inner at room r v w o = record {
 }
 
 -- An item that is a group.
-pub item-group : (text : List ℕ) (depth : ℕ) (sum inner : SumWords) (at count room : ℕ) (E W : List ℤ) (s : Step) (r : LineAt) → Found text at r → OpensGroup r.line depth sum inner
+pub item_group : (text : List ℕ) (depth : ℕ) (sum inner : SumWords) (at count room : ℕ) (E W : List ℤ) (s : Step) (r : LineAt) → Found text at r → OpensGroup r.line depth sum inner
     → GroupRead text (depth + 1) inner r.end count room E W s → ItemRead text depth sum at count room E W (step s.refusal false s.next s.count)
-unfolding given ended refusalClosed entriesClosed
-item-group text depth sum inner at count room E W s r v o w = record {
+unfolding given ended refusal_closed entries_closed
+item_group text depth sum inner at count room E W s r v o w = record {
   read = record { long = w.read.long; inside = w.read.inside; onward = λ z. omega (arith, w.read.onward z, v.from); along = along };
   further = λ z e. omega (arith, w.read.onward z, b.more);
 }
@@ -292,10 +292,10 @@ item-group text depth sum inner at count room E W s r v o w = record {
     inside : (path : List Place) → Stands path depth sum → Stands (place_of o.offset ∷ path) (depth + 1) inner
     inside path t = record { deep = omega (arith, t.deep); sum_is = o.moved_to.is ∙ deeper path depth sum o.offset t }
 
-    opens : (path : List Place) → Stands path depth sum → refusalOf room path count (lines_of (drop at text)) ≡ refusalOf room (place_of o.offset ∷ path) count (lines_of (drop r.end text))
+    opens : (path : List Place) → Stands path depth sum → refusal_of room path count (lines_of (drop at text)) ≡ refusal_of room (place_of o.offset ∷ path) count (lines_of (drop r.end text))
     opens path t =
-        ap (refusalOf room path count) b.cut
-        ∙ group-opened room path count b.bytes _ (place_of o.offset) (sym b.is ∙ line) (lt-ltb (length path) mostDepth (omega (arith, t.deep, o.shallow)))
+        ap (refusal_of room path count) b.cut
+        ∙ group_opened room path count b.bytes _ (place_of o.offset) (sym b.is ∙ line) (lt-ltb (length path) most_depth (omega (arith, t.deep, o.shallow)))
 
     along : (path : List Place) → Stands path depth sum → Along text path at count room E W (step s.refusal false s.next s.count)
     along path t =
@@ -307,10 +307,10 @@ item-group text depth sum inner at count room E W s r v o w = record {
               record {
                 entries = g.entries;
                 refusal = opens path t ∙ g.refusal
-                    ∙ ap (λ (c : Bool). cond c (refusalOf room path s.count (lines_of (drop s.next text)))
-                    (refusalOf room (place_of o.offset ∷ path) s.count (lines_of (drop s.next text)))) shut;
-                listed = ap (entriesOf path) b.cut ∙ opened-entries path b.bytes _ (place_of o.offset) (sym b.is ∙ line) ∙ g.listed
-                    ∙ ap (λ (c : Bool). g.entries ++ cond c (entriesOf path (lines_of (drop s.next text))) (entriesOf (place_of o.offset ∷ path) (lines_of (drop s.next text)))) shut;
+                    ∙ ap (λ (c : Bool). cond c (refusal_of room path s.count (lines_of (drop s.next text)))
+                    (refusal_of room (place_of o.offset ∷ path) s.count (lines_of (drop s.next text)))) shut;
+                listed = ap (entries_of path) b.cut ∙ opened_entries path b.bytes _ (place_of o.offset) (sym b.is ∙ line) ∙ g.listed
+                    ∙ ap (λ (c : Bool). g.entries ++ cond c (entries_of path (lines_of (drop s.next text))) (entries_of (place_of o.offset ∷ path) (lines_of (drop s.next text)))) shut;
                 counted = g.counted;
                 put = g.put;
               };
@@ -322,22 +322,22 @@ item-group text depth sum inner at count room E W s r v o w = record {
 abbrev pub Reached : List ℕ → ℕ → SumWords → ℕ → ℕ → ℕ → List ℤ → List ℤ → ℕ → ℕ → Type 0
 Reached text depth sum at count room E W next standing = Read text depth sum at count room E W (step 0 false next standing)
 
-pub reached-none : (text : List ℕ) (depth : ℕ) (sum : SumWords) (at count room : ℕ) (E : List ℤ) → Ready text depth sum at room → Reached text depth sum at count room E E at count
+pub reached_none : (text : List ℕ) (depth : ℕ) (sum : SumWords) (at count room : ℕ) (E : List ℤ) → Ready text depth sum at room → Reached text depth sum at count room E E at count
 unfolding list_of
-reached-none text depth sum at count room E v = record {
+reached_none text depth sum at count room E v = record {
   long = refl;
   inside = v.place;
   onward = λ z. omega arith;
   along = λ path s. record {
     refused = λ n. absurd (n refl);
-    went = λ z. record { entries = []; refusal = refl; listed = refl; counted = omega arith; put = λ h. appended-none (entryWidth * count) E };
+    went = λ z. record { entries = []; refusal = refl; listed = refl; counted = omega arith; put = λ h. appended_none (entry_width * count) E };
   };
 }
 
-pub ready-next : (text : List ℕ) (depth : ℕ) (sum : SumWords) (at count room : ℕ) (E W : List ℤ) (next standing : ℕ) → Ready text depth sum at room
+pub ready_next : (text : List ℕ) (depth : ℕ) (sum : SumWords) (at count room : ℕ) (E W : List ℤ) (next standing : ℕ) → Ready text depth sum at room
     → Reached text depth sum at count room E W next standing
     → Ready text depth sum next room
-ready-next text depth sum at count room E W next standing v r = record { place = r.inside; deep = v.deep; near = v.near; few = v.few }
+ready_next text depth sum at count room E W next standing v r = record { place = r.inside; deep = v.deep; near = v.near; few = v.few }
 
 -- one item more
 module _ (text : List ℕ) (depth : ℕ) (sum : SumWords) (at count room : ℕ) (E W U : List ℤ) (next standing : ℕ) (s : Step)
@@ -359,45 +359,45 @@ module _ (text : List ℕ) (depth : ℕ) (sum : SumWords) (at count room : ℕ) 
             went = λ z. let g = a.went z in record {
               entries = before.entries ++ g.entries;
               refusal = before.refusal ∙ g.refusal;
-              listed = before.listed ∙ ap (λ (es : List Entry). before.entries ++ es) g.listed ∙ sym (append_assoc before.entries g.entries (entriesAfter path text s));
+              listed = before.listed ∙ ap (λ (es : List Entry). before.entries ++ es) g.listed ∙ sym (append_assoc before.entries g.entries (entries_after path text s));
               counted = omega (arith, g.counted, before.counted, length-append before.entries g.entries);
-              put = λ h. subst (λ (xs : List ℤ). Appended (entryWidth * count) xs E U) (sym (list-append before.entries g.entries))
-                  (appended_then (before.put h) (omega (arith, before.counted, list_length before.entries)) (g.put (subst (λ (n : ℕ). entryWidth * room ≤ n) (sym v.long) h)));
+              put = λ h. subst (λ (xs : List ℤ). Appended (entry_width * count) xs E U) (sym (list_append before.entries g.entries))
+                  (appended_then (before.put h) (omega (arith, before.counted, list_length before.entries)) (g.put (subst (λ (n : ℕ). entry_width * room ≤ n) (sym v.long) h)));
             };
           }
 
-  pub group-refused : (s.refusal ≡ 0 → ⊥) → GroupRead text depth sum at count room E U s
-  group-refused n = record { read = then; ended = λ z. absurd (n z) }
+  pub group_refused : (s.refusal ≡ 0 → ⊥) → GroupRead text depth sum at count room E U s
+  group_refused n = record { read = then; ended = λ z. absurd (n z) }
 
-  pub group-ended : s.closed ≡ true → GroupRead text depth sum at count room E U s
-  group-ended e = record { read = then; ended = λ z. e }
+  pub group_ended : s.closed ≡ true → GroupRead text depth sum at count room E U s
+  group_ended e = record { read = then; ended = λ z. e }
 
-  pub reached-more : s.refusal ≡ 0 → s.closed ≡ false → Reached text depth sum at count room E U s.next s.count
-  reached-more z e = subst (λ (x : Step). Read text depth sum at count room E U x) same then
+  pub reached_more : s.refusal ≡ 0 → s.closed ≡ false → Reached text depth sum at count room E U s.next s.count
+  reached_more z e = subst (λ (x : Step). Read text depth sum at count room E U x) same then
     where
       same : s ≡ step 0 false s.next s.count
       same = λ i. step (z i) (e i) s.next s.count
 
-  pub item-further : s.refusal ≡ 0 → s.closed ≡ false → length text - s.next < length text - next
-  item-further z e = omega (arith, w.further z e, w.read.inside)
+  pub item_further : s.refusal ≡ 0 → s.closed ≡ false → length text - s.next < length text - next
+  item_further z e = omega (arith, w.further z e, w.read.inside)
 
 -- ---- what remains falls
-pub item-falls : (text : List ℕ) (depth : ℕ) (sum : SumWords) (at count room : ℕ) (E W : List ℤ) (next standing t : ℕ) → Reached text depth sum at count room E W next standing
+pub item_falls : (text : List ℕ) (depth : ℕ) (sum : SumWords) (at count room : ℕ) (E W : List ℤ) (next standing t : ℕ) → Reached text depth sum at count room E W next standing
     → 2 * (length text - at) + 1 ≡ t → 2 * (length text - next) < t
-item-falls text depth sum at count room E W next standing t v e = omega (arith, v.onward refl)
+item_falls text depth sum at count room E W next standing t v e = omega (arith, v.onward refl)
 
-pub group-falls : (text : List ℕ) (at t depth : ℕ) (sum inner : SumWords) (r : LineAt) → Found text at r → OpensGroup r.line depth sum inner → 2 * (length text - at) ≡ t
+pub group_falls : (text : List ℕ) (at t depth : ℕ) (sum inner : SumWords) (r : LineAt) → Found text at r → OpensGroup r.line depth sum inner → 2 * (length text - at) ≡ t
     → 2 * (length text - r.end) + 1 < t
 unfolding ended
-group-falls text at t depth sum inner r v o e =
+group_falls text at t depth sum inner r v o e =
     let b : Begins text at r = v.begins (ap ended o.is) in
     omega (arith, b.more, v.within)
 
 -- what `open_group` answered
-pub opened-group : (line : PlanLine) (depth : ℕ) (sum inner : SumWords) (a : Opening) → Opened line depth sum a → a ≡ Opening.Group inner → OpensGroup line depth sum inner
+pub opened_group : (line : PlanLine) (depth : ℕ) (sum inner : SumWords) (a : Opening) → Opened line depth sum a → a ≡ Opening.Group inner → OpensGroup line depth sum inner
 unfolding Opened
-opened-group line depth sum inner a v e = subst (Opened line depth sum) e v
+opened_group line depth sum inner a v e = subst (Opened line depth sum) e v
 
-pub opened-other : (line : PlanLine) (depth : ℕ) (sum : SumWords) (a : Opening) → Opened line depth sum a → a ≡ Opening.Other → mayOpen line depth ≡ false
+pub opened_other : (line : PlanLine) (depth : ℕ) (sum : SumWords) (a : Opening) → Opened line depth sum a → a ≡ Opening.Other → may_open line depth ≡ false
 unfolding Opened
-opened-other line depth sum a v e = subst (Opened line depth sum) e v
+opened_other line depth sum a v e = subst (Opened line depth sum) e v

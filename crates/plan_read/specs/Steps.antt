@@ -2,9 +2,9 @@
 use Rattle.std.specs.Prelude.{Bool, true, false, cond, List, [], ◌∷◌, ◌++◌, ◌≡◌, ℕ, zero, suc, ◌+◌, ◌*◌, ◌≤◌, ◌<◌, eqb, ltb, ℤ, pos, length, drop}
 use Rattle.slice_append.specs.Appended.{Appended}
 use Rattle.plan_definition.specs.Places.{Place, total, moved, in_range}
-use Rattle.plan_definition.specs.Grammar.{Entry, entry, mostDepth}
+use Rattle.plan_definition.specs.Grammar.{Entry, entry, most_depth}
 use Rattle.plan_definition.specs.Lines.{lines_of}
-use Rattle.plan_definition.specs.Reading.{refusalOf, entriesOf, malformed, tooDeep, outOfRange, tooMany, entryWidth, mostEntries, list_of}
+use Rattle.plan_definition.specs.Reading.{refusal_of, entries_of, malformed, too_deep, out_of_range, too_many, entry_width, most_entries, list_of}
 use Rattle.plan_lines.specs.declared.OffsetWords.{OffsetWords}
 use Rattle.plan_lines.specs.declared.places.SumWords.{SumWords}
 use Rattle.plan_lines.specs.Given.{place_of}
@@ -21,68 +21,68 @@ abbrev pub step : ℕ → Bool → ℕ → ℕ → Step
 step refusal closed next count = record { refusal = refusal; closed = closed; next = next; count = count }
 
 -- a line offends
-abbrev pub refusedStep : ℕ → Step
-refusedStep n = step n false 0 0
+abbrev pub refused_step : ℕ → Step
+refused_step n = step n false 0 0
 
 -- a bracket with so many groups open
 abbrev pub closed_step : ℕ → ℕ → ℕ → Step
-closed_step depth next count = cond (eqb depth 0) (refusedStep malformed) (step 0 true next count)
+closed_step depth next count = cond (eqb depth 0) (refused_step malformed) (step 0 true next count)
 
 -- the end of the text with so many groups open
-abbrev pub endStep : ℕ → ℕ → ℕ → Step
-endStep depth next count = cond (eqb depth 0) (step 0 true next count) (refusedStep malformed)
+abbrev pub end_step : ℕ → ℕ → ℕ → Step
+end_step depth next count = cond (eqb depth 0) (step 0 true next count) (refused_step malformed)
 
 -- a bin at a place: it stands if the place is in range and there is room
-abbrev pub binStep : Place → ℕ → ℕ → ℕ → Step
-binStep place next count room = cond (in_range place) (cond (ltb count room) (step 0 false next (suc count)) (refusedStep tooMany)) (refusedStep outOfRange)
+abbrev pub bin_step : Place → ℕ → ℕ → ℕ → Step
+bin_step place next count room = cond (in_range place) (cond (ltb count room) (step 0 false next (suc count)) (refused_step too_many)) (refused_step out_of_range)
 
 -- a bin was read: its place is the sum along its path, and its entry is in the list if it stands
 pub record BinRead (bin : ℕ) (offset : OffsetWords) (sum : SumWords) (next count room : ℕ) (E W : List ℤ) (s : Step) : Type 0 where
   pub long : length W ≡ length E
-  pub is : s ≡ binStep (moved (sum_of sum) (place_of offset)) next count room
-  pub put : s.refusal ≡ 0 → entryWidth * room ≤ length E → Appended (entryWidth * count) (list_of (entry (pos bin) (moved (sum_of sum) (place_of offset)) ∷ [])) E W
+  pub is : s ≡ bin_step (moved (sum_of sum) (place_of offset)) next count room
+  pub put : s.refusal ≡ 0 → entry_width * room ≤ length E → Appended (entry_width * count) (list_of (entry (pos bin) (moved (sum_of sum) (place_of offset)) ∷ [])) E W
 
 -- the step of a line that opens no group, or one too many
-unfoldable pub leafStep : PlanLine → ℕ → SumWords → ℕ → ℕ → ℕ → Step
-leafStep (PlanLine.Open o) depth sum next count room = refusedStep tooDeep
-leafStep (PlanLine.Bin n o) depth sum next count room = binStep (moved (sum_of sum) (place_of o)) next count room
-leafStep PlanLine.Close depth sum next count room = closed_step depth next count
-leafStep PlanLine.Malformed depth sum next count room = refusedStep malformed
-leafStep PlanLine.End depth sum next count room = endStep depth next count
+unfoldable pub leaf_step : PlanLine → ℕ → SumWords → ℕ → ℕ → ℕ → Step
+leaf_step (PlanLine.Open o) depth sum next count room = refused_step too_deep
+leaf_step (PlanLine.Bin n o) depth sum next count room = bin_step (moved (sum_of sum) (place_of o)) next count room
+leaf_step PlanLine.Close depth sum next count room = closed_step depth next count
+leaf_step PlanLine.Malformed depth sum next count room = refused_step malformed
+leaf_step PlanLine.End depth sum next count room = end_step depth next count
 
 -- the entries of such a line
-unfoldable pub leafEntries : PlanLine → SumWords → List Entry
-leafEntries (PlanLine.Open o) sum = []
-leafEntries (PlanLine.Bin n o) sum = entry (pos n) (moved (sum_of sum) (place_of o)) ∷ []
-leafEntries PlanLine.Close sum = []
-leafEntries PlanLine.Malformed sum = []
-leafEntries PlanLine.End sum = []
+unfoldable pub leaf_entries : PlanLine → SumWords → List Entry
+leaf_entries (PlanLine.Open o) sum = []
+leaf_entries (PlanLine.Bin n o) sum = entry (pos n) (moved (sum_of sum) (place_of o)) ∷ []
+leaf_entries PlanLine.Close sum = []
+leaf_entries PlanLine.Malformed sum = []
+leaf_entries PlanLine.End sum = []
 
 -- such a line was read
 pub record LeafRead (line : PlanLine) (depth : ℕ) (sum : SumWords) (next count room : ℕ) (E W : List ℤ) (s : Step) : Type 0 where
   pub long : length W ≡ length E
-  pub is : s ≡ leafStep line depth sum next count room
-  pub put : s.refusal ≡ 0 → entryWidth * room ≤ length E → Appended (entryWidth * count) (list_of (leafEntries line sum)) E W
+  pub is : s ≡ leaf_step line depth sum next count room
+  pub put : s.refusal ≡ 0 → entry_width * room ≤ length E → Appended (entry_width * count) (list_of (leaf_entries line sum)) E W
 
 -- whether a line opens a group that may still be opened
-unfoldable pub mayOpen : PlanLine → ℕ → Bool
-mayOpen (PlanLine.Open o) depth = ltb depth mostDepth
-mayOpen (PlanLine.Bin n o) depth = false
-mayOpen PlanLine.Close depth = false
-mayOpen PlanLine.Malformed depth = false
-mayOpen PlanLine.End depth = false
+unfoldable pub may_open : PlanLine → ℕ → Bool
+may_open (PlanLine.Open o) depth = ltb depth most_depth
+may_open (PlanLine.Bin n o) depth = false
+may_open PlanLine.Close depth = false
+may_open PlanLine.Malformed depth = false
+may_open PlanLine.End depth = false
 
 -- a line opens a group, and `inner` is the sum along the path into it
 pub record OpensGroup (line : PlanLine) (depth : ℕ) (sum inner : SumWords) : Type 0 where
   pub offset : OffsetWords
   pub is : line ≡ PlanLine.Open offset
-  pub shallow : depth < mostDepth
+  pub shallow : depth < most_depth
   pub moved_to : MovedTo depth sum offset inner
 
 -- r says whether a line opens a group
 unfoldable pub Opened : PlanLine → ℕ → SumWords → Opening → Type 0
 Opened line depth sum (Opening.Group inner) = OpensGroup line depth sum inner
-Opened line depth sum Opening.Other = mayOpen line depth ≡ false
+Opened line depth sum Opening.Other = may_open line depth ≡ false
 
 -- ---- steps along a path
 
@@ -94,38 +94,38 @@ pub record Stands (path : List Place) (depth : ℕ) (sum : SumWords) : Type 0 wh
 -- what reading from a place on asks
 pub record Ready (text : List ℕ) (depth : ℕ) (sum : SumWords) (at room : ℕ) : Type 0 where
   pub place : at ≤ length text
-  pub deep : depth ≤ mostDepth
+  pub deep : depth ≤ most_depth
   pub near : Near depth sum
-  pub few : room ≤ mostEntries
+  pub few : room ≤ most_entries
 
 -- the refusal of what follows once the innermost group is closed; with none open, nothing follows
-unfoldable pub refusalClosed : ℕ → List Place → ℕ → List (List ℕ) → ℕ
-refusalClosed room [] count ls = 0
-refusalClosed room (o ∷ path) count ls = refusalOf room path count ls
+unfoldable pub refusal_closed : ℕ → List Place → ℕ → List (List ℕ) → ℕ
+refusal_closed room [] count ls = 0
+refusal_closed room (o ∷ path) count ls = refusal_of room path count ls
 
 -- the entries of what follows then
-unfoldable pub entriesClosed : List Place → List (List ℕ) → List Entry
-entriesClosed [] ls = []
-entriesClosed (o ∷ path) ls = entriesOf path ls
+unfoldable pub entries_closed : List Place → List (List ℕ) → List Entry
+entries_closed [] ls = []
+entries_closed (o ∷ path) ls = entries_of path ls
 
 -- the refusal of what follows a step, and its entries
-abbrev pub refusalAfter : ℕ → List Place → List ℕ → Step → ℕ
-refusalAfter room path text s = cond s.closed (refusalClosed room path s.count (lines_of (drop s.next text))) (refusalOf room path s.count (lines_of (drop s.next text)))
+abbrev pub refusal_after : ℕ → List Place → List ℕ → Step → ℕ
+refusal_after room path text s = cond s.closed (refusal_closed room path s.count (lines_of (drop s.next text))) (refusal_of room path s.count (lines_of (drop s.next text)))
 
-abbrev pub entriesAfter : List Place → List ℕ → Step → List Entry
-entriesAfter path text s = cond s.closed (entriesClosed path (lines_of (drop s.next text))) (entriesOf path (lines_of (drop s.next text)))
+abbrev pub entries_after : List Place → List ℕ → Step → List Entry
+entries_after path text s = cond s.closed (entries_closed path (lines_of (drop s.next text))) (entries_of path (lines_of (drop s.next text)))
 
 -- no line offended from a place up to a step: the entries that were read stand in the list
 pub record Went (text : List ℕ) (path : List Place) (at count room : ℕ) (E W : List ℤ) (s : Step) : Type 0 where
   pub entries : List Entry
-  pub refusal : refusalOf room path count (lines_of (drop at text)) ≡ refusalAfter room path text s
-  pub listed : entriesOf path (lines_of (drop at text)) ≡ entries ++ entriesAfter path text s
+  pub refusal : refusal_of room path count (lines_of (drop at text)) ≡ refusal_after room path text s
+  pub listed : entries_of path (lines_of (drop at text)) ≡ entries ++ entries_after path text s
   pub counted : s.count ≡ count + length entries
-  pub put : entryWidth * room ≤ length E → Appended (entryWidth * count) (list_of entries) E W
+  pub put : entry_width * room ≤ length E → Appended (entry_width * count) (list_of entries) E W
 
 -- a step along a path: the first offending line was met, or none was
 pub record Along (text : List ℕ) (path : List Place) (at count room : ℕ) (E W : List ℤ) (s : Step) : Type 0 where
-  pub refused : (s.refusal ≡ 0 → ⊥) → refusalOf room path count (lines_of (drop at text)) ≡ s.refusal
+  pub refused : (s.refusal ≡ 0 → ⊥) → refusal_of room path count (lines_of (drop at text)) ≡ s.refusal
   pub went : s.refusal ≡ 0 → Went text path at count room E W s
 
 -- a step from a place, along every path that has the depth and the sum

@@ -3,7 +3,7 @@
 ghost use Rattle.std.specs.Prelude.{◌≡◌, ◌≤◌};
 ghost use Rattle.plan_lines.specs.Given.{InWords, Small};
 ghost use Rattle.plan_lines.specs.Sums.{Near};
-ghost use Rattle.plan_read.specs.Steps.{BinRead, LeafRead, Opened, closed_step, endStep, refusedStep};
+ghost use Rattle.plan_read.specs.Steps.{BinRead, LeafRead, Opened, closed_step, end_step, refused_step};
 
 use plan_lines::{OffsetWords, PlanLine, SumWords, moved, put_entry, sum_in_range};
 
@@ -37,7 +37,7 @@ pub enum Opening {
 
 // A line offends.
 fn refused(number: u32) -> Step
-    ensures { result ≡ refusedStep number }
+    ensures { result ≡ refused_step number }
 {
     Step {
         refusal: number,
@@ -64,7 +64,7 @@ fn close_group(depth: usize, next: usize, count: usize) -> Step
 
 // The text ends; it offends if a group is open.
 fn end_text(depth: usize, next: usize, count: usize) -> Step
-    ensures { result ≡ endStep depth next count }
+    ensures { result ≡ end_step depth next count }
 {
     if depth != 0 {
         return refused(MALFORMED);

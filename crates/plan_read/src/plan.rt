@@ -1,7 +1,7 @@
 // A plan's text read into a lent list.
 
 ghost use Rattle.std.specs.Prelude.{◌≡◌};
-ghost use Rattle.plan_definition.specs.Reading.{roomOf};
+ghost use Rattle.plan_definition.specs.Reading.{room_of};
 ghost use Rattle.plan_read.specs.Answer.{PlanRead};
 
 use crate::groups::read_group;
@@ -15,7 +15,7 @@ const ENTRY_WIDTH: usize = 4;
 
 // How many bins a list of so many numbers has room for.
 fn room_in(length: usize) -> usize
-    ensures { result ≡ roomOf length }
+    ensures { result ≡ room_of length }
 {
     let room = length / ENTRY_WIDTH;
     if room < MOST_ENTRIES {

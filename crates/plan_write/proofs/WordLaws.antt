@@ -12,14 +12,14 @@ use mir.ValLaws.{to_z-of_z}
 use Rattle.signed_numbers.specs.Range.{farthest, within}
 use Rattle.signed_numbers.specs.Bits.{read}
 use Rattle.signed_numbers.specs.Linear.{up, down, alone, abs, plus}
-use Rattle.body_refusals.specs.TableChecks.{mostBin}
-use Rattle.sheet_digits.specs.OffsetLaws.{offsetWords}
+use Rattle.body_refusals.specs.TableChecks.{most_bin}
+use Rattle.sheet_digits.specs.OffsetLaws.{offset_words}
 use Rattle.plan_definition.specs.Places.{in_range}
 use Rattle.plan_definition.specs.Grammar.{Entry}
 use Rattle.plan_definition.specs.Lines.{offset_of}
-use Rattle.plan_definition.specs.Writing.{binInRange}
+use Rattle.plan_definition.specs.Writing.{bin_in_range}
 use Rattle.plan_write.specs.declared.entries.EntryWords.{EntryWords}
-use Rattle.plan_write.specs.Entries.{EntryOf, WordOf, binWord, placeWords}
+use Rattle.plan_write.specs.Entries.{EntryOf, WordOf, bin_word, place_words}
 
 no : {P : Type 0} → true ≡ false → P
 no {P} e = let z : ◌≡◌ {A = ℕ} 0 1 = cc in absurd (omega arith)
@@ -35,8 +35,8 @@ module _ (n : ℤ) (r : Bool) (m : mag n < 2 ^ 63) (e : r ≡ within (read n)) w
   pub word_out : not r ≡ true → WordOf n 2199023255553
   word_out q = record { inside = λ w. no (sym w ∙ sym tested ∙ not-true r q); outside = λ w. refl }
 
-  pub word-asked : not r ≡ false → nat_abs (read n) ≤ farthest
-  word-asked q = subst (λ (z : ℤ). nat_abs z ≤ farthest) (sym plain) (leb-true (nat_abs n) farthest (sym tested ∙ not-false r q))
+  pub word_asked : not r ≡ false → nat_abs (read n) ≤ farthest
+  word_asked q = subst (λ (z : ℤ). nat_abs z ≤ farthest) (sym plain) (leb-true (nat_abs n) farthest (sym tested ∙ not-false r q))
 
   pub word_in : (w : ℕ) → not r ≡ false → pos w ≡ read n +ℤ pos farthest → WordOf n w
   word_in w q f = record { inside = λ t. f ∙ ap (λ (z : ℤ). z +ℤ pos farthest) plain; outside = λ t. no (sym (not-false r q) ∙ tested ∙ t) }
@@ -49,64 +49,64 @@ module _ (n : ℤ) (w : ℕ) (v : WordOf n w) (t : within n ≡ true) where
   sums : w + down n ≡ up n + farthest
   sums = omega (arith, ap up (v.inside t), ap down (v.inside t), plus n (pos farthest))
 
-  pub word_small : w < offsetWords
+  pub word_small : w < offset_words
   word_small = omega (arith, sums, abs n, leb-true (nat_abs n) farthest t)
 
 -- whether it is the word of a number in range
-apart-is : (n : ℤ) (w : ℕ) → WordOf n w → not (eqb w offsetWords) ≡ within n
-apart-is n w v = go (within n) refl
+apart_is : (n : ℤ) (w : ℕ) → WordOf n w → not (eqb w offset_words) ≡ within n
+apart_is n w v = go (within n) refl
   where
-    go : (b : Bool) → within n ≡ b → not (eqb w offsetWords) ≡ within n
-    go true t = ap not (ne_eqb w offsetWords (λ e. let l : w < offsetWords = word_small n w v t in omega arith)) ∙ sym t
-    go false t = ap not (eq-eqb w offsetWords (v.outside t)) ∙ sym t
+    go : (b : Bool) → within n ≡ b → not (eqb w offset_words) ≡ within n
+    go true t = ap not (ne_eqb w offset_words (λ e. let l : w < offset_words = word_small n w v t in omega arith)) ∙ sym t
+    go false t = ap not (eq-eqb w offset_words (v.outside t)) ∙ sym t
 
-pub place_is : (e : Entry) (w : EntryWords) → EntryOf e w → placeWords w ≡ in_range e.place
-place_is e w v = λ i. apart-is e.place.x w.x v.x i && (apart-is e.place.y w.y v.y i && apart-is e.place.z w.z v.z i)
+pub place_is : (e : Entry) (w : EntryWords) → EntryOf e w → place_words w ≡ in_range e.place
+place_is e w v = λ i. apart_is e.place.x w.x v.x i && (apart_is e.place.y w.y v.y i && apart_is e.place.z w.z v.z i)
 
 -- ---- a bin's word
-and-false : (b : Bool) → false ≡ (b && false)
-and-false true = refl
-and-false false = refl
+and_false : (b : Bool) → false ≡ (b && false)
+and_false true = refl
+and_false false = refl
 
-pub bin-is : (n : ℤ) (w : ℕ) → WordOf n w → binWord w ≡ binInRange n
-bin-is n w v = go (within n) refl
+pub bin_is : (n : ℤ) (w : ℕ) → WordOf n w → bin_word w ≡ bin_in_range n
+bin_is n w v = go (within n) refl
   where
-    far : within n ≡ false → nat_abs n ≤ mostBin → ⊥
+    far : within n ≡ false → nat_abs n ≤ most_bin → ⊥
     far t h = omega (arith, leb-false (nat_abs n) farthest t)
 
-    outside : within n ≡ false → binWord w ≡ binInRange n
+    outside : within n ≡ false → bin_word w ≡ bin_in_range n
     outside t =
-        let big : leb w (farthest + mostBin) ≡ false = lt-leb w (farthest + mostBin) (omega (arith, v.outside t)) in
-        let none : leb (nat_abs n) mostBin ≡ false = lt-leb (nat_abs n) mostBin (omega (arith, leb-false (nat_abs n) farthest t)) in
-        ap (λ (b : Bool). leb farthest w && b) big ∙ sym (and-false (leb farthest w)) ∙ and-false (non_neg n) ∙ ap (λ (b : Bool). non_neg n && b) (sym none)
+        let big : leb w (farthest + most_bin) ≡ false = lt-leb w (farthest + most_bin) (omega (arith, v.outside t)) in
+        let none : leb (nat_abs n) most_bin ≡ false = lt-leb (nat_abs n) most_bin (omega (arith, leb-false (nat_abs n) farthest t)) in
+        ap (λ (b : Bool). leb farthest w && b) big ∙ sym (and_false (leb farthest w)) ∙ and_false (non_neg n) ∙ ap (λ (b : Bool). non_neg n && b) (sym none)
 
-    at : (m : ℤ) → w + down m ≡ up m + farthest → nat_abs m ≤ farthest → binWord w ≡ binInRange m
-    at (pos m) s h = ap (λ (b : Bool). b && leb w (farthest + mostBin)) (le-leb farthest w (omega arith)) ∙ same (leb m mostBin) refl
+    at : (m : ℤ) → w + down m ≡ up m + farthest → nat_abs m ≤ farthest → bin_word w ≡ bin_in_range m
+    at (pos m) s h = ap (λ (b : Bool). b && leb w (farthest + most_bin)) (le-leb farthest w (omega arith)) ∙ same (leb m most_bin) refl
       where
-        same : (b : Bool) → leb m mostBin ≡ b → leb w (farthest + mostBin) ≡ leb m mostBin
-        same true q = le-leb w (farthest + mostBin) (omega (arith, leb-true m mostBin q)) ∙ sym q
-        same false q = lt-leb w (farthest + mostBin) (omega (arith, leb-false m mostBin q)) ∙ sym q
-    at (negsuc m) s h = ap (λ (b : Bool). b && leb w (farthest + mostBin)) (lt-leb farthest w (omega arith))
+        same : (b : Bool) → leb m most_bin ≡ b → leb w (farthest + most_bin) ≡ leb m most_bin
+        same true q = le-leb w (farthest + most_bin) (omega (arith, leb-true m most_bin q)) ∙ sym q
+        same false q = lt-leb w (farthest + most_bin) (omega (arith, leb-false m most_bin q)) ∙ sym q
+    at (negsuc m) s h = ap (λ (b : Bool). b && leb w (farthest + most_bin)) (lt-leb farthest w (omega arith))
 
-    go : (b : Bool) → within n ≡ b → binWord w ≡ binInRange n
+    go : (b : Bool) → within n ≡ b → bin_word w ≡ bin_in_range n
     go true t = at n (sums n w v t) (leb-true (nat_abs n) farthest t)
     go false t = outside t
 
 -- ---- the tests of the code
-pub bin-low : (w : EntryWords) → w.bin < 1099511627776 → false ≡ binWord w.bin
-bin-low w h = ap (λ (b : Bool). b && leb w.bin (farthest + mostBin)) (sym (lt-leb farthest w.bin h))
+pub bin_low : (w : EntryWords) → w.bin < 1099511627776 → false ≡ bin_word w.bin
+bin_low w h = ap (λ (b : Bool). b && leb w.bin (farthest + most_bin)) (sym (lt-leb farthest w.bin h))
 
-pub bin_high : (w : EntryWords) → 1099511627776 ≤ w.bin → leb w.bin 1099511693311 ≡ binWord w.bin
-bin_high w h = ap (λ (b : Bool). b && leb w.bin (farthest + mostBin)) (sym (le-leb farthest w.bin h))
+pub bin_high : (w : EntryWords) → 1099511627776 ≤ w.bin → leb w.bin 1099511693311 ≡ bin_word w.bin
+bin_high w h = ap (λ (b : Bool). b && leb w.bin (farthest + most_bin)) (sym (le-leb farthest w.bin h))
 
-pub x-out : (w : EntryWords) → w.x ≡ 2199023255553 → false ≡ placeWords w
-x-out w h = ap (λ (b : Bool). not b && (not (eqb w.y offsetWords) && not (eqb w.z offsetWords))) (sym (eq-eqb w.x offsetWords h))
+pub x_out : (w : EntryWords) → w.x ≡ 2199023255553 → false ≡ place_words w
+x_out w h = ap (λ (b : Bool). not b && (not (eqb w.y offset_words) && not (eqb w.z offset_words))) (sym (eq-eqb w.x offset_words h))
 
-x-in : (w : EntryWords) → (w.x ≡ 2199023255553 → ⊥) → not (eqb w.y offsetWords) && not (eqb w.z offsetWords) ≡ placeWords w
-x-in w h = ap (λ (b : Bool). not b && (not (eqb w.y offsetWords) && not (eqb w.z offsetWords))) (sym (ne_eqb w.x offsetWords h))
+x_in : (w : EntryWords) → (w.x ≡ 2199023255553 → ⊥) → not (eqb w.y offset_words) && not (eqb w.z offset_words) ≡ place_words w
+x_in w h = ap (λ (b : Bool). not b && (not (eqb w.y offset_words) && not (eqb w.z offset_words))) (sym (ne_eqb w.x offset_words h))
 
-pub y-out : (w : EntryWords) → (w.x ≡ 2199023255553 → ⊥) → w.y ≡ 2199023255553 → false ≡ placeWords w
-y-out w h q = ap (λ (b : Bool). not b && not (eqb w.z offsetWords)) (sym (eq-eqb w.y offsetWords q)) ∙ x-in w h
+pub y_out : (w : EntryWords) → (w.x ≡ 2199023255553 → ⊥) → w.y ≡ 2199023255553 → false ≡ place_words w
+y_out w h q = ap (λ (b : Bool). not b && not (eqb w.z offset_words)) (sym (eq-eqb w.y offset_words q)) ∙ x_in w h
 
-pub z-tested : (w : EntryWords) → (w.x ≡ 2199023255553 → ⊥) → (w.y ≡ 2199023255553 → ⊥) → not (eqb w.z 2199023255553) ≡ placeWords w
-z-tested w h q = ap (λ (b : Bool). not b && not (eqb w.z offsetWords)) (sym (ne_eqb w.y offsetWords q)) ∙ x-in w h
+pub z_tested : (w : EntryWords) → (w.x ≡ 2199023255553 → ⊥) → (w.y ≡ 2199023255553 → ⊥) → not (eqb w.z 2199023255553) ≡ place_words w
+z_tested w h q = ap (λ (b : Bool). not b && not (eqb w.z offset_words)) (sym (ne_eqb w.y offset_words q)) ∙ x_in w h

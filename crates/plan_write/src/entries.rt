@@ -3,7 +3,7 @@
 ghost use Rattle.std.specs.Prelude.{◌≡◌, pos, get_or, length, ◌*◌, ◌+◌, ◌<◌, ◌≤◌};
 ghost use Rattle.sheet_digit_writing.specs.Writing.{Wrote};
 ghost use Rattle.signed_numbers.specs.Range.{farthest};
-ghost use Rattle.plan_write.specs.Entries.{EntryOf, LineLength, WordOf, binWord, entry_at, placeWords, wordsLine, wordsRefusal};
+ghost use Rattle.plan_write.specs.Entries.{EntryOf, LineLength, WordOf, bin_word, entry_at, place_words, words_line, words_refusal};
 
 use sheet_lines::put_line;
 use signed_numbers::{in_range, word_of};
@@ -63,7 +63,7 @@ pub fn entry_words(list: &[i64], k: usize) -> EntryWords
 
 // Whether an entry's bin is in range, 0 to 65,535.
 fn bin_in_range(words: EntryWords) -> bool
-    ensures { result ≡ binWord words.bin }
+    ensures { result ≡ bin_word words.bin }
 {
     if words.bin < FARTHEST {
         return false;
@@ -73,7 +73,7 @@ fn bin_in_range(words: EntryWords) -> bool
 
 // Whether an entry's place is in range on each axis.
 fn place_in_range(words: EntryWords) -> bool
-    ensures { result ≡ placeWords words }
+    ensures { result ≡ place_words words }
 {
     if words.x == OUTSIDE {
         return false;
@@ -86,7 +86,7 @@ fn place_in_range(words: EntryWords) -> bool
 
 // What entry k is refused for, 0 if for nothing.
 pub fn entry_refusal(words: EntryWords, k: usize) -> u32
-    ensures { result ≡ wordsRefusal words k }
+    ensures { result ≡ words_refusal words k }
 {
     if !bin_in_range(words) {
         return MALFORMED;
@@ -104,7 +104,7 @@ pub fn entry_refusal(words: EntryWords, k: usize) -> u32
 pub fn put_bin(words: EntryWords, out: &mut [u8], at: usize) -> usize
     requires at_in_bounds { at ≤ length out.old }
     requires farthest_le_bin { farthest ≤ words.bin }
-    ensures { Wrote out.old at (wordsLine words) out.new result }
+    ensures { Wrote out.old at (words_line words) out.new result }
 {
     let bin = words.bin - FARTHEST;
     put_line(out, at, b"(bin#%%%)", &[bin, words.x, words.y, words.z])

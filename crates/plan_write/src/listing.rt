@@ -1,7 +1,7 @@
 // A listing: its entries checked, then written.
 
 ghost use Rattle.std.specs.Prelude.{◌≡◌, length, ◌≤◌};
-ghost use Rattle.plan_definition.specs.Writing.{entriesIn, listingRefusal, listingText};
+ghost use Rattle.plan_definition.specs.Writing.{entries_in, listing_refusal, listing_text};
 ghost use Rattle.plan_write.specs.Answer.{CheckedListing, ListingPut, ListingWritten};
 
 use crate::entries::{entry_refusal, entry_words, line_length, put_bin};
@@ -47,8 +47,8 @@ fn check_listing(list: &[i64]) -> Checked
 
 // Writes the lines of a list whose entries are in range; answers how many bytes they take.
 fn put_listing(list: &[i64], out: &mut [u8]) -> usize
-    requires list_value { listingRefusal 0 (entriesIn list.now) ≡ 0 }
-    requires list_in_bounds { length (listingText (entriesIn list.now)) ≤ length out.old }
+    requires list_value { listing_refusal 0 (entries_in list.now) ≡ 0 }
+    requires list_in_bounds { length (listing_text (entries_in list.now)) ≤ length out.old }
     ensures { ListingPut list.now out.old out.new result }
 {
     let count = list.len() / ENTRY_WIDTH;

@@ -11,8 +11,8 @@ pub record Scale (factor most : ℕ) : Type 0 where
   pub top : most ≤ factor * 2 ^ 44
 
 -- a cell's: 1,000,000, clamped at 2^63
-pub cell-scale : Scale 1000000 (2 ^ 63)
-cell-scale = record { few = lit≤ tt; low = lit≤ tt; top = lit≤ tt }
+pub cell_scale : Scale 1000000 (2 ^ 63)
+cell_scale = record { few = lit≤ tt; low = lit≤ tt; top = lit≤ tt }
 
 -- r is the word of the whole number nearest factor × v: `middle` more, but no less than 0 and no more than twice that
 pub record NearestWord (factor middle : ℕ) (v : Float) (r : ℕ) : Type 0 where

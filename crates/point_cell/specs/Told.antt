@@ -4,5 +4,5 @@ use Rattle.point_rules.specs.Points.{cell, clamps}
 use Rattle.point_cell.specs.declared.CellAnswer.{CellAnswer}
 
 -- the cell of v, and whether it was clamped
-abbrev pub cellTold : Float → CellAnswer
-cellTold v = record { value = cell v; clamped = clamps v }
+abbrev pub cell_told : Float → CellAnswer
+cell_told v = record { value = cell v; clamped = clamps v }

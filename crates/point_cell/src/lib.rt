@@ -1,9 +1,9 @@
 // The cell of a coordinate, and the whole number nearest a multiple of it, from the bits of its f32.
 ghost use Rattle.std.specs.Prelude.{◌≡◌, ◌^◌, ◌≤◌, ◌<◌, min};
-ghost use Rattle.float_round.specs.Integral.{halfUp};
+ghost use Rattle.float_round.specs.Integral.{half_up};
 ghost use Rattle.point_rules.specs.Points as Points;
 ghost use Rattle.point_cell.specs.Scale.{NearestWord, Scale};
-ghost use Rattle.point_cell.specs.Told.{cellTold};
+ghost use Rattle.point_cell.specs.Told.{cell_told};
 
 use float_steps::bits_of_f32;
 
@@ -26,7 +26,7 @@ fn at_most(n: u64, most: u64) -> u64
 // q / 2 to the nearest whole number, a half up.
 fn half_up(q: u64) -> u64
     requires { q < 2 ^ 63 }
-    ensures { result ≡ halfUp q 2 }
+    ensures { result ≡ half_up q 2 }
 {
     (q + 1) / 2
 }
@@ -35,7 +35,7 @@ fn half_up(q: u64) -> u64
 // shift rounds them, a half up.
 fn nearest_size(v: f32, factor: u64, most: u64) -> u64
     requires { Scale factor most }
-    ensures { result ≡ min (Points.nearestSize factor v) most }
+    ensures { result ≡ min (Points.nearest_size factor v) most }
 {
     let b = bits_of_f32(v) as u64;
     let e = b % 2147483648 / 8388608;
@@ -74,7 +74,7 @@ pub fn nearest_word(v: f32, factor: u64, middle: u64) -> u64
 
 // How far the cell is from zero, before the sign decides the clamp.
 fn cell_size(v: f32) -> u64
-    ensures { result ≡ Points.cellSize v }
+    ensures { result ≡ Points.cell_size v }
 {
     nearest_size(v, CELLS, LIMIT)
 }
@@ -126,7 +126,7 @@ pub struct CellAnswer {
 
 // The cell of v, and whether it was clamped.
 pub fn cell(v: f32) -> CellAnswer
-    ensures { result ≡ cellTold v }
+    ensures { result ≡ cell_told v }
 {
     CellAnswer {
         value: cell_value(v),

@@ -4,5 +4,5 @@ use Rattle.point_rules.specs.Points.{key, clamps}
 use Rattle.point_key.specs.declared.key.KeyAnswer.{KeyAnswer}
 
 -- the key of a point, and whether one of its cells was clamped
-abbrev pub keyTold : Float → Float → Float → KeyAnswer
-keyTold x y z = record { value = key x y z; clamped = clamps x || clamps y || clamps z }
+abbrev pub key_told : Float → Float → Float → KeyAnswer
+key_told x y z = record { value = key x y z; clamped = clamps x || clamps y || clamps z }

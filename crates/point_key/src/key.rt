@@ -1,7 +1,7 @@
 // The key of a point.
 ghost use Rattle.std.specs.Prelude.{◌≡◌, ◌^◌, ◌<◌};
 ghost use Rattle.point_rules.specs.Points as Points;
-ghost use Rattle.point_key.specs.Told.{keyTold};
+ghost use Rattle.point_key.specs.Told.{key_told};
 
 use crate::multiply::wrapping_mul;
 use point_cell::{cell_bits, clamps};
@@ -20,14 +20,14 @@ const FIVE_BYTES: u64 = 1099511627776;
 // One byte taken into a key.
 fn key_step(h: u64, b: u64) -> u64
     requires { b < 256 }
-    ensures { result ≡ Points.keyStep h b }
+    ensures { result ≡ Points.key_step h b }
 {
     wrapping_mul(h ^ b, FACTOR)
 }
 
 // The lowest bytes of a word taken into a key, so many of them, the lowest first.
 fn key_bytes(start: u64, word: u64, count: usize) -> u64
-    ensures { result ≡ Points.keySteps start (Points.littleEndian count word) }
+    ensures { result ≡ Points.key_steps start (Points.little_endian count word) }
 {
     let mut h = start;
     let mut w = word;
@@ -42,7 +42,7 @@ fn key_bytes(start: u64, word: u64, count: usize) -> u64
 
 // The eight bytes of a word taken into a key, the lowest first.
 fn key_word(start: u64, word: u64) -> u64
-    ensures { result ≡ Points.keySteps start (Points.littleEndian 8 word) }
+    ensures { result ≡ Points.key_steps start (Points.little_endian 8 word) }
 {
     key_bytes(start, word, 8)
 }
@@ -50,7 +50,7 @@ fn key_word(start: u64, word: u64) -> u64
 // The same of a word whose three highest bytes are 0: they are one multiplication.
 fn key_low(start: u64, word: u64) -> u64
     requires { word < 2 ^ 40 }
-    ensures { result ≡ Points.keySteps start (Points.littleEndian 8 word) }
+    ensures { result ≡ Points.key_steps start (Points.little_endian 8 word) }
 {
     wrapping_mul(key_bytes(start, word, 5), FACTOR_CUBED)
 }
@@ -81,7 +81,7 @@ pub struct KeyAnswer {
 
 // The key of a point, and whether one of its cells was clamped.
 pub fn key(x: f32, y: f32, z: f32) -> KeyAnswer
-    ensures { result ≡ keyTold x y z }
+    ensures { result ≡ key_told x y z }
 {
     KeyAnswer {
         value: key_of(x, y, z),

@@ -1,7 +1,7 @@
 // The vertices of a flat slice of positions, three numbers a vertex: their keys and their bits.
 ghost use Rattle.std.specs.Prelude.{◌≡◌, ◌<◌, length, ◌==◌, slice_index, slice_index_or};
 ghost use Rattle.point_rules.specs.Points as Points;
-ghost use Rattle.point_rules.specs.Bits.{Bits32, bitsBy, frontBits, digest};
+ghost use Rattle.point_rules.specs.Bits.{Bits32, bits_by, front_bits, digest};
 ghost use Rattle.point_rules.specs.Rule.{names, VertexInside, Both};
 ghost use Rattle.std.specs.Float.{nan};
 
@@ -43,7 +43,7 @@ fn bits_at(positions: &[f32], k: usize, joined: bool) -> u64
 // The bits of the first two numbers of vertex i, as one.
 fn front_bits(positions: &[f32], i: usize, joined: bool) -> u64
     requires { VertexInside i positions.now }
-    ensures { result ≡ frontBits joined positions.now i }
+    ensures { result ≡ front_bits joined positions.now i }
 {
     let x = bits_at(positions, 3 * i, joined);
     let y = bits_at(positions, 3 * i + 1, joined);
@@ -53,7 +53,7 @@ fn front_bits(positions: &[f32], i: usize, joined: bool) -> u64
 // Whether the vertices i and j have the same bits, the two zeros joined or not.
 pub fn same_bits(positions: &[f32], i: usize, j: usize, joined: bool) -> bool
     requires { Both i j positions.now }
-    ensures { result ≡ (slice_index (names (bitsBy joined) positions.now) i == slice_index (names (bitsBy joined) positions.now) j) }
+    ensures { result ≡ (slice_index (names (bits_by joined) positions.now) i == slice_index (names (bits_by joined) positions.now) j) }
 {
     let a = bits_at(positions, 3 * i + 2, joined);
     let b = bits_at(positions, 3 * j + 2, joined);
@@ -66,7 +66,7 @@ pub fn same_bits(positions: &[f32], i: usize, j: usize, joined: bool) -> bool
 // A digest of the bits of vertex i, the two zeros joined or not.
 pub fn digest_at(positions: &[f32], i: usize, joined: bool) -> u64
     requires { VertexInside i positions.now }
-    ensures { result ≡ digest (slice_index (names (bitsBy joined) positions.now) i) }
+    ensures { result ≡ digest (slice_index (names (bits_by joined) positions.now) i) }
 {
     let front = wrapping_mul(front_bits(positions, i, joined), FRONT);
     let last = bits_at(positions, 3 * i + 2, joined) * LAST;

@@ -32,6 +32,6 @@ claims =
     ∷ []
 
 -- The definitions yield each.
-pub claims-hold : T (all agrees claims)
+pub claims_hold : T (all agrees claims)
 unfolding evaluation cells clamping claims
-claims-hold = tt
+claims_hold = tt

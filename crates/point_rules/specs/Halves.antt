@@ -4,5 +4,5 @@ use Rattle.std.proofs.Math.Nat.{mul-lt-mul_of_pos_left}
 use Rattle.std.proofs.Common.{mul-le-mul_right, lt_of_le_of_lt, le_of_lt, pow_pos}
 
 -- the product of two halves is a word
-pub halves-below : {x y : ℕ} → x < 2 ^ 32 → y < 2 ^ 32 → x * y < 2 ^ 64
-halves-below {x} {y} hx hy = lt_of_le_of_lt (mul-le-mul_right y (le_of_lt hx)) (mul-lt-mul_of_pos_left hy (pow_pos 32))
+pub halves_below : {x y : ℕ} → x < 2 ^ 32 → y < 2 ^ 32 → x * y < 2 ^ 64
+halves_below {x} {y} hx hy = lt_of_le_of_lt (mul-le-mul_right y (le_of_lt hx)) (mul-lt-mul_of_pos_left hy (pow_pos 32))

@@ -28,46 +28,46 @@ names_at rule (x ∷ y ∷ z ∷ ps) (suc i) d h =
     shift j = omega arith
 
 -- as many names as vertices
-pub names-length : (rule : Rule) (ps : List Float) (n : ℕ) → length ps ≡ 3 * n → length (names rule ps) ≡ n
+pub names_length : (rule : Rule) (ps : List Float) (n : ℕ) → length ps ≡ 3 * n → length (names rule ps) ≡ n
 unfolding names
-names-length rule [] n e = omega arith
-names-length rule (x ∷ []) n e = absurd (none n e)
+names_length rule [] n e = omega arith
+names_length rule (x ∷ []) n e = absurd (none n e)
   where
     none : (n : ℕ) → 1 ≡ 3 * n → ⊥
     none n e = omega arith
-names-length rule (x ∷ y ∷ []) n e = absurd (none n e)
+names_length rule (x ∷ y ∷ []) n e = absurd (none n e)
   where
     none : (n : ℕ) → 2 ≡ 3 * n → ⊥
     none n e = omega arith
-names-length rule (x ∷ y ∷ z ∷ ps) zero e = absurd (none e)
+names_length rule (x ∷ y ∷ z ∷ ps) zero e = absurd (none e)
   where
     none : suc (suc (suc (length ps))) ≡ 3 * 0 → ⊥
     none e = omega arith
-names-length rule (x ∷ y ∷ z ∷ ps) (suc n) e = ap suc (names-length rule ps n (less e))
+names_length rule (x ∷ y ∷ z ∷ ps) (suc n) e = ap suc (names_length rule ps n (less e))
   where
     less : suc (suc (suc (length ps))) ≡ 3 * suc n → length ps ≡ 3 * n
     less e = omega arith
 
 -- a vertex that has a name is among the positions
-pub names-within : (rule : Rule) (ps : List Float) (i : ℕ) → i < length (names rule ps) → 3 * i + 2 < length ps
+pub names_within : (rule : Rule) (ps : List Float) (i : ℕ) → i < length (names rule ps) → 3 * i + 2 < length ps
 unfolding names
-names-within rule [] i h = absurd (not-suc-le-zero h)
-names-within rule (x ∷ []) i h = absurd (not-suc-le-zero h)
-names-within rule (x ∷ y ∷ []) i h = absurd (not-suc-le-zero h)
-names-within rule (x ∷ y ∷ z ∷ ps) zero h = omega arith
-names-within rule (x ∷ y ∷ z ∷ ps) (suc i) h = omega (arith, names-within rule ps i (le_of_suc-le-suc h))
+names_within rule [] i h = absurd (not-suc-le-zero h)
+names_within rule (x ∷ []) i h = absurd (not-suc-le-zero h)
+names_within rule (x ∷ y ∷ []) i h = absurd (not-suc-le-zero h)
+names_within rule (x ∷ y ∷ z ∷ ps) zero h = omega arith
+names_within rule (x ∷ y ∷ z ∷ ps) (suc i) h = omega (arith, names_within rule ps i (le_of_suc-le-suc h))
 
 -- and one among the positions has a name
-pub names-below : (rule : Rule) (ps : List Float) (i : ℕ) → 3 * i + 2 < length ps → i < length (names rule ps)
+pub names_below : (rule : Rule) (ps : List Float) (i : ℕ) → 3 * i + 2 < length ps → i < length (names rule ps)
 unfolding names
-names-below rule [] i h = absurd (not-suc-le-zero h)
-names-below rule (x ∷ []) i h = absurd (none h)
+names_below rule [] i h = absurd (not-suc-le-zero h)
+names_below rule (x ∷ []) i h = absurd (none h)
   where
     none : 3 * i + 2 < 1 → ⊥
     none h = omega arith
-names-below rule (x ∷ y ∷ []) i h = absurd (none h)
+names_below rule (x ∷ y ∷ []) i h = absurd (none h)
   where
     none : 3 * i + 2 < 2 → ⊥
     none h = omega arith
-names-below rule (x ∷ y ∷ z ∷ ps) zero h = omega arith
-names-below rule (x ∷ y ∷ z ∷ ps) (suc i) h = omega (arith, names-below rule ps i (omega arith))
+names_below rule (x ∷ y ∷ z ∷ ps) zero h = omega arith
+names_below rule (x ∷ y ∷ z ∷ ps) (suc i) h = omega (arith, names_below rule ps i (omega arith))

@@ -4,8 +4,8 @@ use Rattle.std.proofs.Common.{sym, ap, ◌∙◌, arith, leb-false}
 use Rattle.std.specs.Float.{nan, inf, fin}
 use Rattle.std.specs.Float.Ieee.{up, down}
 use Rattle.lists.specs.Lists.{any}
-use Rattle.float_round.specs.Integral.{halfUp}
-use Rattle.point_rules.specs.Points.{cell, nearest, nearestSize, clamps, clamped, signed, outside64}
+use Rattle.float_round.specs.Integral.{half_up}
+use Rattle.point_rules.specs.Points.{cell, nearest, nearest_size, clamps, clamped, signed, outside64}
 
 -- a magnitude inside signed 64 bits stays as it is
 unclamped : (s : Bool) (n : ℕ) → outside64 (signed s n) ≡ false → clamped s n ≡ signed s n
@@ -20,12 +20,12 @@ unclamped true (suc n) h = ap (λ (k : ℕ). neg_ℤ (pos k)) (few n (leb-false 
     few n l = omega arith
 
 -- A cell that isn't clamped is the whole number nearest 1,000,000 × v.
-pub unclamped-cell : (v : Float) → clamps v ≡ false → cell v ≡ nearest 1_000_000 v
-unfolding cell nearest nearestSize clamps
-unclamped-cell nan h = refl
-unclamped-cell (inf true) h = unclamped true (1_000_000 * 2 ^ 128) h
-unclamped-cell (inf false) h = unclamped false (1_000_000 * 2 ^ 128) h
-unclamped-cell (fin s m e) h = unclamped s (halfUp (1_000_000 * m * up e) (down e)) h
+pub unclamped_cell : (v : Float) → clamps v ≡ false → cell v ≡ nearest 1_000_000 v
+unfolding cell nearest nearest_size clamps
+unclamped_cell nan h = refl
+unclamped_cell (inf true) h = unclamped true (1_000_000 * 2 ^ 128) h
+unclamped_cell (inf false) h = unclamped false (1_000_000 * 2 ^ 128) h
+unclamped_cell (fin s m e) h = unclamped s (half_up (1_000_000 * m * up e) (down e)) h
 
 -- what does not hold of a list holds of neither its first nor the rest
 parts : (b r : Bool) → elim b [ true ↦ true | false ↦ r ] ≡ false → (b ≡ false) × (r ≡ false)
@@ -36,21 +36,21 @@ parts true r h = (h, absurd (no h))
 parts false r h = (refl, h)
 
 -- So are those of positions none of which clamps.
-pub unclamped-cells : (ps : List Float) → any clamps ps ≡ false → map cell ps ≡ map (nearest 1_000_000) ps
+pub unclamped_cells : (ps : List Float) → any clamps ps ≡ false → map cell ps ≡ map (nearest 1_000_000) ps
 unfolding any
-unclamped-cells [] h = refl
-unclamped-cells (p ∷ ps) h = let both = parts (clamps p) (any clamps ps) h in λ i. unclamped-cell p both.0 i ∷ unclamped-cells ps both.1 i
+unclamped_cells [] h = refl
+unclamped_cells (p ∷ ps) h = let both = parts (clamps p) (any clamps ps) h in λ i. unclamped_cell p both.0 i ∷ unclamped_cells ps both.1 i
 
 -- the three numbers of vertex i
-abbrev pub ofVertex : List ℤ → ℕ → List ℤ
-ofVertex zs i = take 3 (drop (3 * i) zs)
+abbrev pub of_vertex : List ℤ → ℕ → List ℤ
+of_vertex zs i = take 3 (drop (3 * i) zs)
 
 -- Two of these points have one cell exactly if the nearest whole numbers agree on each axis: from the cells,
-pub cell-nearest : (ps : List Float) → any clamps ps ≡ false → (i j : ℕ) → ofVertex (map cell ps) i ≡ ofVertex (map cell ps) j
-    → ofVertex (map (nearest 1_000_000) ps) i ≡ ofVertex (map (nearest 1_000_000) ps) j
-cell-nearest ps h i j e = let same = unclamped-cells ps h in ap (λ (zs : List ℤ). ofVertex zs i) (sym same) ∙ e ∙ ap (λ (zs : List ℤ). ofVertex zs j) same
+pub cell_nearest : (ps : List Float) → any clamps ps ≡ false → (i j : ℕ) → of_vertex (map cell ps) i ≡ of_vertex (map cell ps) j
+    → of_vertex (map (nearest 1_000_000) ps) i ≡ of_vertex (map (nearest 1_000_000) ps) j
+cell_nearest ps h i j e = let same = unclamped_cells ps h in ap (λ (zs : List ℤ). of_vertex zs i) (sym same) ∙ e ∙ ap (λ (zs : List ℤ). of_vertex zs j) same
 
 -- and from the nearest whole numbers.
-pub nearest-cell : (ps : List Float) → any clamps ps ≡ false → (i j : ℕ) → ofVertex (map (nearest 1_000_000) ps) i ≡ ofVertex (map (nearest 1_000_000) ps) j
-    → ofVertex (map cell ps) i ≡ ofVertex (map cell ps) j
-nearest-cell ps h i j e = let same = unclamped-cells ps h in ap (λ (zs : List ℤ). ofVertex zs i) same ∙ e ∙ ap (λ (zs : List ℤ). ofVertex zs j) (sym same)
+pub nearest_cell : (ps : List Float) → any clamps ps ≡ false → (i j : ℕ) → of_vertex (map (nearest 1_000_000) ps) i ≡ of_vertex (map (nearest 1_000_000) ps) j
+    → of_vertex (map cell ps) i ≡ of_vertex (map cell ps) j
+nearest_cell ps h i j e = let same = unclamped_cells ps h in ap (λ (zs : List ℤ). of_vertex zs i) same ∙ e ∙ ap (λ (zs : List ℤ). of_vertex zs j) (sym same)

@@ -3,8 +3,8 @@
 ghost use Rattle.std.specs.Prelude.{◌*◌, take, drop};
 ghost use mathlib.Core.List.{flat_map};
 ghost use Rattle.slice_append.specs.Appended.{Appended};
-ghost use Rattle.report_definition.specs.Report.{entryWidth};
-ghost use Rattle.report.specs.Listing.{ListReady, wordNumbers};
+ghost use Rattle.report_definition.specs.Report.{entry_width};
+ghost use Rattle.report.specs.Listing.{ListReady, word_numbers};
 
 use report_audit::COUNT_UNIT;
 use slice_append::put_two;
@@ -15,7 +15,7 @@ pub const ENTRY_WIDTH: usize = 2;
 // The numbers of r entries, whose words stand from `at` on, are written to the list behind its first entries, of which there are `listed`.
 pub fn write_entries(w: &[u64], at: usize, r: usize, list: &mut [u32], listed: usize)
     requires { ListReady w.now at r list.old listed }
-    ensures { Appended (entryWidth * listed) (flat_map wordNumbers (take r (drop at w.now))) list.old list.new }
+    ensures { Appended (entry_width * listed) (flat_map word_numbers (take r (drop at w.now))) list.old list.new }
 {
     let mut k = 0usize;
     while k < r {

@@ -2,9 +2,9 @@
 
 ghost use Rattle.std.specs.Prelude.{◌≡◌, length};
 ghost use Rattle.point_rules.specs.Points.{key};
-ghost use Rattle.body_rows.specs.Body.{allVertices, rows_of};
+ghost use Rattle.body_rows.specs.Body.{all_vertices, rows_of};
 ghost use Rattle.body_rows.specs.Rows.{WholeRows};
-ghost use Rattle.report_definition.specs.Report.{leftReport, reportOf};
+ghost use Rattle.report_definition.specs.Report.{left_report, report_of};
 ghost use Rattle.report_audit.specs.Audited.{entries_at};
 ghost use Rattle.report.specs.Bodies.{IndicesFew, body_of};
 
@@ -26,7 +26,7 @@ const FULL_LIST: u32 = 69;
 fn entries_at(rows: &[u32], n: usize) -> usize
     requires whole_rows { WholeRows rows.now }
     requires indices_few { IndicesFew n }
-    ensures { result ≡ entries_at (allVertices (rows_of rows.now)) (length (rows_of rows.now)) n }
+    ensures { result ≡ entries_at (all_vertices (rows_of rows.now)) (length (rows_of rows.now)) n }
 {
     JOIN_WORDS * total_vertices(rows) + ROW_WORDS * row_count(rows) + USE_WORDS * n
 }
@@ -42,8 +42,8 @@ pub fn report(
     list: &mut [u32],
     work: &mut [u64],
 ) -> Reported
-    ensures { leftReport result list.new work.new
-        ≡ reportOf key page (body_of rows.now positions.now normals.now indices.now reference)
+    ensures { left_report result list.new work.new
+        ≡ report_of key page (body_of rows.now positions.now normals.now indices.now reference)
         list.old work.old }
 {
     let n = first_failing(rows, positions, normals, indices, work.len());

@@ -2,7 +2,7 @@
 --
 -- Of n uses the first uses stand from `firsts` on, then their rows, then their runs; of each row the first row of its face number stands from `heads` on.
 use Rattle.std.specs.Prelude.{◌≡◌, Bool, false, cond, List, [], ◌∷◌, ◌++◌, ℕ, zero, suc, ◌+◌, ◌*◌, ◌≤◌, ◌<◌, length, get_or, set, take, drop, eqb}
-use Rattle.lists.specs.Lists.{countIf}
+use Rattle.lists.specs.Lists.{count_if}
 
 -- the first use of use i's edge
 abbrev pub first_at : List ℕ → ℕ → ℕ → ℕ
@@ -21,27 +21,27 @@ unfoldable pub alike : ℕ → ℕ → ℕ → ℕ → Bool
 alike first i run firstRun = cond (eqb first i) false (cond (eqb run 2) false (eqb firstRun run))
 
 -- so read in the work area
-abbrev pub alikeAt : List ℕ → ℕ → ℕ → ℕ → Bool
-alikeAt W firsts n i = alike (first_at W firsts i) i (run_at W firsts n i) (run_at W firsts n (first_at W firsts i))
+abbrev pub alike_at : List ℕ → ℕ → ℕ → ℕ → Bool
+alike_at W firsts n i = alike (first_at W firsts i) i (run_at W firsts n i) (run_at W firsts n (first_at W firsts i))
 
 -- 1 is added to the count at the first row of a row's face number
 abbrev pub added : List ℕ → ℕ → ℕ → ℕ → List ℕ
 added W heads counts row = set W (counts + get_or W (heads + row) 0) (get_or W (counts + get_or W (heads + row) 0) 0 + 1)
 
 -- what marking use i leaves: 1 for its row and 1 for the first use's, if the two run alike
-unfoldable pub markedAt : List ℕ → ℕ → ℕ → ℕ → ℕ → ℕ → List ℕ
-markedAt W firsts n i heads counts =
-    cond (alikeAt W firsts n i) (added (added W heads counts (field_own W firsts n i)) heads counts (field_own W firsts n (first_at W firsts i))) W
+unfoldable pub marked_at : List ℕ → ℕ → ℕ → ℕ → ℕ → ℕ → List ℕ
+marked_at W firsts n i heads counts =
+    cond (alike_at W firsts n i) (added (added W heads counts (field_own W firsts n i)) heads counts (field_own W firsts n (first_at W firsts i))) W
 
 -- the first rows of the face numbers that use i marks
-unfoldable pub headsAt : List ℕ → ℕ → ℕ → ℕ → ℕ → List ℕ
-headsAt W firsts n heads i =
-    cond (alikeAt W firsts n i) (get_or W (heads + field_own W firsts n i) 0 ∷ get_or W (heads + field_own W firsts n (first_at W firsts i)) 0 ∷ []) []
+unfoldable pub heads_at : List ℕ → ℕ → ℕ → ℕ → ℕ → List ℕ
+heads_at W firsts n heads i =
+    cond (alike_at W firsts n i) (get_or W (heads + field_own W firsts n i) 0 ∷ get_or W (heads + field_own W firsts n (first_at W firsts i)) 0 ∷ []) []
 
 -- those that the uses before use i mark, in turn
-unfoldable pub headsBefore : List ℕ → ℕ → ℕ → ℕ → ℕ → List ℕ
-headsBefore W firsts n heads zero = []
-headsBefore W firsts n heads (suc i) = headsBefore W firsts n heads i ++ headsAt W firsts n heads i
+unfoldable pub heads_before : List ℕ → ℕ → ℕ → ℕ → ℕ → List ℕ
+heads_before W firsts n heads zero = []
+heads_before W firsts n heads (suc i) = heads_before W firsts n heads i ++ heads_at W firsts n heads i
 
 -- what looking at use i asks
 pub record UseReady (W : List ℕ) (firsts n i : ℕ) : Type 0 where
@@ -51,10 +51,10 @@ pub record UseReady (W : List ℕ) (firsts n i : ℕ) : Type 0 where
 
 -- what marking it asks: rows and first rows that are rows, and counts that can grow by 2
 pub record MarkReady (W : List ℕ) (firsts n i heads counts : ℕ) : Type 0 where
-  pub use-ready : UseReady W firsts n i
+  pub use_ready : UseReady W firsts n i
   pub m : ℕ
-  pub own-low : field_own W firsts n i < m
-  pub far-low : field_own W firsts n (first_at W firsts i) < m
+  pub own_low : field_own W firsts n i < m
+  pub far_low : field_own W firsts n (first_at W firsts i) < m
   pub apart : heads + m ≤ counts
   pub room : counts + m ≤ length W
   pub low : (k : ℕ) → k < m → get_or W (heads + k) 0 < m
@@ -62,17 +62,17 @@ pub record MarkReady (W : List ℕ) (firsts n i heads counts : ℕ) : Type 0 whe
 
 -- what counting the marks of n uses on m rows asks
 pub record CountsReady (W : List ℕ) (firsts n heads counts m : ℕ) : Type 0 where
-  pub uses-apart : firsts + 3 * n ≤ heads
+  pub uses_apart : firsts + 3 * n ≤ heads
   pub apart : heads + m ≤ counts
   pub room : counts + m ≤ length W
   pub enough : 2 * n ≤ length W
-  pub firsts-low : (i : ℕ) → i < n → first_at W firsts i < n
-  pub rows-low : (i : ℕ) → i < n → field_own W firsts n i < m
+  pub firsts_low : (i : ℕ) → i < n → first_at W firsts i < n
+  pub rows_low : (i : ℕ) → i < n → field_own W firsts n i < m
   pub low : (k : ℕ) → k < m → get_or W (heads + k) 0 < m
 
 -- what it leaves: at each row how often it was marked as a first row; nothing else was written
 pub record MarksCounted (W : List ℕ) (firsts n heads counts m : ℕ) (E : List ℕ) : Type 0 where
-  pub count : (j : ℕ) → j < m → get_or E (counts + j) 0 ≡ countIf (eqb j) (headsBefore W firsts n heads n)
+  pub count : (j : ℕ) → j < m → get_or E (counts + j) 0 ≡ count_if (eqb j) (heads_before W firsts n heads n)
   pub front : take counts E ≡ take counts W
   pub rest : drop (counts + m) E ≡ drop (counts + m) W
   pub long : length E ≡ length W

@@ -5,8 +5,8 @@ use Rattle.body_rows.specs.Rows.{WholeRows}
 use Rattle.join_definition.specs.Join.{joined}
 
 -- the face number of each row
-abbrev pub facesOf : List Row → List ℕ
-facesOf rows = map (λ r. r.face) rows
+abbrev pub faces_of : List Row → List ℕ
+faces_of rows = map (λ r. r.face) rows
 
 -- face numbers of 32 bits
 pub record Narrow (faces : List ℕ) : Type 0 where
@@ -19,15 +19,15 @@ pub record FacesReady (table W : List ℕ) (at : ℕ) : Type 0 where
 
 -- what listing the face numbers leaves: nothing else was written
 pub record FacesListed (table : List ℕ) (at : ℕ) (W E : List ℕ) : Type 0 where
-  pub faces : take (length (rows_of table)) (drop at E) ≡ facesOf (rows_of table)
-  pub narrow : Narrow (facesOf (rows_of table))
+  pub faces : take (length (rows_of table)) (drop at E) ≡ faces_of (rows_of table)
+  pub narrow : Narrow (faces_of (rows_of table))
   pub front : take at E ≡ take at W
   pub rest : drop (at + length (rows_of table)) E ≡ drop (at + length (rows_of table)) W
 
 -- what joining leaves: behind the face numbers the first row of each, and all outside the table as it was
 pub record FacesJoined (table : List ℕ) (at : ℕ) (W E : List ℕ) : Type 0 where
-  pub faces : take (length (rows_of table)) (drop at E) ≡ facesOf (rows_of table)
-  pub heads : take (length (rows_of table)) (drop (at + length (rows_of table)) E) ≡ joined (facesOf (rows_of table))
-  pub narrow : Narrow (facesOf (rows_of table))
+  pub faces : take (length (rows_of table)) (drop at E) ≡ faces_of (rows_of table)
+  pub heads : take (length (rows_of table)) (drop (at + length (rows_of table)) E) ≡ joined (faces_of (rows_of table))
+  pub narrow : Narrow (faces_of (rows_of table))
   pub front : take at E ≡ take at W
   pub rest : drop (at + 4 * length (rows_of table)) E ≡ drop (at + 4 * length (rows_of table)) W

@@ -3,32 +3,32 @@
 -- From `at` on, for m rows: face numbers at 0, the first rows of the face numbers at m, counts at 4m, ranks at 5m, order at 7m, entries at 9m, of m words each;
 -- the m words behind ranks and behind order are taken to sort them.
 use Rattle.std.specs.Prelude.{◌≡◌, cond, List, map, ℕ, ◌+◌, ◌-◌, ◌*◌, ◌/◌, ◌%◌, ◌≤◌, ◌<◌, length, get_or, take, drop, eqb}
-use Rattle.lists.specs.Lists.{countIf}
+use Rattle.lists.specs.Lists.{count_if}
 use Rattle.slice_sort.specs.Sorting.{Stands}
-use Rattle.join_definition.specs.Join.{joined, firstIndex}
-use Rattle.report_definition.specs.Audit.{Entry, entriesOf}
+use Rattle.join_definition.specs.Join.{joined, first_index}
+use Rattle.report_definition.specs.Audit.{Entry, entries_of}
 
 -- ---- words
 
 -- a row and its face number in one word, which ranks rows by face number
-abbrev pub rankWord : List ℕ → ℕ → ℕ → ℕ
-rankWord W at k = get_or W (at + k) 0 * 4096 + k
+abbrev pub rank_word : List ℕ → ℕ → ℕ → ℕ
+rank_word W at k = get_or W (at + k) 0 * 4096 + k
 
 -- a rank and its count in one word, which orders ranks by count, the highest first
-abbrev pub orderWord : ℕ → ℕ → ℕ
-orderWord c i = (1572864 - c) * 4096 + i
+abbrev pub order_word : ℕ → ℕ → ℕ
+order_word c i = (1572864 - c) * 4096 + i
 
 -- an entry in one word: its count above its face number
-abbrev pub entryWord : Entry → ℕ
-entryWord e = e.count * 4294967296 + e.face
+abbrev pub entry_word : Entry → ℕ
+entry_word e = e.count * 4294967296 + e.face
 
 -- the row of rank i
 abbrev pub row_of : List ℕ → ℕ → ℕ → ℕ → ℕ
 row_of W at m i = get_or W (at + 5 * m + i) 0 % 4096
 
 -- the count of the row of rank i, if it is the first of its face number; else 0
-unfoldable pub countAt : List ℕ → ℕ → ℕ → ℕ → ℕ
-countAt W at m i = cond (eqb (get_or W (at + 1 * m + row_of W at m i) 0) (row_of W at m i)) (get_or W (at + 4 * m + row_of W at m i) 0) 0
+unfoldable pub count_at : List ℕ → ℕ → ℕ → ℕ → ℕ
+count_at W at m i = cond (eqb (get_or W (at + 1 * m + row_of W at m i) 0) (row_of W at m i)) (get_or W (at + 4 * m + row_of W at m i) 0) 0
 
 -- the entry of the rank at place k of the order
 abbrev pub entry_at : List ℕ → ℕ → ℕ → ℕ → ℕ
@@ -38,7 +38,7 @@ entry_at W at m k = (1572864 - get_or W (at + 7 * m + k) 0 / 4096) * 4294967296 
 
 -- a face number of 32 bits, and a row
 pub record WordSmall (face row : ℕ) : Type 0 where
-  pub face-low : face < 4294967296
+  pub face_low : face < 4294967296
   pub row_low : row < 4096
 
 -- what ranking the rows asks: few rows, face numbers of 32 bits, and room
@@ -49,7 +49,7 @@ pub record RanksReady (W : List ℕ) (at m : ℕ) : Type 0 where
 
 -- what listing their words leaves
 pub record RanksListed (W : List ℕ) (at m : ℕ) (E : List ℕ) : Type 0 where
-  pub words : (k : ℕ) → k < m → get_or E (at + 5 * m + k) 0 ≡ rankWord W at k
+  pub words : (k : ℕ) → k < m → get_or E (at + 5 * m + k) 0 ≡ rank_word W at k
   pub front : take (at + 5 * m) E ≡ take (at + 5 * m) W
   pub rest : drop (at + 6 * m) E ≡ drop (at + 6 * m) W
   pub long : length E ≡ length W
@@ -58,12 +58,12 @@ pub record RanksListed (W : List ℕ) (at m : ℕ) (E : List ℕ) : Type 0 where
 pub record RankRow (W : List ℕ) (at m : ℕ) (E : List ℕ) (i : ℕ) : Type 0 where
   pub row : ℕ
   pub low : row < m
-  pub is : get_or E (at + 5 * m + i) 0 ≡ rankWord W at row
+  pub is : get_or E (at + 5 * m + i) 0 ≡ rank_word W at row
 
 -- what ranking the rows leaves: their words, rising
 pub record RowsRanked (W : List ℕ) (at m : ℕ) (E : List ℕ) : Type 0 where
   pub rising : (i j : ℕ) → i < j → j < m → get_or E (at + 5 * m + i) 0 < get_or E (at + 5 * m + j) 0
-  pub stands : (k : ℕ) → k < m → Stands E (at + 5 * m) m (rankWord W at k)
+  pub stands : (k : ℕ) → k < m → Stands E (at + 5 * m) m (rank_word W at k)
   pub rows : (i : ℕ) → i < m → RankRow W at m E i
   pub front : take (at + 5 * m) E ≡ take (at + 5 * m) W
   pub rest : drop (at + 7 * m) E ≡ drop (at + 7 * m) W
@@ -88,15 +88,15 @@ pub record GatherReady (W : List ℕ) (at m : ℕ) : Type 0 where
 pub record GatheredRank (W : List ℕ) (at m i : ℕ) (E : List ℕ) (q : ℕ) : Type 0 where
   pub rank : ℕ
   pub low : rank < i
-  pub above : 0 < countAt W at m rank
-  pub is : get_or E (at + 7 * m + q) 0 ≡ orderWord (countAt W at m rank) rank
+  pub above : 0 < count_at W at m rank
+  pub is : get_or E (at + 7 * m + q) 0 ≡ order_word (count_at W at m rank) rank
 
 -- what it leaves: the words of the r ranks with a count above 0, in the order of the ranks
 pub record Gathered (W : List ℕ) (at m r : ℕ) (E : List ℕ) : Type 0 where
   pub few : r ≤ m
   pub each : (q : ℕ) → q < r → GatheredRank W at m m E q
   pub rising : (p q : ℕ) → p < q → q < r → get_or E (at + 7 * m + p) 0 % 4096 < get_or E (at + 7 * m + q) 0 % 4096
-  pub every : (i : ℕ) → i < m → 0 < countAt W at m i → Stands E (at + 7 * m) r (orderWord (countAt W at m i) i)
+  pub every : (i : ℕ) → i < m → 0 < count_at W at m i → Stands E (at + 7 * m) r (order_word (count_at W at m i) i)
   pub front : take (at + 7 * m) E ≡ take (at + 7 * m) W
   pub rest : drop (at + 8 * m) E ≡ drop (at + 8 * m) W
   pub long : length E ≡ length W
@@ -135,13 +135,13 @@ pub record RankReady (W : List ℕ) (at m : ℕ) : Type 0 where
 -- the face numbers stand at `at`, the first row of each behind them, and at each first row how often some marks mark its number
 pub record CountsStand (W : List ℕ) (at m : ℕ) (faces marks : List ℕ) : Type 0 where
   pub many : length faces ≡ m
-  pub faces-are : take m (drop at W) ≡ faces
-  pub heads-are : take m (drop (at + m) W) ≡ joined faces
-  pub count : (j : ℕ) → j < m → get_or W (at + 4 * m + firstIndex faces j) 0 ≡ countIf (eqb (get_or faces j 0)) marks
+  pub faces_are : take m (drop at W) ≡ faces
+  pub heads_are : take m (drop (at + m) W) ≡ joined faces
+  pub count : (j : ℕ) → j < m → get_or W (at + 4 * m + first_index faces j) 0 ≡ count_if (eqb (get_or faces j 0)) marks
 
 -- what it leaves: where face numbers and counts of marks stood, their entries as words
 pub record Ranked (W : List ℕ) (at m r : ℕ) (E : List ℕ) : Type 0 where
-  pub words : (faces marks : List ℕ) → CountsStand W at m faces marks → take r (drop (at + 9 * m) E) ≡ map entryWord (entriesOf faces marks)
+  pub words : (faces marks : List ℕ) → CountsStand W at m faces marks → take r (drop (at + 9 * m) E) ≡ map entry_word (entries_of faces marks)
   pub few : r ≤ m
   pub rest : drop (at + 10 * m) E ≡ drop (at + 10 * m) W
   pub long : length E ≡ length W

@@ -1,7 +1,7 @@
 // The marks of all uses counted, each at the first row of its face number.
 
 ghost use Rattle.std.specs.Prelude.{◌≡◌};
-ghost use Rattle.report_audit.specs.Counts.{alikeAt, markedAt, UseReady, MarkReady, CountsReady, MarksCounted};
+ghost use Rattle.report_audit.specs.Counts.{alike_at, marked_at, UseReady, MarkReady, CountsReady, MarksCounted};
 
 use edge_use_counts::count_one;
 use edge_uses::EQUAL_ENDS;
@@ -9,7 +9,7 @@ use edge_uses::EQUAL_ENDS;
 // Whether use i is a later use of its edge and runs as the first one does: n first uses stand from `firsts` on, then rows and runs.
 fn runs_alike(w: &[u64], firsts: usize, n: usize, i: usize) -> bool
     requires { UseReady w.now firsts n i }
-    ensures { result ≡ alikeAt w.now firsts n i }
+    ensures { result ≡ alike_at w.now firsts n i }
 {
     let first = w[firsts + i] as usize;
     let run = w[firsts + 2 * n + i];
@@ -25,7 +25,7 @@ fn runs_alike(w: &[u64], firsts: usize, n: usize, i: usize) -> bool
 // A use that runs as the first use of its edge adds 1 to the count of its row's face, and 1 to that of the first use's row.
 fn mark_use(w: &mut [u64], firsts: usize, n: usize, i: usize, heads: usize, counts: usize)
     requires { MarkReady w.old firsts n i heads counts }
-    ensures { w.new ≡ markedAt w.old firsts n i heads counts }
+    ensures { w.new ≡ marked_at w.old firsts n i heads counts }
 {
     if runs_alike(w, firsts, n, i) {
         let first = w[firsts + i] as usize;

@@ -4,7 +4,7 @@
 // the words taken to sort them, order with the words taken to sort it, entries.
 
 ghost use Rattle.std.specs.Prelude.{◌≡◌, ◌+◌, ◌*◌, min};
-ghost use Rattle.report_audit.specs.Ranks.{countAt, entry_at, WordSmall, RanksReady, RanksListed, RowsRanked, CountReady, GatherReady, Gathered};
+ghost use Rattle.report_audit.specs.Ranks.{count_at, entry_at, WordSmall, RanksReady, RanksListed, RowsRanked, CountReady, GatherReady, Gathered};
 ghost use Rattle.report_audit.specs.Ranks.{EntryReady, EntriesReady, EntriesWritten, RankReady, Ranked};
 
 use slice_sort::sort_words;
@@ -64,7 +64,7 @@ fn rank_rows(w: &mut [u64], at: usize, m: usize)
 // The count of the row of rank i, if it is the first of its face number; else 0.
 fn count_at(w: &[u64], at: usize, m: usize, i: usize) -> u64
     requires { CountReady w.now at m i }
-    ensures { result ≡ countAt w.now at m i }
+    ensures { result ≡ count_at w.now at m i }
 {
     let row = w[at + RANKS * m + i] % ROWS;
     let k = row as usize;

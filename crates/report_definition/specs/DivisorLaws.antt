@@ -6,32 +6,32 @@ use Rattle.report_definition.specs.Divisor.{euclid, gcd}
 use Rattle.report_definition.specs.Page.{Share, share_of}
 
 -- what is left of a number is below the divisor
-left-low : (a b : ℕ) → a % suc b ≤ b
-left-low a b = let h : a % suc b < suc b = mod-lt a (omega arith) in omega arith
+left_low : (a b : ℕ) → a % suc b ≤ b
+left_low a b = let h : a % suc b < suc b = mod-lt a (omega arith) in omega arith
 
 -- ---- step by step
 
 -- as many steps as the second number are enough, and more change nothing
-euclid-enough : (n m a b : ℕ) → b ≤ n → b ≤ m → euclid n a b ≡ euclid m a b
+euclid_enough : (n m a b : ℕ) → b ≤ n → b ≤ m → euclid n a b ≡ euclid m a b
 unfolding euclid
-euclid-enough zero zero a b h k = refl
-euclid-enough zero (suc m) a zero h k = refl
-euclid-enough zero (suc m) a (suc b) h k = absurd (omega arith)
-euclid-enough (suc n) zero a zero h k = refl
-euclid-enough (suc n) zero a (suc b) h k = absurd (omega arith)
-euclid-enough (suc n) (suc m) a zero h k = refl
-euclid-enough (suc n) (suc m) a (suc b) h k = let l = left-low a b in euclid-enough n m (suc b) (a % suc b) (omega arith) (omega arith)
+euclid_enough zero zero a b h k = refl
+euclid_enough zero (suc m) a zero h k = refl
+euclid_enough zero (suc m) a (suc b) h k = absurd (omega arith)
+euclid_enough (suc n) zero a zero h k = refl
+euclid_enough (suc n) zero a (suc b) h k = absurd (omega arith)
+euclid_enough (suc n) (suc m) a zero h k = refl
+euclid_enough (suc n) (suc m) a (suc b) h k = let l = left_low a b in euclid_enough n m (suc b) (a % suc b) (omega arith) (omega arith)
 
 -- the last step
-pub gcd-last : (a : ℕ) → gcd a 0 ≡ a
+pub gcd_last : (a : ℕ) → gcd a 0 ≡ a
 unfolding gcd euclid
-gcd-last a = refl
+gcd_last a = refl
 
 -- each step before it
-pub gcd-step : (a b : ℕ) → 0 < b → gcd a b ≡ gcd b (a % b)
+pub gcd_step : (a b : ℕ) → 0 < b → gcd a b ≡ gcd b (a % b)
 unfolding gcd euclid
-gcd-step a zero h = absurd (omega arith)
-gcd-step a (suc b) h = euclid-enough b (a % suc b) (suc b) (a % suc b) (left-low a b) (omega arith)
+gcd_step a zero h = absurd (omega arith)
+gcd_step a (suc b) h = euclid_enough b (a % suc b) (suc b) (a % suc b) (left_low a b) (omega arith)
 
 -- ---- the greatest common divisor
 
@@ -75,31 +75,31 @@ left d a b u v =
 self : (a : ℕ) → Common a a 0
 self a = record { first = record { times = 1; is = mul-one a }; second = record { times = 0; is = mul-zero a } }
 
-euclid-divides : (n a b : ℕ) → b ≤ n → Common (euclid n a b) a b
+euclid_divides : (n a b : ℕ) → b ≤ n → Common (euclid n a b) a b
 unfolding euclid
-euclid-divides zero a zero h = self a
-euclid-divides zero a (suc b) h = absurd (omega arith)
-euclid-divides (suc n) a zero h = self a
-euclid-divides (suc n) a (suc b) h =
-    let l = left-low a b in
-    let c = euclid-divides n (suc b) (a % suc b) (omega arith) in
+euclid_divides zero a zero h = self a
+euclid_divides zero a (suc b) h = absurd (omega arith)
+euclid_divides (suc n) a zero h = self a
+euclid_divides (suc n) a (suc b) h =
+    let l = left_low a b in
+    let c = euclid_divides n (suc b) (a % suc b) (omega arith) in
     record { first = whole (euclid n (suc b) (a % suc b)) a (suc b) c.first c.second; second = c.first }
 
-euclid-greatest : (d n a b : ℕ) → b ≤ n → Divides d a → Divides d b → Divides d (euclid n a b)
+euclid_greatest : (d n a b : ℕ) → b ≤ n → Divides d a → Divides d b → Divides d (euclid n a b)
 unfolding euclid
-euclid-greatest d zero a b h u v = u
-euclid-greatest d (suc n) a zero h u v = u
-euclid-greatest d (suc n) a (suc b) h u v = let l = left-low a b in euclid-greatest d n (suc b) (a % suc b) (omega arith) v (left d a (suc b) u v)
+euclid_greatest d zero a b h u v = u
+euclid_greatest d (suc n) a zero h u v = u
+euclid_greatest d (suc n) a (suc b) h u v = let l = left_low a b in euclid_greatest d n (suc b) (a % suc b) (omega arith) v (left d a (suc b) u v)
 
 -- It divides both.
-pub gcd-divides : (a b : ℕ) → Common (gcd a b) a b
+pub gcd_divides : (a b : ℕ) → Common (gcd a b) a b
 unfolding gcd
-gcd-divides a b = euclid-divides b a b (omega arith)
+gcd_divides a b = euclid_divides b a b (omega arith)
 
 -- Whatever divides both divides it.
-pub gcd-greatest : (d a b : ℕ) → Divides d a → Divides d b → Divides d (gcd a b)
+pub gcd_greatest : (d a b : ℕ) → Divides d a → Divides d b → Divides d (gcd a b)
 unfolding gcd
-gcd-greatest d a b u v = euclid-greatest d b a b (omega arith) u v
+gcd_greatest d a b u v = euclid_greatest d b a b (omega arith) u v
 
 -- ---- the share
 
@@ -109,11 +109,11 @@ pub record Reduced (accepted faces : ℕ) (s : Share) : Type 0 where
   pub least : gcd s.accepted s.faces ≡ 1
 
 -- a factor of 1
-factor-one : (e t : ℕ) → e * t ≡ 1 → e ≡ 1
-factor-one zero t h = absurd (omega (arith, zero-mul t, h))
-factor-one (suc zero) t h = refl
-factor-one (suc (suc e)) zero h = absurd (omega (arith, mul-zero (suc (suc e)), h))
-factor-one (suc (suc e)) (suc t) h =
+factor_one : (e t : ℕ) → e * t ≡ 1 → e ≡ 1
+factor_one zero t h = absurd (omega (arith, zero-mul t, h))
+factor_one (suc zero) t h = refl
+factor_one (suc (suc e)) zero h = absurd (omega (arith, mul-zero (suc (suc e)), h))
+factor_one (suc (suc e)) (suc t) h =
     let two : 2 ≤ suc (suc e) = omega arith in
     let one : 1 ≤ suc t = omega arith in
     let m : 2 * 1 ≤ suc (suc e) * suc t = mul-le-mul two one in
@@ -129,16 +129,16 @@ pub coprime : (a b x y : ℕ) → 0 < gcd a b → gcd a b * x ≡ a → gcd a b 
 coprime a b x y pos p q =
     let g = gcd a b in
     let e = gcd x y in
-    let c = gcd-divides x y in
+    let c = gcd_divides x y in
     let u : Divides (g * e) a = record { times = c.first.times; is = mul_assoc g e c.first.times ∙ ap (λ (n : ℕ). g * n) c.first.is ∙ p } in
     let v : Divides (g * e) b = record { times = c.second.times; is = mul_assoc g e c.second.times ∙ ap (λ (n : ℕ). g * n) c.second.is ∙ q } in
-    let w = gcd-greatest (g * e) a b u v in
-    factor-one e w.times (eq_of_mul-eq-mul_left g pos (e * w.times) 1 (sym (mul_assoc g e w.times) ∙ w.is ∙ sym (mul-one g)))
+    let w = gcd_greatest (g * e) a b u v in
+    factor_one e w.times (eq_of_mul-eq-mul_left g pos (e * w.times) 1 (sym (mul_assoc g e w.times) ∙ w.is ∙ sym (mul-one g)))
 
 -- The share of some faces is reduced.
-pub share-reduced : (a n : ℕ) → 0 < n → Reduced a n (share_of a n)
+pub share_reduced : (a n : ℕ) → 0 < n → Reduced a n (share_of a n)
 unfolding share_of
-share-reduced a n h =
+share_reduced a n h =
     subst (Reduced a n)
     (sym (ap (λ (b : Bool). cond b (record { accepted = 1; faces = 1 }) (record { accepted = a / gcd a n; faces = n / gcd a n })) (ne_eqb n 0 (λ e. omega arith))))
     (record { same = same; least = least })
@@ -147,7 +147,7 @@ share-reduced a n h =
     g = gcd a n
 
     c : Common g a n
-    c = gcd-divides a n
+    c = gcd_divides a n
 
     pos : 0 < g
     pos = above g n c.second h

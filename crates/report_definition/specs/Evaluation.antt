@@ -4,14 +4,14 @@ use Rattle.body_refusals.specs.Evaluation as Checks
 use Rattle.edge_uses.specs.Evaluation as Edges
 use Rattle.mesh_verdicts.specs.Evaluation as Verdicts
 use Rattle.report_definition.specs.Divisor.{euclid, gcd}
-use Rattle.report_definition.specs.Page.{share_of, acceptedOf, bodySums}
-use Rattle.report_definition.specs.Audit.{auditUses, runsAlike, markedBy, marksFrom, entry_of, goesBefore, insertEntry, ranked, entriesOf, marksOf, auditOf}
-use Rattle.report_definition.specs.Report.{listAfter, badPage, reportChecks, addOrRefuse, reportOf}
-use Rattle.report_definition.specs.Pages.{pageFrom, page_of, facesOf}
-use Rattle.report_definition.specs.Calls.{onward, calls, clearedBy}
+use Rattle.report_definition.specs.Page.{share_of, accepted_of, body_sums}
+use Rattle.report_definition.specs.Audit.{audit_uses, runs_alike, marked_by, marks_from, entry_of, goes_before, insert_entry, ranked, entries_of, marks_of, audit_of}
+use Rattle.report_definition.specs.Report.{list_after, bad_page, report_checks, add_or_refuse, report_of}
+use Rattle.report_definition.specs.Pages.{page_from, page_of, faces_of}
+use Rattle.report_definition.specs.Calls.{onward, calls, cleared_by}
 
 -- every definition that computes
 unfoldable pub evaluation : ℕ
-unfolding Checks.evaluation Edges.evaluation Verdicts.evaluation euclid gcd share_of acceptedOf bodySums auditUses runsAlike markedBy marksFrom entry_of goesBefore insertEntry ranked entriesOf marksOf
-    auditOf listAfter badPage reportChecks addOrRefuse reportOf pageFrom page_of facesOf onward calls clearedBy
+unfolding Checks.evaluation Edges.evaluation Verdicts.evaluation euclid gcd share_of accepted_of body_sums audit_uses runs_alike marked_by marks_from entry_of goes_before insert_entry ranked entries_of marks_of
+    audit_of list_after bad_page report_checks add_or_refuse report_of page_from page_of faces_of onward calls cleared_by
 evaluation = 0

@@ -1,12 +1,12 @@
 -- The page of the report (request N7): its sums, its share, and a body added. Assumes nothing.
 use Rattle.std.specs.Prelude.{Bool, true, false, not, cond, List, ℕ, ◌+◌, ◌/◌, length, eqb}
 use Rattle.std.proofs.Math.Option.{Option, none, some}
-use Rattle.lists.specs.Lists.{countIf, filter, sum_of}
-use Rattle.body_rows.specs.Body.{Patch, trianglesOf}
+use Rattle.lists.specs.Lists.{count_if, filter, sum_of}
+use Rattle.body_rows.specs.Body.{Patch, triangles_of}
 use Rattle.patch_geometry.specs.declared.Aabb.{Aabb}
 use Rattle.mesh_verdicts.specs.declared.Failure.{Failure}
 use Rattle.mesh_verdicts.specs.declared.Failure.TheVariants.{Empty, Upstream, Escape}
-use Rattle.mesh_verdicts.specs.Failures.{failureOf}
+use Rattle.mesh_verdicts.specs.Failures.{failure_of}
 use Rattle.report_definition.specs.declared.Page.{Page}
 use Rattle.report_definition.specs.Divisor.{gcd}
 
@@ -38,8 +38,8 @@ pub record Sums : Type 0 where
   pub listed : ℕ
 
 -- no bodies
-abbrev pub noSums : Sums
-noSums = record { bodies = 0; accepted = 0; failed = 0; triangles = 0; vertices = 0; empty = 0; upstream = 0; escaped = 0; listed = 0 }
+abbrev pub no_sums : Sums
+no_sums = record { bodies = 0; accepted = 0; failed = 0; triangles = 0; vertices = 0; empty = 0; upstream = 0; escaped = 0; listed = 0 }
 
 -- the sums of two, number by number
 abbrev pub plus : Sums → Sums → Sums
@@ -57,8 +57,8 @@ plus s t =
     }
 
 -- the sums of a page; its share is not read
-abbrev pub sumsOf : Page → Sums
-sumsOf p =
+abbrev pub sums_of : Page → Sums
+sums_of p =
     record {
       bodies = p.bodies;
       accepted = p.accepted;
@@ -72,8 +72,8 @@ sumsOf p =
     }
 
 -- the page of some sums, with the share that they make
-abbrev pub pageWith : Sums → Page
-pageWith s =
+abbrev pub page_with : Sums → Page
+page_with s =
     record {
       bodies = s.bodies;
       accepted = s.accepted;
@@ -89,15 +89,15 @@ pageWith s =
     }
 
 -- the empty page
-abbrev pub emptyPage : Page
-emptyPage = pageWith noSums
+abbrev pub empty_page : Page
+empty_page = page_with no_sums
 
 -- ---- a body
 
 -- whether a row is accepted
-abbrev pub isAccepted : Option Failure → Bool
-isAccepted none = true
-isAccepted (some f) = false
+abbrev pub is_accepted : Option Failure → Bool
+is_accepted none = true
+is_accepted (some f) = false
 
 -- whether it failed for having no triangles
 abbrev pub is_empty : Option Failure → Bool
@@ -107,34 +107,34 @@ is_empty (some (Upstream n)) = false
 is_empty (some (Escape reach span)) = false
 
 -- whether it failed upstream
-abbrev pub isUpstream : Option Failure → Bool
-isUpstream none = false
-isUpstream (some Empty) = false
-isUpstream (some (Upstream n)) = true
-isUpstream (some (Escape reach span)) = false
+abbrev pub is_upstream : Option Failure → Bool
+is_upstream none = false
+is_upstream (some Empty) = false
+is_upstream (some (Upstream n)) = true
+is_upstream (some (Escape reach span)) = false
 
 -- whether it escapes
-abbrev pub isEscape : Option Failure → Bool
-isEscape none = false
-isEscape (some Empty) = false
-isEscape (some (Upstream n)) = false
-isEscape (some (Escape reach span)) = true
+abbrev pub is_escape : Option Failure → Bool
+is_escape none = false
+is_escape (some Empty) = false
+is_escape (some (Upstream n)) = false
+is_escape (some (Escape reach span)) = true
 
 -- the accepted rows of a body with its box
-unfoldable pub acceptedOf : Aabb → List Patch → List Patch
-acceptedOf box patches = filter (λ p. isAccepted (failureOf box p)) patches
+unfoldable pub accepted_of : Aabb → List Patch → List Patch
+accepted_of box patches = filter (λ p. is_accepted (failure_of box p)) patches
 
 -- What a body with its box adds: its faces are its rows, and its mesh has the triangles and vertices, used or not, of the accepted ones. So many of its faces are listed.
-unfoldable pub bodySums : Aabb → List Patch → ℕ → Sums
-bodySums box patches entries =
+unfoldable pub body_sums : Aabb → List Patch → ℕ → Sums
+body_sums box patches entries =
     record {
       bodies = 1;
-      accepted = countIf (λ p. isAccepted (failureOf box p)) patches;
-      failed = countIf (λ p. not (isAccepted (failureOf box p))) patches;
-      triangles = sum_of (λ p. length (trianglesOf p.indices)) (acceptedOf box patches);
-      vertices = sum_of (λ p. p.row.vertices) (acceptedOf box patches);
-      empty = countIf (λ p. is_empty (failureOf box p)) patches;
-      upstream = countIf (λ p. isUpstream (failureOf box p)) patches;
-      escaped = countIf (λ p. isEscape (failureOf box p)) patches;
+      accepted = count_if (λ p. is_accepted (failure_of box p)) patches;
+      failed = count_if (λ p. not (is_accepted (failure_of box p))) patches;
+      triangles = sum_of (λ p. length (triangles_of p.indices)) (accepted_of box patches);
+      vertices = sum_of (λ p. p.row.vertices) (accepted_of box patches);
+      empty = count_if (λ p. is_empty (failure_of box p)) patches;
+      upstream = count_if (λ p. is_upstream (failure_of box p)) patches;
+      escaped = count_if (λ p. is_escape (failure_of box p)) patches;
       listed = entries;
     }

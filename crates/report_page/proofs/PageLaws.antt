@@ -8,16 +8,16 @@ use lib.ListN.{get_or}
 use lib.Dec.{leb, ltb}
 use borrow.Author.Tests.{ltb-false, leb-false, lt-ltb, le-ltb, le-leb, lt-leb}
 use Rattle.lists.specs.Lists.{any}
-use Rattle.lists.specs.Any.{any_none, any-one, any_append}
+use Rattle.lists.specs.Any.{any_none, any_one, any_append}
 use Rattle.lists.specs.Both.{or_left, or_right}
 use Rattle.report_definition.specs.declared.Page.{Page}
-use Rattle.report_definition.specs.Page.{Share, share_of, plus, sumsOf, pageWith}
-use Rattle.report_definition.specs.Report.{badPage, countsIn, mostBodies, mostOfBody}
+use Rattle.report_definition.specs.Page.{Share, share_of, plus, sums_of, page_with}
+use Rattle.report_definition.specs.Report.{bad_page, counts_in, most_bodies, most_of_body}
 use Rattle.report_definition.specs.Limits.{Within}
 use Rattle.report_page.specs.declared.divisor.Share as told
 use Rattle.report_page.specs.declared.counts.RowCounts.{RowCounts}
-use Rattle.report_page.specs.Shares.{shareIn}
-use Rattle.report_page.specs.Adding.{PageReady, sumsWith}
+use Rattle.report_page.specs.Shares.{share_in}
+use Rattle.report_page.specs.Adding.{PageReady, sums_with}
 
 -- ---- four counts
 
@@ -34,62 +34,62 @@ module _ (most : ℕ) where
 
 module _ (most a b c d : ℕ) where
   -- the first count is above
-  pub above-first : most < a → true ≡ any (λ n. ltb most n) (a ∷ b ∷ c ∷ d ∷ [])
-  above-first h = here most a (b ∷ c ∷ d ∷ []) h
+  pub above_first : most < a → true ≡ any (λ n. ltb most n) (a ∷ b ∷ c ∷ d ∷ [])
+  above_first h = here most a (b ∷ c ∷ d ∷ []) h
 
   -- it is not, and the second is
-  pub above-second : a ≤ most → most < b → true ≡ any (λ n. ltb most n) (a ∷ b ∷ c ∷ d ∷ [])
-  above-second h k = here most b (c ∷ d ∷ []) k ∙ later most a (b ∷ c ∷ d ∷ []) h
+  pub above_second : a ≤ most → most < b → true ≡ any (λ n. ltb most n) (a ∷ b ∷ c ∷ d ∷ [])
+  above_second h k = here most b (c ∷ d ∷ []) k ∙ later most a (b ∷ c ∷ d ∷ []) h
 
   -- neither is, and the third is
-  pub above-third : a ≤ most → b ≤ most → most < c → true ≡ any (λ n. ltb most n) (a ∷ b ∷ c ∷ d ∷ [])
-  above-third h k l = here most c (d ∷ []) l ∙ later most b (c ∷ d ∷ []) k ∙ later most a (b ∷ c ∷ d ∷ []) h
+  pub above_third : a ≤ most → b ≤ most → most < c → true ≡ any (λ n. ltb most n) (a ∷ b ∷ c ∷ d ∷ [])
+  above_third h k l = here most c (d ∷ []) l ∙ later most b (c ∷ d ∷ []) k ∙ later most a (b ∷ c ∷ d ∷ []) h
 
   -- none of them is, and the last decides
-  pub above-last : a ≤ most → b ≤ most → c ≤ most → ltb most d ≡ any (λ n. ltb most n) (a ∷ b ∷ c ∷ d ∷ [])
-  above-last h k l = sym (any-one (λ n. ltb most n) d) ∙ later most c (d ∷ []) l ∙ later most b (c ∷ d ∷ []) k ∙ later most a (b ∷ c ∷ d ∷ []) h
+  pub above_last : a ≤ most → b ≤ most → c ≤ most → ltb most d ≡ any (λ n. ltb most n) (a ∷ b ∷ c ∷ d ∷ [])
+  above_last h k l = sym (any_one (λ n. ltb most n) d) ∙ later most c (d ∷ []) l ∙ later most b (c ∷ d ∷ []) k ∙ later most a (b ∷ c ∷ d ∷ []) h
 
 -- ---- 67
 
 module _ (p : Page) where
   -- the first four counts
-  abbrev pub firstCounts : List ℕ
-  firstCounts = p.accepted ∷ p.failed ∷ p.triangles ∷ p.vertices ∷ []
+  abbrev pub first_counts : List ℕ
+  first_counts = p.accepted ∷ p.failed ∷ p.triangles ∷ p.vertices ∷ []
 
   -- the other four
-  abbrev pub otherCounts : List ℕ
-  otherCounts = p.empty ∷ p.upstream ∷ p.escaped ∷ p.listed ∷ []
+  abbrev pub other_counts : List ℕ
+  other_counts = p.empty ∷ p.upstream ∷ p.escaped ∷ p.listed ∷ []
 
   -- a page with too many bodies
-  pub bad-full : mostBodies ≤ p.bodies → true ≡ badPage p
-  unfolding badPage
-  bad-full h = ap (λ (b : Bool). b || any (λ n. ltb (mostOfBody * p.bodies) n) (countsIn p)) (sym (le-leb mostBodies p.bodies h))
+  pub bad_full : most_bodies ≤ p.bodies → true ≡ bad_page p
+  unfolding bad_page
+  bad_full h = ap (λ (b : Bool). b || any (λ n. ltb (most_of_body * p.bodies) n) (counts_in p)) (sym (le-leb most_bodies p.bodies h))
 
   -- another is decided by its counts
-  bad-by : p.bodies < mostBodies → (any (λ n. ltb (mostOfBody * p.bodies) n) firstCounts || any (λ n. ltb (mostOfBody * p.bodies) n) otherCounts) ≡ badPage p
-  unfolding badPage
-  bad-by h =
-      sym (any_append (λ n. ltb (mostOfBody * p.bodies) n) firstCounts otherCounts)
-      ∙ ap (λ (b : Bool). b || any (λ n. ltb (mostOfBody * p.bodies) n) (countsIn p)) (sym (lt-leb mostBodies p.bodies h))
+  bad_by : p.bodies < most_bodies → (any (λ n. ltb (most_of_body * p.bodies) n) first_counts || any (λ n. ltb (most_of_body * p.bodies) n) other_counts) ≡ bad_page p
+  unfolding bad_page
+  bad_by h =
+      sym (any_append (λ n. ltb (most_of_body * p.bodies) n) first_counts other_counts)
+      ∙ ap (λ (b : Bool). b || any (λ n. ltb (most_of_body * p.bodies) n) (counts_in p)) (sym (lt-leb most_bodies p.bodies h))
 
   -- one of the first four is above
-  pub bad-first : {r : Bool} → p.bodies < mostBodies → r ≡ any (λ n. ltb (mostOfBody * p.bodies) n) firstCounts → r ≡ true → true ≡ badPage p
-  bad-first {r} h e t = ap (λ (b : Bool). b || any (λ n. ltb (mostOfBody * p.bodies) n) otherCounts) (sym t ∙ e) ∙ bad-by h
+  pub bad_first : {r : Bool} → p.bodies < most_bodies → r ≡ any (λ n. ltb (most_of_body * p.bodies) n) first_counts → r ≡ true → true ≡ bad_page p
+  bad_first {r} h e t = ap (λ (b : Bool). b || any (λ n. ltb (most_of_body * p.bodies) n) other_counts) (sym t ∙ e) ∙ bad_by h
 
   -- none is, and the other four decide
-  pub bad-other : {r s : Bool} → p.bodies < mostBodies → r ≡ any (λ n. ltb (mostOfBody * p.bodies) n) firstCounts → r ≡ false
-      → s ≡ any (λ n. ltb (mostOfBody * p.bodies) n) otherCounts → s ≡ badPage p
-  bad-other {r} {s} h e f g = g ∙ ap (λ (b : Bool). b || any (λ n. ltb (mostOfBody * p.bodies) n) otherCounts) (sym f ∙ e) ∙ bad-by h
+  pub bad_other : {r s : Bool} → p.bodies < most_bodies → r ≡ any (λ n. ltb (most_of_body * p.bodies) n) first_counts → r ≡ false
+      → s ≡ any (λ n. ltb (most_of_body * p.bodies) n) other_counts → s ≡ bad_page p
+  bad_other {r} {s} h e f g = g ∙ ap (λ (b : Bool). b || any (λ n. ltb (most_of_body * p.bodies) n) other_counts) (sym f ∙ e) ∙ bad_by h
 
   -- a page that 67 accepts has fewer bodies than the most
-  pub good-few : badPage p ≡ false → p.bodies < mostBodies
-  unfolding badPage
-  good-few h = leb-false mostBodies p.bodies (or_left (leb mostBodies p.bodies) _ h)
+  pub good_few : bad_page p ≡ false → p.bodies < most_bodies
+  unfolding bad_page
+  good_few h = leb-false most_bodies p.bodies (or_left (leb most_bodies p.bodies) _ h)
 
   -- and no count above the limits
-  pub good-within : badPage p ≡ false → Within (sumsOf p)
-  unfolding badPage
-  good-within h =
+  pub good_within : bad_page p ≡ false → Within (sums_of p)
+  unfolding bad_page
+  good_within h =
       record {
         accepted = ltb-false most p.accepted (low 0 (omega arith));
         failed = ltb-false most p.failed (low 1 (omega arith));
@@ -102,10 +102,10 @@ module _ (p : Page) where
       }
     where
       most : ℕ
-      most = mostOfBody * p.bodies
+      most = most_of_body * p.bodies
 
-      low : (k : ℕ) → k < 8 → ltb most (get_or (countsIn p) k 0) ≡ false
-      low k l = any_none (λ n. ltb most n) (countsIn p) 0 (or_right (leb mostBodies p.bodies) _ h) k l
+      low : (k : ℕ) → k < 8 → ltb most (get_or (counts_in p) k 0) ≡ false
+      low k l = any_none (λ n. ltb most n) (counts_in p) 0 (or_right (leb most_bodies p.bodies) _ h) k l
 
 -- ---- a body added
 
@@ -123,10 +123,10 @@ pub record Room (p : Page) (c : RowCounts) (faces new : ℕ) : Type 0 where
   pub listed : p.listed + new < 18446744073709551616
 
 -- a page that 67 accepts has room for a body within the limits
-pub page-room : {p : Page} {c : RowCounts} {faces listed : ℕ} → PageReady p c faces listed → Room p c faces listed
-page-room {p} {c} {faces} {listed} g =
-    let few = good-few p g.good in
-    let low = good-within p g.good in
+pub page_room : {p : Page} {c : RowCounts} {faces listed : ℕ} → PageReady p c faces listed → Room p c faces listed
+page_room {p} {c} {faces} {listed} g =
+    let few = good_few p g.good in
+    let low = good_within p g.good in
     let w = g.within in
     record {
       bodies = omega arith;
@@ -142,8 +142,8 @@ page-room {p} {c} {faces} {listed} g =
     }
 
 -- the page with the share that the code makes
-pub page-made : (p : Page) (c : RowCounts) (faces listed : ℕ) (s : told.Share)
-    → shareIn s ≡ share_of (p.accepted + c.accepted) (p.accepted + c.accepted + (p.failed + (faces - c.accepted)))
+pub page_made : (p : Page) (c : RowCounts) (faces listed : ℕ) (s : told.Share)
+    → share_in s ≡ share_of (p.accepted + c.accepted) (p.accepted + c.accepted + (p.failed + (faces - c.accepted)))
     → record {
       bodies = p.bodies + 1;
       accepted = p.accepted + c.accepted;
@@ -157,8 +157,8 @@ pub page-made : (p : Page) (c : RowCounts) (faces listed : ℕ) (s : told.Share)
       share_accepted = s.accepted;
       share_faces = s.faces;
     }
-    ≡ pageWith (plus (sumsOf p) (sumsWith c faces listed))
-page-made p c faces listed s e =
+    ≡ page_with (plus (sums_of p) (sums_with c faces listed))
+page_made p c faces listed s e =
     λ j. record {
       bodies = p.bodies + 1;
       accepted = p.accepted + c.accepted;

@@ -6,7 +6,7 @@ use native.Mathlib.Nat.{zero-mul, mod-lt}
 use native.Mathlib.Omega.{arith}
 use borrow.Author.Tests.{eq-eqb, ne_eqb}
 use Rattle.report_definition.specs.Divisor.{gcd}
-use Rattle.report_definition.specs.DivisorLaws.{Divides, gcd-last, gcd-step, gcd-divides}
+use Rattle.report_definition.specs.DivisorLaws.{Divides, gcd_last, gcd_step, gcd_divides}
 use Rattle.report_definition.specs.Page.{share_of}
 
 -- ---- the divisor
@@ -16,20 +16,20 @@ pub record Dividing (a b x y : ℕ) : Type 0 where
   pub same : gcd x y ≡ gcd a b
 
 -- the first two have it
-pub dividing-none : (a b : ℕ) → Dividing a b a b
-dividing-none a b = record { same = refl }
+pub dividing_none : (a b : ℕ) → Dividing a b a b
+dividing_none a b = record { same = refl }
 
 -- a step keeps it
-pub dividing-more : {a b x y : ℕ} → Dividing a b x y → (y ≡ 0 → ⊥) → Dividing a b y (x % y)
-dividing-more {a} {b} {x} {y} c n = record { same = sym (gcd-step x y (omega arith)) ∙ c.same }
+pub dividing_more : {a b x y : ℕ} → Dividing a b x y → (y ≡ 0 → ⊥) → Dividing a b y (x % y)
+dividing_more {a} {b} {x} {y} c n = record { same = sym (gcd_step x y (omega arith)) ∙ c.same }
 
 -- and lowers the second number
-pub dividing-less : (x y : ℕ) → (y ≡ 0 → ⊥) → x % y < y
-dividing-less x y n = mod-lt x (omega arith)
+pub dividing_less : (x y : ℕ) → (y ≡ 0 → ⊥) → x % y < y
+dividing_less x y n = mod-lt x (omega arith)
 
 -- with nothing left it is the first number
-pub dividing-all : {a b x y : ℕ} → Dividing a b x y → y ≡ 0 → x ≡ gcd a b
-dividing-all {a} {b} {x} {y} c z = sym (gcd-last x) ∙ ap (gcd x) (sym z) ∙ c.same
+pub dividing_all : {a b x y : ℕ} → Dividing a b x y → y ≡ 0 → x ≡ gcd a b
+dividing_all {a} {b} {x} {y} c z = sym (gcd_last x) ∙ ap (gcd x) (sym z) ∙ c.same
 
 -- a divisor of a number above 0 is above 0
 above : (d n : ℕ) → Divides d n → (n ≡ 0 → ⊥) → 0 < d
@@ -37,19 +37,19 @@ above zero n u h = absurd (h (sym u.is ∙ zero-mul u.times))
 above (suc d) n u h = omega arith
 
 -- that of some faces is above 0
-pub gcd-above : (a b : ℕ) {d : ℕ} → d ≡ gcd a b → (b ≡ 0 → ⊥) → 0 < d
-gcd-above a b {d} e h = subst (λ (n : ℕ). 0 < n) (sym e) (above (gcd a b) b (gcd-divides a b).second h)
+pub gcd_above : (a b : ℕ) {d : ℕ} → d ≡ gcd a b → (b ≡ 0 → ⊥) → 0 < d
+gcd_above a b {d} e h = subst (λ (n : ℕ). 0 < n) (sym e) (above (gcd a b) b (gcd_divides a b).second h)
 
 -- ---- the share
 
 -- no faces
-pub share-none : (a n : ℕ) → n ≡ 0 → record { accepted = 1; faces = 1 } ≡ share_of a n
+pub share_none : (a n : ℕ) → n ≡ 0 → record { accepted = 1; faces = 1 } ≡ share_of a n
 unfolding share_of
-share-none a n h = sym (ap (λ (b : Bool). cond b (record { accepted = 1; faces = 1 }) (record { accepted = a / gcd a n; faces = n / gcd a n })) (eq-eqb n 0 h))
+share_none a n h = sym (ap (λ (b : Bool). cond b (record { accepted = 1; faces = 1 }) (record { accepted = a / gcd a n; faces = n / gcd a n })) (eq-eqb n 0 h))
 
 -- some faces
-pub share-some : (a n : ℕ) {d : ℕ} → (n ≡ 0 → ⊥) → d ≡ gcd a n → record { accepted = a / d; faces = n / d } ≡ share_of a n
+pub share_some : (a n : ℕ) {d : ℕ} → (n ≡ 0 → ⊥) → d ≡ gcd a n → record { accepted = a / d; faces = n / d } ≡ share_of a n
 unfolding share_of
-share-some a n {d} h e =
+share_some a n {d} h e =
     (λ j. record { accepted = a / e j; faces = n / e j })
     ∙ sym (ap (λ (b : Bool). cond b (record { accepted = 1; faces = 1 }) (record { accepted = a / gcd a n; faces = n / gcd a n })) (ne_eqb n 0 h))

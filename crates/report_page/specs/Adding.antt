@@ -3,20 +3,20 @@ use Rattle.std.specs.Prelude.{◌≡◌, false, List, [], ℕ, ◌-◌, ◌≤�
 use Rattle.std.proofs.Common.{sym, ap, ◌∙◌, subst, arith}
 use Rattle.point_rules.specs.Rule.{Rule}
 use Rattle.body_rows.specs.Body.{Patch, rows_of}
-use Rattle.body_rows.specs.Patches.{shapes, length-patches}
+use Rattle.body_rows.specs.Patches.{shapes, length_patches}
 use Rattle.patch_geometry.specs.declared.Aabb.{Aabb}
 use Rattle.report_definition.specs.declared.Page.{Page}
-use Rattle.report_definition.specs.Page.{Sums, plus, sumsOf, pageWith, bodySums}
-use Rattle.report_definition.specs.Report.{Body, patchesIn, facesOfBody, withBody, badPage}
-use Rattle.report_definition.specs.Pages.{sumsIn}
-use Rattle.report_definition.specs.Limits.{Passes, Within, body-within}
+use Rattle.report_definition.specs.Page.{Sums, plus, sums_of, page_with, body_sums}
+use Rattle.report_definition.specs.Report.{Body, patches_in, faces_of_body, with_body, bad_page}
+use Rattle.report_definition.specs.Pages.{sums_in}
+use Rattle.report_definition.specs.Limits.{Passes, Within, body_within}
 use Rattle.report_page.specs.declared.counts.RowCounts.{RowCounts}
-use Rattle.report_page.specs.Counts.{countsOf}
-use Rattle.report_page.specs.BodyLaws.{sums-bare, rows_both}
+use Rattle.report_page.specs.Counts.{counts_of}
+use Rattle.report_page.specs.BodyLaws.{sums_bare, rows_both}
 
 -- what a body adds by what its rows count, how many they are, and how many of its faces are listed
-abbrev pub sumsWith : RowCounts → ℕ → ℕ → Sums
-sumsWith c faces listed =
+abbrev pub sums_with : RowCounts → ℕ → ℕ → Sums
+sums_with c faces listed =
     record {
       bodies = 1;
       accepted = c.accepted;
@@ -31,20 +31,20 @@ sumsWith c faces listed =
 
 -- what adding a body asks: a page that 67 accepts, and a body within the limits
 pub record PageReady (p : Page) (c : RowCounts) (faces listed : ℕ) : Type 0 where
-  pub good : badPage p ≡ false
+  pub good : bad_page p ≡ false
   pub few : c.accepted ≤ faces
-  pub within : Within (sumsWith c faces listed)
+  pub within : Within (sums_with c faces listed)
 
 -- ---- the body that the rows count
 
 -- What the rows count is what the body adds.
-pub sums-counted : (box : Aabb) (patches : List Patch) (listed : ℕ) {c : RowCounts} {faces : ℕ} → c ≡ countsOf (bodySums box patches 0) → faces ≡ length patches
-    → sumsWith c faces listed ≡ bodySums box patches listed
-unfolding bodySums
-sums-counted box patches listed {c} {faces} e n =
-    let s = bodySums box patches listed in
+pub sums_counted : (box : Aabb) (patches : List Patch) (listed : ℕ) {c : RowCounts} {faces : ℕ} → c ≡ counts_of (body_sums box patches 0) → faces ≡ length patches
+    → sums_with c faces listed ≡ body_sums box patches listed
+unfolding body_sums
+sums_counted box patches listed {c} {faces} e n =
+    let s = body_sums box patches listed in
     let m : faces - s.accepted ≡ s.failed = omega (arith, rows_both box patches listed) in
-    (λ j. sumsWith (e j) faces listed) ∙ (λ j. record {
+    (λ j. sums_with (e j) faces listed) ∙ (λ j. record {
       bodies = 1;
       accepted = s.accepted;
       failed = m j;
@@ -59,25 +59,25 @@ sums-counted box patches listed {c} {faces} e n =
 -- ---- a body that passed the checks up to 31
 
 module _ (rule : Rule) (words : ℕ) (page : Page) (b : Body) (h : Passes words b) {c : RowCounts} {faces listed : ℕ}
-    (e : c ≡ countsOf (bodySums b.box (shapes b.table b.positions b.indices) 0)) (f : faces ≡ length (rows_of b.table)) (n : listed ≡ length (facesOfBody rule b)) where
+    (e : c ≡ counts_of (body_sums b.box (shapes b.table b.positions b.indices) 0)) (f : faces ≡ length (rows_of b.table)) (n : listed ≡ length (faces_of_body rule b)) where
   -- what its rows count is what it adds
-  sums-body : sumsWith c faces listed ≡ sumsIn rule b
-  sums-body =
-      sums-counted b.box (shapes b.table b.positions b.indices) listed e (f ∙ sym (length-patches (rows_of b.table) b.positions [] b.indices))
-      ∙ sym (sums-bare b.box (rows_of b.table) b.positions b.normals b.indices listed)
-      ∙ ap (bodySums b.box (patchesIn b)) n
+  sums_body : sums_with c faces listed ≡ sums_in rule b
+  sums_body =
+      sums_counted b.box (shapes b.table b.positions b.indices) listed e (f ∙ sym (length_patches (rows_of b.table) b.positions [] b.indices))
+      ∙ sym (sums_bare b.box (rows_of b.table) b.positions b.normals b.indices listed)
+      ∙ ap (body_sums b.box (patches_in b)) n
 
   -- It may be added to a page that 67 accepts.
-  pub page-ready : badPage page ≡ false → PageReady page c faces listed
-  page-ready good =
+  pub page_ready : bad_page page ≡ false → PageReady page c faces listed
+  page_ready good =
       let all = rows_both b.box (shapes b.table b.positions b.indices) 0 in
-      let m = length-patches (rows_of b.table) b.positions [] b.indices in
+      let m = length_patches (rows_of b.table) b.positions [] b.indices in
       record {
         good = good;
         few = omega (arith, all, m, f, ap (λ (d : RowCounts). d.accepted) e);
-        within = subst Within (sym sums-body) (body-within rule words b h);
+        within = subst Within (sym sums_body) (body_within rule words b h);
       }
 
   -- Adding it by what its rows count is adding it.
-  pub page-added : pageWith (plus (sumsOf page) (sumsWith c faces listed)) ≡ withBody rule page b
-  page-added = ap (λ (s : Sums). pageWith (plus (sumsOf page) s)) sums-body
+  pub page_added : page_with (plus (sums_of page) (sums_with c faces listed)) ≡ with_body rule page b
+  page_added = ap (λ (s : Sums). page_with (plus (sums_of page) s)) sums_body

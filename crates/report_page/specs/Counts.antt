@@ -1,9 +1,9 @@
 -- What the rows of a body count, and what counting asks. Assumes nothing.
 use Rattle.std.specs.Prelude.{◌≡◌, List, ℕ, ◌+◌, ◌*◌, ◌≤◌, length, Float}
 use Rattle.std.proofs.Math.Option.{Option, none, some}
-use Rattle.body_rows.specs.Body.{rows_of, allVertices, allIndices}
+use Rattle.body_rows.specs.Body.{rows_of, all_vertices, all_indices}
 use Rattle.body_rows.specs.Rows.{WholeRows}
-use Rattle.body_checks.specs.Accepted.{Passed, passed-rows}
+use Rattle.body_checks.specs.Accepted.{Passed, passed_rows}
 use Rattle.patch_geometry.specs.declared.Aabb.{Aabb}
 use Rattle.mesh_verdicts.specs.declared.Failure.{Failure}
 use Rattle.mesh_verdicts.specs.declared.Failure.TheVariants.{Empty, Upstream, Escape}
@@ -12,8 +12,8 @@ use Rattle.report_definition.specs.Page.{Sums}
 use Rattle.report_page.specs.declared.counts.RowCounts.{RowCounts}
 
 -- the numbers of some sums that rows count
-abbrev pub countsOf : Sums → RowCounts
-countsOf s =
+abbrev pub counts_of : Sums → RowCounts
+counts_of s =
     record {
       accepted = s.accepted;
       empty = s.empty;
@@ -24,27 +24,27 @@ countsOf s =
     }
 
 -- the counts of no rows
-abbrev pub noCounts : RowCounts
-noCounts = record { accepted = 0; empty = 0; upstream = 0; escaped = 0; triangles = 0; vertices = 0 }
+abbrev pub no_counts : RowCounts
+no_counts = record { accepted = 0; empty = 0; upstream = 0; escaped = 0; triangles = 0; vertices = 0 }
 
 -- the counts with an accepted row more, which has so many triangles and vertices
-abbrev pub acceptedWith : ℕ → ℕ → RowCounts → RowCounts
-acceptedWith t v c =
+abbrev pub accepted_with : ℕ → ℕ → RowCounts → RowCounts
+accepted_with t v c =
     record { accepted = c.accepted + 1; empty = c.empty; upstream = c.upstream; escaped = c.escaped; triangles = c.triangles + t; vertices = c.vertices + v }
 
 -- the counts with a row more that failed
-abbrev pub failedWith : Failure → RowCounts → RowCounts
-failedWith Empty c =
+abbrev pub failed_with : Failure → RowCounts → RowCounts
+failed_with Empty c =
     record { accepted = c.accepted; empty = c.empty + 1; upstream = c.upstream; escaped = c.escaped; triangles = c.triangles; vertices = c.vertices }
-failedWith (Upstream n) c =
+failed_with (Upstream n) c =
     record { accepted = c.accepted; empty = c.empty; upstream = c.upstream + 1; escaped = c.escaped; triangles = c.triangles; vertices = c.vertices }
-failedWith (Escape reach span) c =
+failed_with (Escape reach span) c =
     record { accepted = c.accepted; empty = c.empty; upstream = c.upstream; escaped = c.escaped + 1; triangles = c.triangles; vertices = c.vertices }
 
 -- the counts with a row more: why it failed, if it did; its triangles and vertices count only if it did not
-abbrev pub countsWith : Option Failure → ℕ → ℕ → RowCounts → RowCounts
-countsWith none t v c = acceptedWith t v c
-countsWith (some f) t v c = failedWith f c
+abbrev pub counts_with : Option Failure → ℕ → ℕ → RowCounts → RowCounts
+counts_with none t v c = accepted_with t v c
+counts_with (some f) t v c = failed_with f c
 
 -- no count is above what an accepted body may have
 pub record FewCounts (c : RowCounts) : Type 0 where
@@ -63,11 +63,11 @@ pub record CountReady (table : List ℕ) (ps : List Float) (is : List ℕ) (box 
 -- what counting all rows asks: a body within the limits whose slices are as long as its rows say
 pub record Countable (table : List ℕ) (ps : List Float) (is : List ℕ) : Type 0 where
   pub rows : WholeRows table
-  pub few-vertices : allVertices (rows_of table) ≤ 262144
-  pub few-indices : allIndices (rows_of table) ≤ 786432
-  pub all-positions : length ps ≡ 3 * allVertices (rows_of table)
-  pub all-indices : length is ≡ allIndices (rows_of table)
+  pub few_vertices : all_vertices (rows_of table) ≤ 262144
+  pub few_indices : all_indices (rows_of table) ≤ 786432
+  pub all_positions : length ps ≡ 3 * all_vertices (rows_of table)
+  pub all_indices_lem : length is ≡ all_indices (rows_of table)
 
 -- an accepted body may be counted
-pub passed-countable : {table : List ℕ} {ps ns : List Float} {is : List ℕ} {words : ℕ} → Passed table ps ns is words → Countable table ps is
-passed-countable p = record { rows = passed-rows p; few-vertices = p.vertices; few-indices = p.indices; all-positions = p.all-positions; all-indices = p.all-indices }
+pub passed_countable : {table : List ℕ} {ps ns : List Float} {is : List ℕ} {words : ℕ} → Passed table ps ns is words → Countable table ps is
+passed_countable p = record { rows = passed_rows p; few_vertices = p.vertices; few_indices = p.indices; all_positions = p.all_positions; all_indices_lem = p.all_indices_lem }

@@ -1,11 +1,11 @@
 // What the rows of a body add to a page.
 
 ghost use Rattle.std.specs.Prelude.{◌≡◌, [], ◌/◌};
-ghost use Rattle.body_rows.specs.Rows.{rowAt};
-ghost use Rattle.body_rows.specs.Patches.{patchFrom, shapes};
-ghost use Rattle.mesh_verdicts.specs.Failures.{failureOf};
-ghost use Rattle.report_definition.specs.Page.{bodySums};
-ghost use Rattle.report_page.specs.Counts.{CountReady, Countable, FewCounts, acceptedWith, countsOf, countsWith, failedWith, noCounts};
+ghost use Rattle.body_rows.specs.Rows.{row_at};
+ghost use Rattle.body_rows.specs.Patches.{patch_from, shapes};
+ghost use Rattle.mesh_verdicts.specs.Failures.{failure_of};
+ghost use Rattle.report_definition.specs.Page.{body_sums};
+ghost use Rattle.report_page.specs.Counts.{CountReady, Countable, FewCounts, accepted_with, counts_of, counts_with, failed_with, no_counts};
 
 use mesh_judge::row_verdict;
 use mesh_verdicts::{Failure, Verdict};
@@ -24,7 +24,7 @@ pub struct RowCounts {
 
 // The counts of no rows.
 fn no_counts() -> RowCounts
-    ensures { result ≡ noCounts }
+    ensures { result ≡ no_counts }
 {
     RowCounts {
         accepted: 0,
@@ -39,7 +39,7 @@ fn no_counts() -> RowCounts
 // The counts with one more accepted row, which has so many triangles and vertices.
 fn with_accepted(counts: RowCounts, triangles: u32, vertices: u32) -> RowCounts
     requires { FewCounts counts }
-    ensures { result ≡ acceptedWith triangles vertices counts }
+    ensures { result ≡ accepted_with triangles vertices counts }
 {
     RowCounts {
         accepted: counts.accepted + 1,
@@ -54,7 +54,7 @@ fn with_accepted(counts: RowCounts, triangles: u32, vertices: u32) -> RowCounts
 // The counts with one more row that failed.
 fn with_failed(counts: RowCounts, failure: Failure) -> RowCounts
     requires { FewCounts counts }
-    ensures { result ≡ failedWith failure counts }
+    ensures { result ≡ failed_with failure counts }
 {
     let mut c = counts;
     match failure {
@@ -84,9 +84,9 @@ fn count_row(
     counts: RowCounts,
 ) -> RowCounts
     requires { CountReady rows.now positions.now indices.now reference span k base i counts }
-    ensures { result ≡ countsWith
-        (failureOf reference (patchFrom (rowAt rows.now k) positions.now [] indices.now base i))
-        ((rowAt rows.now k).indices / 3) (rowAt rows.now k).vertices counts }
+    ensures { result ≡ counts_with
+        (failure_of reference (patch_from (row_at rows.now k) positions.now [] indices.now base i))
+        ((row_at rows.now k).indices / 3) (row_at rows.now k).vertices counts }
 {
     let verdict = row_verdict(rows, positions, indices, reference, span, k, base, i);
     match verdict {
@@ -101,7 +101,7 @@ fn count_row(
 // What all rows of a body with its box count.
 pub fn count_rows(rows: &[u32], positions: &[f32], indices: &[u32], reference: Aabb) -> RowCounts
     requires { Countable rows.now positions.now indices.now }
-    ensures { result ≡ countsOf (bodySums reference (shapes rows.now positions.now indices.now) 0) }
+    ensures { result ≡ counts_of (body_sums reference (shapes rows.now positions.now indices.now) 0) }
 {
     let span = reference.diagonal();
     let m = body_rows::row_count(rows);

@@ -3,7 +3,7 @@
 ghost use Rattle.std.specs.Prelude.{◌≡◌};
 ghost use Rattle.report_definition.specs.Divisor.{gcd};
 ghost use Rattle.report_definition.specs.Page.{share_of};
-ghost use Rattle.report_page.specs.Shares.{shareIn};
+ghost use Rattle.report_page.specs.Shares.{share_in};
 
 // So many accepted of so many faces.
 #[derive(Drop)]
@@ -28,7 +28,7 @@ fn gcd(a: u64, b: u64) -> u64
 
 // The accepted share, reduced; 1/1 for no faces.
 pub fn share_of(accepted: u64, faces: u64) -> Share
-    ensures { shareIn result ≡ share_of accepted faces }
+    ensures { share_in result ≡ share_of accepted faces }
 {
     if faces == 0 {
         return Share {

@@ -2,9 +2,9 @@
 
 ghost use Rattle.std.specs.Prelude.{◌≡◌, [], ◌∷◌, ltb};
 ghost use Rattle.lists.specs.Lists.{any};
-ghost use Rattle.report_definition.specs.Page.{pageWith, plus, sumsOf};
-ghost use Rattle.report_definition.specs.Report.{badPage};
-ghost use Rattle.report_page.specs.Adding.{PageReady, sumsWith};
+ghost use Rattle.report_definition.specs.Page.{page_with, plus, sums_of};
+ghost use Rattle.report_definition.specs.Report.{bad_page};
+ghost use Rattle.report_page.specs.Adding.{PageReady, sums_with};
 
 use crate::counts::RowCounts;
 use crate::divisor::share_of;
@@ -34,7 +34,7 @@ fn one_above(most: u64, a: u64, b: u64, c: u64, d: u64) -> bool
 
 // Whether a page is refused with 67: it has 4,096 bodies or more, or a count above 262,144 times its bodies.
 pub fn bad_page(page: Page) -> bool
-    ensures { result ≡ badPage page }
+    ensures { result ≡ bad_page page }
 {
     if page.bodies >= MOST_BODIES {
         return true;
@@ -55,7 +55,7 @@ pub fn bad_page(page: Page) -> bool
 // The page with a body added: what its rows count, how many they are, and how many of its faces are listed.
 pub fn page_with(page: Page, counts: RowCounts, faces: u64, listed: u64) -> Page
     requires { PageReady page counts faces listed }
-    ensures { result ≡ pageWith (plus (sumsOf page) (sumsWith counts faces listed)) }
+    ensures { result ≡ page_with (plus (sums_of page) (sums_with counts faces listed)) }
 {
     let accepted = page.accepted + counts.accepted;
     let failed = page.failed + (faces - counts.accepted);

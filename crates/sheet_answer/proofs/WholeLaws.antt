@@ -13,8 +13,8 @@ use Rattle.sheet_digit_writing.specs.Writing.{Wrote}
 use Rattle.sheet_digit_writing.specs.Wrote.{wrote_then}
 use Rattle.sheet_lines.specs.Forms.{line, numbers}
 use Rattle.sheet_lines.specs.Pattern.{piece, pieces, split}
-use Rattle.sheet_answer_text.specs.Answer.{Written, refusalLine, refusedForm}
-use Rattle.sheet_answer_rows.specs.FormLaws.{as-form}
+use Rattle.sheet_answer_text.specs.Answer.{Written, refusal_line, refused_form}
+use Rattle.sheet_answer_rows.specs.FormLaws.{as_form}
 
 pub written : (E text W : List ℕ) (r : ℕ) → Wrote E 0 text W r → Written E text W r
 written E text W r v =
@@ -35,9 +35,9 @@ written E text W r v =
         let there : length E ≤ length text = omega arith in
         drop_of_length-le E here ∙ sym (drop_of_length-le E there)
 
-pub answer-written : (E : List ℕ) (a b W U : List ℕ) (q r : ℕ) → Wrote E 0 a W q → Wrote W q b U r → Written E (a ++ b) U r
-answer-written E a b W U q r v w = written E (a ++ b) U r (wrote_then v w)
+pub answer_written : (E : List ℕ) (a b W U : List ℕ) (q r : ℕ) → Wrote E 0 a W q → Wrote W q b U r → Written E (a ++ b) U r
+answer_written E a b W U q r v w = written E (a ++ b) U r (wrote_then v w)
 
-pub refusal-written : (E W : List ℕ) (n r : ℕ) → Wrote E 0 (line (pieces (bytes "(refused#)")) (n ∷ [])) W r → Written E (refusalLine n) W r
-unfolding refusalLine piece split numbers
-refusal-written E W n r v = written E (line refusedForm (n ∷ [])) W r (as-form refusedForm (bytes "(refused#)") refl (n ∷ []) v)
+pub refusal_written : (E W : List ℕ) (n r : ℕ) → Wrote E 0 (line (pieces (bytes "(refused#)")) (n ∷ [])) W r → Written E (refusal_line n) W r
+unfolding refusal_line piece split numbers
+refusal_written E W n r v = written E (line refused_form (n ∷ [])) W r (as_form refused_form (bytes "(refused#)") refl (n ∷ []) v)

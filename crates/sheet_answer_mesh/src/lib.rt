@@ -2,7 +2,7 @@
 
 ghost use Rattle.std.specs.Prelude.{◌≤◌, length};
 ghost use Rattle.sheet_digit_writing.specs.Writing.{Wrote};
-ghost use Rattle.sheet_answer_text.specs.Answer.{meshText};
+ghost use Rattle.sheet_answer_text.specs.Answer.{mesh_text};
 
 use mesh_acceptance::FAILURE_WIDTH;
 use mesh_layout::{PART_WIDTH, RANGE_WIDTH};
@@ -24,7 +24,7 @@ pub fn put_mesh(
     failures: &[u64],
 ) -> usize
     requires { at ≤ length out.old }
-    ensures { Wrote out.old at (meshText z positions.now normals.now indices.now parts.now
+    ensures { Wrote out.old at (mesh_text z positions.now normals.now indices.now parts.now
         ranges.now failures.now) out.new result }
 {
     let n = 3 * z.vertices as usize;

@@ -2,11 +2,11 @@
 
 ghost use Rattle.std.specs.Prelude.{◌≡◌, map, ◌+◌, ◌≤◌, length};
 ghost use Rattle.float_steps.specs.Floats.{bits32};
-ghost use Rattle.mesh_layout.specs.Mesh.{rangeWidth};
+ghost use Rattle.mesh_layout.specs.Mesh.{range_width};
 ghost use Rattle.sheet_digit_writing.specs.Writing.{Wrote};
-ghost use Rattle.sheet_lines.specs.Forms.{line, vertexForm};
+ghost use Rattle.sheet_lines.specs.Forms.{line, vertex_form};
 ghost use Rattle.sheet_lines.specs.Pattern.{pieces};
-ghost use Rattle.sheet_answer_rows.specs.Rows.{cornerAt, failureLine, failureLines, fourAt, rangeForm, rangeLines, threeAt, threes, vertexLines};
+ghost use Rattle.sheet_answer_rows.specs.Rows.{corner_at, failure_line, failure_lines, four_at, range_form, range_lines, three_at, threes, vertex_lines};
 
 use float_steps::bits_of_f32;
 use mesh_acceptance::FAILURE_WIDTH;
@@ -24,7 +24,7 @@ fn wide(n: u32) -> u64
 fn put_three(out: &mut [u8], at: usize, form: &[u8], values: &[u32], i: usize) -> usize
     requires at_in_bounds { at ≤ length out.old }
     requires i_in_bounds { i + 3 ≤ length values.now }
-    ensures { Wrote out.old at (line (pieces form.now) (threeAt values.now i)) out.new result }
+    ensures { Wrote out.old at (line (pieces form.now) (three_at values.now i)) out.new result }
 {
     let a = wide(values[i]);
     let b = wide(values[i + 1]);
@@ -51,7 +51,7 @@ fn put_vertex(out: &mut [u8], at: usize, positions: &[f32], normals: &[f32], i: 
     requires at_in_bounds { at ≤ length out.old }
     requires i_in_bounds { i + 3 ≤ length positions.now }
     requires i_in_bounds_2 { i + 3 ≤ length normals.now }
-    ensures { Wrote out.old at (line vertexForm (cornerAt positions.now normals.now i)) out.new result }
+    ensures { Wrote out.old at (line vertex_form (corner_at positions.now normals.now i)) out.new result }
 {
     let a = bits_of_f32(positions[i]) as u64;
     let b = bits_of_f32(positions[i + 1]) as u64;
@@ -65,7 +65,7 @@ fn put_vertex(out: &mut [u8], at: usize, positions: &[f32], normals: &[f32], i: 
 // A line for every vertex; answers the place after them.
 pub fn put_vertices(out: &mut [u8], at: usize, positions: &[f32], normals: &[f32]) -> usize
     requires { at ≤ length out.old }
-    ensures { Wrote out.old at (vertexLines (map bits32 positions.now) (map bits32 normals.now)) out.new result }
+    ensures { Wrote out.old at (vertex_lines (map bits32 positions.now) (map bits32 normals.now)) out.new result }
 {
     let mut next: usize = at;
     let mut i: usize = 0;
@@ -82,8 +82,8 @@ pub fn put_vertices(out: &mut [u8], at: usize, positions: &[f32], normals: &[f32
 // The line of the range that stands from a place on; answers the place after it.
 fn put_range(out: &mut [u8], at: usize, ranges: &[u32], i: usize) -> usize
     requires at_in_bounds { at ≤ length out.old }
-    requires range_width_in_bounds { i + rangeWidth ≤ length ranges.now }
-    ensures { Wrote out.old at (line rangeForm (fourAt ranges.now i)) out.new result }
+    requires range_width_in_bounds { i + range_width ≤ length ranges.now }
+    ensures { Wrote out.old at (line range_form (four_at ranges.now i)) out.new result }
 {
     let a = wide(ranges[i]);
     let b = wide(ranges[i + 1]);
@@ -95,7 +95,7 @@ fn put_range(out: &mut [u8], at: usize, ranges: &[u32], i: usize) -> usize
 // A line for every range; answers the place after them.
 pub fn put_ranges(out: &mut [u8], at: usize, ranges: &[u32]) -> usize
     requires { at ≤ length out.old }
-    ensures { Wrote out.old at (rangeLines ranges.now) out.new result }
+    ensures { Wrote out.old at (range_lines ranges.now) out.new result }
 {
     let mut next: usize = at;
     let mut i: usize = 0;
@@ -117,7 +117,7 @@ fn put_failure(
     span: u64,
 ) -> usize
     requires { at ≤ length out.old }
-    ensures { Wrote out.old at (failureLine face bin n reach span) out.new result }
+    ensures { Wrote out.old at (failure_line face bin n reach span) out.new result }
 {
     if n == 0 {
         return put_line(out, at, b"(failed## (empty))", &[face, bin]);
@@ -131,7 +131,7 @@ fn put_failure(
 // A line for every failure; answers the place after them.
 pub fn put_failures(out: &mut [u8], at: usize, failures: &[u64]) -> usize
     requires { at ≤ length out.old }
-    ensures { Wrote out.old at (failureLines failures.now) out.new result }
+    ensures { Wrote out.old at (failure_lines failures.now) out.new result }
 {
     let mut next: usize = at;
     let mut i: usize = 0;

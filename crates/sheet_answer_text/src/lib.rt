@@ -4,7 +4,7 @@ ghost use Rattle.std.specs.Prelude.{cond, ◌∷◌, [], ◌≡◌, ◌≤◌, l
 ghost use Rattle.sheet_digit_writing.specs.Writing.{Wrote};
 ghost use Rattle.sheet_lines.specs.Forms.{line};
 ghost use Rattle.sheet_lines.specs.Pattern.{pieces};
-ghost use Rattle.sheet_answer_text.specs.Answer.{countText};
+ghost use Rattle.sheet_answer_text.specs.Answer.{count_text};
 
 use sheet_lines::put_line;
 
@@ -49,7 +49,7 @@ fn number_of(b: bool) -> u64
 // The counts; answers the place after them.
 pub fn put_counts(out: &mut [u8], at: usize, t: Tallies) -> usize
     requires { at ≤ length out.old }
-    ensures { Wrote out.old at (countText t) out.new result }
+    ensures { Wrote out.old at (count_text t) out.new result }
 {
     let a = put_count(out, at, b"(turned#)", t.turned);
     let b = put_count(out, a, b"(against#)", t.against);

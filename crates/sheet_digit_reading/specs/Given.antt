@@ -21,9 +21,9 @@ pub record Bound (most : ℕ) : Type 0 where
   pub highest : most ≤ 2 ^ 59
 
 -- the word of an offset at or above zero, from its size
-abbrev pub aboveTaken : Taken → Taken
-aboveTaken t = cond t.ok (record { ok = true; value = farthest + t.value; next = t.next }) t
+abbrev pub above_taken : Taken → Taken
+above_taken t = cond t.ok (record { ok = true; value = farthest + t.value; next = t.next }) t
 
 -- the word of an offset below zero, from its size
-abbrev pub beneathTaken : Taken → Taken
-beneathTaken t = cond t.ok (cond (eqb t.value 0) (record { ok = false; value = 0; next = t.next }) (record { ok = true; value = farthest - t.value; next = t.next })) t
+abbrev pub beneath_taken : Taken → Taken
+beneath_taken t = cond t.ok (cond (eqb t.value 0) (record { ok = false; value = 0; next = t.next }) (record { ok = true; value = farthest - t.value; next = t.next })) t

@@ -1,9 +1,9 @@
 // Numbers that stand at a place of a text.
 
 ghost use Rattle.std.specs.Prelude.{◌≡◌, false, ◌+◌, ◌^◌, ◌<◌, ◌≤◌, length, drop};
-ghost use Rattle.sheet_digits.specs.Digits.{below, decimalBelow, decimalFrom, digitOf, readDecimal, readHex};
-ghost use Rattle.sheet_digits.specs.Offsets.{readOffset};
-ghost use Rattle.sheet_digit_reading.specs.Given.{Bound, Number, aboveTaken, beneathTaken};
+ghost use Rattle.sheet_digits.specs.Digits.{below, decimal_below, decimal_from, digit_of, read_decimal, read_hex};
+ghost use Rattle.sheet_digits.specs.Offsets.{read_offset};
+ghost use Rattle.sheet_digit_reading.specs.Given.{Bound, Number, above_taken, beneath_taken};
 
 // The largest number that is read, 2^32 − 1.
 const LARGEST: u64 = 0xffff_ffff;
@@ -35,7 +35,7 @@ pub fn missing(at: usize) -> Taken
 
 // The digit that a byte stands for, 16 if it stands for none.
 fn digit(c: u8) -> u64
-    ensures { result ≡ digitOf c }
+    ensures { result ≡ digit_of c }
 {
     if c < 48 {
         return 16;
@@ -56,7 +56,7 @@ fn digit(c: u8) -> u64
 pub fn read_hex(text: &[u8], at: usize, k: usize) -> Taken
     requires at_in_bounds { at ≤ length text.now }
     requires k_bound { k ≤ 16 }
-    ensures { Number text.now (16 ^ k) (readHex k (drop at text.now)) result }
+    ensures { Number text.now (16 ^ k) (read_hex k (drop at text.now)) result }
 {
     let mut value: u64 = 0;
     let mut i: usize = 0;
@@ -84,7 +84,7 @@ fn more_digits(text: &[u8], at: usize, before: u64, most: u64) -> Taken
     requires at_in_bounds { at ≤ length text.now }
     requires before_bound { before < 10 }
     requires bound { Bound most }
-    ensures { Number text.now (most + 1) (below (most + 1) (decimalFrom before (drop at text.now))) result }
+    ensures { Number text.now (most + 1) (below (most + 1) (decimal_from before (drop at text.now))) result }
 {
     let mut value: u64 = before;
     let mut i: usize = at;
@@ -114,7 +114,7 @@ fn more_digits(text: &[u8], at: usize, before: u64, most: u64) -> Taken
 fn read_below(text: &[u8], at: usize, most: u64) -> Taken
     requires at_in_bounds { at ≤ length text.now }
     requires bound { Bound most }
-    ensures { Number text.now (most + 1) (decimalBelow (most + 1) (drop at text.now)) result }
+    ensures { Number text.now (most + 1) (decimal_below (most + 1) (drop at text.now)) result }
 {
     if text.len() <= at {
         return missing(at);
@@ -136,7 +136,7 @@ fn read_below(text: &[u8], at: usize, most: u64) -> Taken
 // The decimal number at a place, below 2^32.
 pub fn read_decimal(text: &[u8], at: usize) -> Taken
     requires { at ≤ length text.now }
-    ensures { Number text.now (2 ^ 32) (readDecimal (drop at text.now)) result }
+    ensures { Number text.now (2 ^ 32) (read_decimal (drop at text.now)) result }
 {
     read_below(text, at, LARGEST)
 }
@@ -144,7 +144,7 @@ pub fn read_decimal(text: &[u8], at: usize) -> Taken
 // The word of an offset at or above zero, from its size.
 fn above_zero(size: Taken) -> Taken
     requires { size.value ≤ 2 ^ 40 }
-    ensures { result ≡ aboveTaken size }
+    ensures { result ≡ above_taken size }
 {
     if !size.ok {
         return size;
@@ -159,7 +159,7 @@ fn above_zero(size: Taken) -> Taken
 // The word of an offset below zero, from its size, which isn't 0.
 fn below_zero(size: Taken) -> Taken
     requires { size.value ≤ 2 ^ 40 }
-    ensures { result ≡ beneathTaken size }
+    ensures { result ≡ beneath_taken size }
 {
     if !size.ok {
         return size;
@@ -177,7 +177,7 @@ fn below_zero(size: Taken) -> Taken
 // The word of the offset at a place: a decimal number of at most 2^40, with a minus before it if it is below zero.
 pub fn read_offset(text: &[u8], at: usize) -> Taken
     requires { at ≤ length text.now }
-    ensures { Number text.now (2 ^ 41 + 1) (readOffset (drop at text.now)) result }
+    ensures { Number text.now (2 ^ 41 + 1) (read_offset (drop at text.now)) result }
 {
     if text.len() <= at {
         return missing(at);

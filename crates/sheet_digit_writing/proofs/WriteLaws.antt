@@ -10,24 +10,24 @@ use borrow.Author.Tests.{le-ltb, lt-ltb, leb-true, leb-false}
 use lib.Dec.{leb, lit<}
 use lib.ListN.{length, get_or, take, drop, set, drop_of_length-le, length-append, length-take, length-drop, length-set}
 use lib.Seq.{drop-cons, take_all, take-suc, take-suc-set, get_or-set_same, drop-set-lt}
-use Rattle.sheet_digits.specs.Digits.{decimal, decimalTo, digitByte, digits}
-use Rattle.sheet_digits.specs.Exact.{digits_last, decimalTo-at}
+use Rattle.sheet_digits.specs.Digits.{decimal, decimal_to, digit_byte, digits}
+use Rattle.sheet_digits.specs.Exact.{digits_last, decimal_to_at}
 use Rattle.signed_numbers.specs.Range.{farthest}
 use Rattle.sheet_digits.specs.Offsets.{offset}
 use Rattle.sheet_digit_writing.specs.Writing.{Digits, Filling, Wrote}
 use Rattle.sheet_digit_writing.specs.Wrote.{wrote_none, wrote_then}
 
-pub byte-decimal : (d : ℕ) → d < 10 → 48 + d ≡ digitByte d
-unfolding digitByte
-byte-decimal d h = rw (lt-ltb d 10 h)
+pub byte_decimal : (d : ℕ) → d < 10 → 48 + d ≡ digit_byte d
+unfolding digit_byte
+byte_decimal d h = rw (lt-ltb d 10 h)
 
-pub byte-letter : (d : ℕ) → 10 ≤ d → 55 + d ≡ digitByte d
-unfolding digitByte
-byte-letter d h = rw (le-ltb d 10 h)
+pub byte_letter : (d : ℕ) → 10 ≤ d → 55 + d ≡ digit_byte d
+unfolding digit_byte
+byte_letter d h = rw (le-ltb d 10 h)
 
 -- ---- a byte
-pub wrote-byte : (E : List ℕ) (at b : ℕ) → at < length E → Wrote E at (b ∷ []) (set E at b) (at + 1)
-wrote-byte E at b h =
+pub wrote_byte : (E : List ℕ) (at b : ℕ) → at < length E → Wrote E at (b ∷ []) (set E at b) (at + 1)
+wrote_byte E at b h =
     let one : length (take at E ++ b ∷ []) ≤ length E = simp (length-append, length-take) (omega arith) in
     record {
       long = length-set E at b;
@@ -37,8 +37,8 @@ wrote-byte E at b h =
       rest = ap (λ (n : ℕ). drop n (set E at b)) (add-one at) ∙ drop-set-lt (suc at) E at b (omega arith) ∙ ap (λ (n : ℕ). drop n E) (sym (add-one at));
     }
 
-pub wrote-full : (E : List ℕ) (at b : ℕ) → length E ≤ at → at ≤ length E → Wrote E at (b ∷ []) E at
-wrote-full E at b h l =
+pub wrote_full : (E : List ℕ) (at b : ℕ) → length E ≤ at → at ≤ length E → Wrote E at (b ∷ []) E at
+wrote_full E at b h l =
     let e : length E ≡ at = omega arith in
     record {
       long = refl;
@@ -57,18 +57,18 @@ pub record Texted (E : List ℕ) (at : ℕ) (text W : List ℕ) (next i : ℕ) :
   pub inside : i ≤ length text
   pub wrote : Wrote E at (take i text) W next
 
-pub texted-none : (E : List ℕ) (at : ℕ) (text : List ℕ) → at ≤ length E → Texted E at text E at 0
-texted-none E at text h = record { inside = omega arith; wrote = wrote_none E at h }
+pub texted_none : (E : List ℕ) (at : ℕ) (text : List ℕ) → at ≤ length E → Texted E at text E at 0
+texted_none E at text h = record { inside = omega arith; wrote = wrote_none E at h }
 
-pub texted-room : (E : List ℕ) (at : ℕ) (text W : List ℕ) (next i : ℕ) → Texted E at text W next i → next ≤ length W
-texted-room E at text W next i v = omega (arith, v.wrote.within, v.wrote.long)
+pub texted_room : (E : List ℕ) (at : ℕ) (text W : List ℕ) (next i : ℕ) → Texted E at text W next i → next ≤ length W
+texted_room E at text W next i v = omega (arith, v.wrote.within, v.wrote.long)
 
-pub texted-more : (E : List ℕ) (at : ℕ) (text W U : List ℕ) (next r i : ℕ) → Texted E at text W next i → i < length text → Wrote W next (get_or text i 0 ∷ []) U r → Texted E at text U r (i + 1)
-texted-more E at text W U next r i v h w =
+pub texted_more : (E : List ℕ) (at : ℕ) (text W U : List ℕ) (next r i : ℕ) → Texted E at text W next i → i < length text → Wrote W next (get_or text i 0 ∷ []) U r → Texted E at text U r (i + 1)
+texted_more E at text W U next r i v h w =
     record { inside = omega arith; wrote = subst (λ (xs : List ℕ). Wrote E at xs U r) (sym (ap (λ (n : ℕ). take n text) (add-one i) ∙ take-suc text i 0 h)) (wrote_then v.wrote w) }
 
-pub texted-all : (E : List ℕ) (at : ℕ) (text W : List ℕ) (next i : ℕ) → Texted E at text W next i → length text ≤ i → Wrote E at text W next
-texted-all E at text W next i v h = subst (λ (xs : List ℕ). Wrote E at xs W next) (take_all i text h) v.wrote
+pub texted_all : (E : List ℕ) (at : ℕ) (text W : List ℕ) (next i : ℕ) → Texted E at text W next i → length text ≤ i → Wrote E at text W next
+texted_all E at text W next i v h = subst (λ (xs : List ℕ). Wrote E at xs W next) (take_all i text h) v.wrote
 
 -- ---- digits from the last
 pub record Filled (base k n : ℕ) (W : List ℕ) (m i : ℕ) : Type 0 where
@@ -84,7 +84,7 @@ filled_none base k n W h = record {
       ∙ ap (λ (xs : List ℕ). digits base k n ++ xs) (drop_of_length-le W (le_of_eq h)) ∙ append-nil (digits base k n);
 }
 
-pub filled_more : (base k n : ℕ) (W : List ℕ) (m i b : ℕ) → Filled base k n W m i → i < k → k ≤ 20 → b ≡ digitByte (m % base) → Filled base k n (set W (19 - i) b) (m / base) (i + 1)
+pub filled_more : (base k n : ℕ) (W : List ℕ) (m i b : ℕ) → Filled base k n W m i → i < k → k ≤ 20 → b ≡ digit_byte (m % base) → Filled base k n (set W (19 - i) b) (m / base) (i + 1)
 filled_more base k n W m i b v h l e =
     let j : ℕ = 19 - i in
     let here : 20 - (i + 1) ≡ j = omega arith in
@@ -102,48 +102,48 @@ filled_more base k n W m i b v h l e =
           ap (λ (y : ℕ). digits base (k - (i + 1)) (m / base) ++ drop y (set W j b)) here
           ∙ ap (λ (ys : List ℕ). digits base (k - (i + 1)) (m / base) ++ ys) there
           ∙ ap (λ (y : ℕ). digits base (k - (i + 1)) (m / base) ++ y ∷ drop (20 - i) W) e
-          ∙ sym (append_assoc (digits base (k - (i + 1)) (m / base)) (digitByte (m % base) ∷ []) (drop (20 - i) W))
+          ∙ sym (append_assoc (digits base (k - (i + 1)) (m / base)) (digit_byte (m % base) ∷ []) (drop (20 - i) W))
           ∙ ap (λ (ds : List ℕ). ds ++ drop (20 - i) W) (sym (digits_last base (k - (i + 1)) m) ∙ ap (λ (y : ℕ). digits base y m) (sym count))
           ∙ v.same;
     }
 
-pub filled-all : (base k n : ℕ) (W : List ℕ) (m i : ℕ) → Filled base k n W m i → k ≤ i → Filling base k n W
+pub filled_all : (base k n : ℕ) (W : List ℕ) (m i : ℕ) → Filled base k n W m i → k ≤ i → Filling base k n W
 unfolding digits
-filled-all base k n W m i v h =
+filled_all base k n W m i v h =
     let z : k - i ≡ 0 = omega arith in
     let e : i ≡ k = omega (arith, v.few) in
     record { long = v.long; is = ap (λ (y : ℕ). drop (20 - y) W) (sym e) ∙ ap (λ (y : ℕ). digits base y m ++ drop (20 - i) W) (sym z) ∙ v.same }
 
-pub small-digit : (m base : ℕ) → 0 < base → base ≤ 16 → m % base < 16
-small-digit m base p h = omega (arith, mod-lt m p)
+pub small_digit : (m base : ℕ) → 0 < base → base ≤ 16 → m % base < 16
+small_digit m base p h = omega (arith, mod-lt m p)
 
-pub wrote-digits : (E : List ℕ) (at base k n : ℕ) (room W : List ℕ) (r : ℕ) → Filling base k n room → k ≤ 20 → Wrote E at (take (20 - (20 - k)) (drop (20 - k) room)) W r
+pub wrote_digits : (E : List ℕ) (at base k n : ℕ) (room W : List ℕ) (r : ℕ) → Filling base k n room → k ≤ 20 → Wrote E at (take (20 - (20 - k)) (drop (20 - k) room)) W r
     → Wrote E at (digits base k n) W r
-wrote-digits E at base k n room W r v h w =
+wrote_digits E at base k n room W r v h w =
     let fit : length (drop (20 - k) room) ≤ 20 - (20 - k) = simp length-drop (omega (arith, v.long)) in
     subst (λ (xs : List ℕ). Wrote E at xs W r) (take_all (20 - (20 - k)) (drop (20 - k) room) fit ∙ v.is) w
 
-pub wrote-decimal : (E : List ℕ) (at k n : ℕ) (W : List ℕ) (r : ℕ) → Digits n k → Wrote E at (digits 10 k n) W r → Wrote E at (decimal n) W r
-wrote-decimal E at k n W r v w = subst (λ (xs : List ℕ). Wrote E at xs W r) (sym v.is) w
+pub wrote_decimal : (E : List ℕ) (at k n : ℕ) (W : List ℕ) (r : ℕ) → Digits n k → Wrote E at (digits 10 k n) W r → Wrote E at (decimal n) W r
+wrote_decimal E at k n W r v w = subst (λ (xs : List ℕ). Wrote E at xs W r) (sym v.is) w
 
 -- ---- how many digits
 pub record Counted (n m k : ℕ) : Type 0 where
-  pub some-digit : 0 < k
+  pub some_digit : 0 < k
   pub few : k ≤ 20
   pub is : m ≡ n / 10 ^ k
   pub low : 1 < k → 10 ^ (k - 1) ≤ n
 
 pub counted_none : (n : ℕ) → Counted n (n / 10) 1
-counted_none n = record { some-digit = omega arith; few = omega arith; is = refl; low = λ h. absurd (omega arith) }
+counted_none n = record { some_digit = omega arith; few = omega arith; is = refl; low = λ h. absurd (omega arith) }
 
-pub counted-more : (n m k : ℕ) → n < 2 ^ 64 → Counted n m k → 0 < m → Counted n (m / 10) (k + 1)
-counted-more n m k s v h =
+pub counted_more : (n m k : ℕ) → n < 2 ^ 64 → Counted n m k → 0 < m → Counted n (m / 10) (k + 1)
+counted_more n m k s v h =
     let p : 0 < 10 ^ k = one-le-pow k 10 (lit< tt) in
     let q : 1 ≤ n / 10 ^ k = omega (arith, v.is) in
     let one : 1 * 10 ^ k ≤ n = (le-div_iff_mul-le p).0 q in
     let low : 10 ^ k ≤ n = omega arith in
     record {
-      some-digit = omega arith;
+      some_digit = omega arith;
       few = omega (arith, few low (leb 20 k) refl);
       is = ap (λ (y : ℕ). y / 10) v.is ∙ div-div-eq-div-mul n (10 ^ k) 10 ∙ ap (λ (y : ℕ). n / y) (mul_comm (10 ^ k) 10 ∙ sym (pow-succ' 10 k) ∙ ap (λ (y : ℕ). 10 ^ y) (sym (add-one k)));
       low = λ l. subst (λ (y : ℕ). 10 ^ y ≤ n) (let e : k ≡ k + 1 - 1 = omega arith in e) low;
@@ -153,10 +153,10 @@ counted-more n m k s v h =
     few low true q = let big : 10 ^ 20 ≤ 10 ^ k = pow-le-pow_right (lit< tt) (leb-true 20 k q) in absurd (omega arith)
     few low false q = omega (arith, leb-false 20 k q)
 
-pub counted-all : (n m k : ℕ) → Counted n m k → m ≤ 0 → Digits n k
-unfolding decimalTo
-counted-all n m zero v h = absurd (omega (arith, v.some-digit))
-counted-all n m (suc j) v h = record { few = v.few; is = go j n v.low high (omega (arith, v.few)) }
+pub counted_all : (n m k : ℕ) → Counted n m k → m ≤ 0 → Digits n k
+unfolding decimal_to
+counted_all n m zero v h = absurd (omega (arith, v.some_digit))
+counted_all n m (suc j) v h = record { few = v.few; is = go j n v.low high (omega (arith, v.few)) }
   where
     high : n < 10 ^ suc j
     high =
@@ -167,14 +167,14 @@ counted-all n m (suc j) v h = record { few = v.few; is = go j n v.low high (omeg
 
     go : (j n : ℕ) → (1 < suc j → 10 ^ (suc j - 1) ≤ n) → n < 10 ^ suc j → j ≤ 19 → decimal n ≡ digits 10 (suc j) n
     go zero zero low high l = refl
-    go zero (suc n) low high l = decimalTo-at 19 0 (suc n) (omega arith) (omega arith) high
-    go (suc i) n low high l = decimalTo-at 19 (suc i) n l (subst (λ (y : ℕ). 10 ^ y ≤ n) (let e : suc (suc i) - 1 ≡ suc i = omega arith in e) (low (omega arith))) high
+    go zero (suc n) low high l = decimal_to_at 19 0 (suc n) (omega arith) (omega arith) high
+    go (suc i) n low high l = decimal_to_at 19 (suc i) n l (subst (λ (y : ℕ). 10 ^ y ≤ n) (let e : suc (suc i) - 1 ≡ suc i = omega arith in e) (low (omega arith))) high
 
 -- ---- an offset
-pub offset-beneath : (E W U : List ℕ) (at n q r : ℕ) → n < 1099511627776 → Wrote E at (45 ∷ []) W q → Wrote W q (decimal (1099511627776 - n)) U r → Wrote E at (offset n) U r
+pub offset_beneath : (E W U : List ℕ) (at n q r : ℕ) → n < 1099511627776 → Wrote E at (45 ∷ []) W q → Wrote W q (decimal (1099511627776 - n)) U r → Wrote E at (offset n) U r
 unfolding offset
-offset-beneath E W U at n q r h v w = rw (lt-ltb n farthest h) (wrote_then v w)
+offset_beneath E W U at n q r h v w = rw (lt-ltb n farthest h) (wrote_then v w)
 
-pub offset-above : (E W : List ℕ) (at n r : ℕ) → 1099511627776 ≤ n → Wrote E at (decimal (n - 1099511627776)) W r → Wrote E at (offset n) W r
+pub offset_above : (E W : List ℕ) (at n r : ℕ) → 1099511627776 ≤ n → Wrote E at (decimal (n - 1099511627776)) W r → Wrote E at (offset n) W r
 unfolding offset
-offset-above E W at n r h v = rw (le-ltb n farthest h) v
+offset_above E W at n r h v = rw (le-ltb n farthest h) v

@@ -1,7 +1,7 @@
 // Numbers written at a place of a slice; what passes its end is left off.
 
 ghost use Rattle.std.specs.Prelude.{◌≡◌, ◌∷◌, [], ◌+◌, ◌-◌, ◌<◌, ◌≤◌, length};
-ghost use Rattle.sheet_digits.specs.Digits.{decimal, digitByte, digits, hex};
+ghost use Rattle.sheet_digits.specs.Digits.{decimal, digit_byte, digits, hex};
 ghost use Rattle.sheet_digits.specs.Offsets.{offset};
 ghost use Rattle.sheet_digit_writing.specs.Writing.{Digits, Filling, Wrote};
 
@@ -14,7 +14,7 @@ const MINUS: u8 = 45;
 // The byte of a digit.
 fn digit_byte(d: u64) -> u8
     requires { d < 16 }
-    ensures { result ≡ digitByte d }
+    ensures { result ≡ digit_byte d }
 {
     if d < 10 {
         return 48 + d as u8;

@@ -3,7 +3,7 @@
 use Rattle.std.specs.Prelude.{true, false, cond, List, [], ◌∷◌, ℕ, suc, ◌+◌, ◌-◌, ◌*◌, ◌^◌, ltb, eqb}
 use Rattle.std.proofs.Math.Option.{Option, none, some}
 use Rattle.signed_numbers.specs.Range.{farthest}
-use Rattle.sheet_digits.specs.Digits.{decimal, Found, found, decimalBelow}
+use Rattle.sheet_digits.specs.Digits.{decimal, Found, found, decimal_below}
 
 -- the byte of the minus
 abbrev pub minus : ℕ
@@ -24,9 +24,9 @@ beneath none = none
 beneath (some f) = cond (eqb f.value 0) none (some (found (farthest - f.value) f.rest))
 
 -- the word of the offset that a text begins with, and what follows it
-unfoldable pub readOffset : List ℕ → Option Found
-readOffset [] = none
-readOffset (x ∷ xs) = elim (eqb x minus) [
-  | true ↦ beneath (decimalBelow (suc farthest) xs)
-  | false ↦ above (decimalBelow (suc farthest) (x ∷ xs))
+unfoldable pub read_offset : List ℕ → Option Found
+read_offset [] = none
+read_offset (x ∷ xs) = elim (eqb x minus) [
+  | true ↦ beneath (decimal_below (suc farthest) xs)
+  | false ↦ above (decimal_below (suc farthest) (x ∷ xs))
 ]

@@ -2,7 +2,7 @@
 
 ghost use Rattle.std.specs.Prelude.{◌≡◌};
 ghost use Rattle.sheet_line_order.specs.Reading.{start};
-ghost use Rattle.sheet_reader_state.specs.Slices.{Begun, ended, readerOf, refused};
+ghost use Rattle.sheet_reader_state.specs.Slices.{Begun, ended, reader_of, refused};
 
 use sheet_line_order::Limits;
 use sheet_reader_state::Reader;
@@ -10,7 +10,7 @@ use slice_fill::clear;
 
 // The reader before the first line.
 fn fresh(limits: Limits) -> Reader
-    ensures { result ≡ readerOf (start limits) }
+    ensures { result ≡ reader_of (start limits) }
 {
     Reader {
         limits: limits,

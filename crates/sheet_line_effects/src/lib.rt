@@ -1,7 +1,7 @@
 // What each kind of line adds.
 
 ghost use Rattle.std.specs.Prelude.{◌≡◌, ◌+◌, ◌*◌, ◌%◌, ◌^◌, ◌<◌, length, set};
-ghost use Rattle.sheet_reader_state.specs.Slices.{boxed, defaulted, lent, sagged, takenUp};
+ghost use Rattle.sheet_reader_state.specs.Slices.{boxed, defaulted, lent, sagged, taken_up};
 ghost use Rattle.sheet_line_effects.specs.Added.{Ready, RowAdded, RowRoom, TriangleAdded, TriangleRoom, VertexAdded, VertexRoom};
 
 use body_rows::{INDICES_BACK, ROW_WIDTH, VERTICES_BACK};
@@ -138,7 +138,7 @@ pub fn take_up(
 ) -> Reader
     requires { Ready (lent s table.old positions.old normals.old indices.old materials.old) k numbers.now }
     ensures { lent result table.new positions.new normals.new indices.new materials.new
-        ≡ takenUp (lent s table.old positions.old normals.old indices.old materials.old) k
+        ≡ taken_up (lent s table.old positions.old normals.old indices.old materials.old) k
         numbers.now }
 {
     match k {

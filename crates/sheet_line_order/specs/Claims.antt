@@ -3,14 +3,14 @@ use Rattle.std.specs.Prelude.{List, [], ◌∷◌, ◌++◌, ℕ, take, replicat
 use Rattle.lists.specs.Lists.{all}
 use Rattle.lists.specs.Table.{Case, case, agrees}
 use Rattle.sheet_digits.specs.Bytes.{bytes, lines}
-use Rattle.sheet_line_order.specs.Limits.{benchLimits, yardLimits}
-use Rattle.sheet_line_order.specs.Reading.{sheetOf}
+use Rattle.sheet_line_order.specs.Limits.{bench_limits, yard_limits}
+use Rattle.sheet_line_order.specs.Reading.{sheet_of}
 use Rattle.sheet_line_order.specs.Samples.{face, sheet, vertex}
 use Rattle.sheet_line_order.specs.Evaluation.{evaluation}
 
 -- the refusal of a text, 0 for a sheet
 refusal : List ℕ → ℕ
-refusal t = (sheetOf benchLimits t).refusal
+refusal t = (sheet_of bench_limits t).refusal
 
 -- the refusal of those lines after box, sag and default
 reading : List (List ℕ) → ℕ
@@ -18,7 +18,7 @@ reading ls = refusal (sheet ls)
 
 -- the same refusal by the yard program
 yard : List (List ℕ) → ℕ
-yard ls = (sheetOf yardLimits (sheet ls)).refusal
+yard ls = (sheet_of yard_limits (sheet ls)).refusal
 
 -- a triangle
 triangle : List ℕ
@@ -44,11 +44,11 @@ claims =
     ∷ case 7 (reading (bytes "(fail 0 64 0)" ∷ []) ∷ reading (bytes "(face 0 64)" ∷ bytes "(face" ∷ []) ∷ reading (bytes "(face" ∷ bytes "(face 0 64)" ∷ [])
     ∷ reading (face ∷ triangle ∷ bytes "(material 64 1)" ∷ []) ∷ []) (51 ∷ 52 ∷ 51 ∷ 51 ∷ [])
     ∷ case 8 (reading (times 16 face) ∷ reading (times 17 face) ∷ reading (face ∷ times 32 triangle) ∷ reading (face ∷ times 33 triangle) ∷ []) (0 ∷ 52 ∷ 0 ∷ 52 ∷ [])
-    ∷ case 9 ((sheetOf benchLimits (sheet (bytes "(material 1 5)" ∷ bytes "(material 2 0)" ∷ bytes "(material 1 6)" ∷ []))).sheet.default
-    ∷ take 4 (sheetOf benchLimits (sheet (bytes "(material 1 5)" ∷ bytes "(material 2 0)" ∷ bytes "(material 1 6)" ∷ []))).sheet.materials) (3 ∷ 0 ∷ 7 ∷ 1 ∷ 0 ∷ [])
-    ∷ case 10 (sheetOf benchLimits (sheet (face ∷ vertex ∷ vertex ∷ triangle ∷ bytes "(fail 8 9 3)" ∷ []))).sheet.table (0 ∷ 63 ∷ 0 ∷ 2 ∷ 3 ∷ 0 ∷ 8 ∷ 9 ∷ 3 ∷ 0 ∷ 0 ∷ 0 ∷ [])
+    ∷ case 9 ((sheet_of bench_limits (sheet (bytes "(material 1 5)" ∷ bytes "(material 2 0)" ∷ bytes "(material 1 6)" ∷ []))).sheet.default
+    ∷ take 4 (sheet_of bench_limits (sheet (bytes "(material 1 5)" ∷ bytes "(material 2 0)" ∷ bytes "(material 1 6)" ∷ []))).sheet.materials) (3 ∷ 0 ∷ 7 ∷ 1 ∷ 0 ∷ [])
+    ∷ case 10 (sheet_of bench_limits (sheet (face ∷ vertex ∷ vertex ∷ triangle ∷ bytes "(fail 8 9 3)" ∷ []))).sheet.table (0 ∷ 63 ∷ 0 ∷ 2 ∷ 3 ∷ 0 ∷ 8 ∷ 9 ∷ 3 ∷ 0 ∷ 0 ∷ 0 ∷ [])
     ∷ case 11 (yard (bytes "(face 0 4095)" ∷ []) ∷ yard (bytes "(face 0 4096)" ∷ []) ∷ yard (times 256 (bytes "(fail 0 64 1)")) ∷ yard (times 257 (bytes "(fail 0 64 1)")) ∷ []) (0 ∷ 52 ∷ 0 ∷ 52 ∷ [])
-    ∷ case 12 (sheetOf benchLimits (sheet (bytes "(face 0 7 65535)" ∷ vertex ∷ triangle ∷ bytes "(fail 8 9 3 6)" ∷ bytes "(face 0 0 0)" ∷ []))).sheet.table
+    ∷ case 12 (sheet_of bench_limits (sheet (bytes "(face 0 7 65535)" ∷ vertex ∷ triangle ∷ bytes "(fail 8 9 3 6)" ∷ bytes "(face 0 0 0)" ∷ []))).sheet.table
     (0 ∷ 7 ∷ 0 ∷ 1 ∷ 3 ∷ 65535 ∷ 8 ∷ 9 ∷ 3 ∷ 0 ∷ 0 ∷ 6 ∷ 0 ∷ 0 ∷ 0 ∷ 0 ∷ 0 ∷ 0 ∷ [])
     ∷ case 13 (reading (bytes "(face 0 7 65536)" ∷ []) ∷ reading (bytes "(face 0 7 4294967295)" ∷ []) ∷ reading (bytes "(face 0 7 4294967296)" ∷ [])
     ∷ reading (bytes "(fail 0 7 256 65536)" ∷ []) ∷ reading (bytes "(fail 0 7 3 4294967296)" ∷ []) ∷ []) (0 ∷ 0 ∷ 51 ∷ 0 ∷ 51 ∷ [])
@@ -59,6 +59,6 @@ claims =
     ∷ []
 
 -- The definitions yield each.
-pub claims-hold : T (all agrees claims)
+pub claims_hold : T (all agrees claims)
 unfolding evaluation sheet refusal reading yard face vertex triangle times claims
-claims-hold = tt
+claims_hold = tt

@@ -1,7 +1,7 @@
 -- Reading the sheet: its lines, their order, what each means, and the refusals 51 and 52. Assumes nothing.
 use Rattle.std.specs.Prelude.{Bool, true, false, not, ◌&&◌, ◌||◌, cond, List, [], ◌∷◌, ◌++◌, ℕ, ◌+◌, ◌-◌, ◌*◌, length, get_or, take, drop, set, replicate, leb, ltb, eqb}
 use Rattle.std.proofs.Math.Option.{none, some}
-use Rattle.body_rows.specs.Body.{rowWidth, verticesBack, indicesBack, check, firstFailing}
+use Rattle.body_rows.specs.Body.{row_width, vertices_back, indices_back, check, first_failing}
 use Rattle.sheet_lines.specs.Forms.{Line, line_of}
 use Rattle.sheet_lines.specs.declared.Kind.{Kind}
 use Rattle.sheet_lines.specs.declared.Kind.TheVariants.{Box, Sag, NoDefault, Default, Material, Face, FaceBin, Vertex, Triangle, Fail, FailBin}
@@ -46,8 +46,8 @@ order_of Fail = order 3 6 6
 order_of FailBin = order 3 6 6
 
 -- whether a kind may stand at a place
-abbrev pub inOrder : ℕ → Kind → Bool
-inOrder place k = leb (order_of k).first place && leb place (order_of k).last
+abbrev pub in_order : ℕ → Kind → Bool
+in_order place k = leb (order_of k).first place && leb place (order_of k).last
 
 -- ---- what a line means
 
@@ -70,53 +70,53 @@ with_row shell face outcome bin x =
     patterns x.box x.sag x.default x.materials (x.table ++ shell ∷ face ∷ outcome ∷ 0 ∷ 0 ∷ bin ∷ []) x.positions x.normals x.indices
 
 -- What each line means; a later material line replaces, and without its number the bin is 0.
-unfoldable pub withLine : Kind → List ℕ → Patterns → Patterns
-withLine Box ns x = patterns ns x.sag x.default x.materials x.table x.positions x.normals x.indices
-withLine Sag ns x = patterns x.box (at ns 0) x.default x.materials x.table x.positions x.normals x.indices
-withLine NoDefault ns x = patterns x.box x.sag 0 x.materials x.table x.positions x.normals x.indices
-withLine Default ns x = patterns x.box x.sag (at ns 0 + 1) x.materials x.table x.positions x.normals x.indices
-withLine Material ns x =
+unfoldable pub with_line : Kind → List ℕ → Patterns → Patterns
+with_line Box ns x = patterns ns x.sag x.default x.materials x.table x.positions x.normals x.indices
+with_line Sag ns x = patterns x.box (at ns 0) x.default x.materials x.table x.positions x.normals x.indices
+with_line NoDefault ns x = patterns x.box x.sag 0 x.materials x.table x.positions x.normals x.indices
+with_line Default ns x = patterns x.box x.sag (at ns 0 + 1) x.materials x.table x.positions x.normals x.indices
+with_line Material ns x =
     patterns x.box x.sag x.default (set x.materials (at ns 0) (at ns 1 + 1)) x.table x.positions x.normals x.indices
-withLine Face ns x = with_row (at ns 0) (at ns 1) 0 0 x
-withLine FaceBin ns x = with_row (at ns 0) (at ns 1) 0 (at ns 2) x
-withLine Vertex ns x =
-    patterns x.box x.sag x.default x.materials (raised verticesBack 1 x.table) (x.positions ++ take 3 ns) (x.normals ++ drop 3 ns) x.indices
-withLine Triangle ns x =
-    patterns x.box x.sag x.default x.materials (raised indicesBack 3 x.table) x.positions x.normals (x.indices ++ ns)
-withLine Fail ns x = with_row (at ns 0) (at ns 1) (at ns 2) 0 x
-withLine FailBin ns x = with_row (at ns 0) (at ns 1) (at ns 2) (at ns 3) x
+with_line Face ns x = with_row (at ns 0) (at ns 1) 0 0 x
+with_line FaceBin ns x = with_row (at ns 0) (at ns 1) 0 (at ns 2) x
+with_line Vertex ns x =
+    patterns x.box x.sag x.default x.materials (raised vertices_back 1 x.table) (x.positions ++ take 3 ns) (x.normals ++ drop 3 ns) x.indices
+with_line Triangle ns x =
+    patterns x.box x.sag x.default x.materials (raised indices_back 3 x.table) x.positions x.normals (x.indices ++ ns)
+with_line Fail ns x = with_row (at ns 0) (at ns 1) (at ns 2) 0 x
+with_line FailBin ns x = with_row (at ns 0) (at ns 1) (at ns 2) (at ns 3) x
 
 -- a row more, of that face number, passes a limit
-abbrev pub rowPasses : Limits → ℕ → Patterns → Bool
-rowPasses limits face x = ltb limits.face face || leb (rowWidth * limits.rows) (length x.table)
+abbrev pub row_passes : Limits → ℕ → Patterns → Bool
+row_passes limits face x = ltb limits.face face || leb (row_width * limits.rows) (length x.table)
 
 -- 52: it passes a program limit: a face number above its limit, or a row, a vertex or three indices more than the limit
-unfoldable pub passesLimit : Limits → Kind → List ℕ → Patterns → Bool
-passesLimit limits Box ns x = false
-passesLimit limits Sag ns x = false
-passesLimit limits NoDefault ns x = false
-passesLimit limits Default ns x = false
-passesLimit limits Material ns x = ltb limits.face (at ns 0)
-passesLimit limits Face ns x = rowPasses limits (at ns 1) x
-passesLimit limits FaceBin ns x = rowPasses limits (at ns 1) x
-passesLimit limits Vertex ns x = leb (3 * limits.vertices) (length x.positions)
-passesLimit limits Triangle ns x = ltb limits.indices (length x.indices + 3)
-passesLimit limits Fail ns x = rowPasses limits (at ns 1) x
-passesLimit limits FailBin ns x = rowPasses limits (at ns 1) x
+unfoldable pub passes_limit : Limits → Kind → List ℕ → Patterns → Bool
+passes_limit limits Box ns x = false
+passes_limit limits Sag ns x = false
+passes_limit limits NoDefault ns x = false
+passes_limit limits Default ns x = false
+passes_limit limits Material ns x = ltb limits.face (at ns 0)
+passes_limit limits Face ns x = row_passes limits (at ns 1) x
+passes_limit limits FaceBin ns x = row_passes limits (at ns 1) x
+passes_limit limits Vertex ns x = leb (3 * limits.vertices) (length x.positions)
+passes_limit limits Triangle ns x = ltb limits.indices (length x.indices + 3)
+passes_limit limits Fail ns x = row_passes limits (at ns 1) x
+passes_limit limits FailBin ns x = row_passes limits (at ns 1) x
 
 -- a fail line with number 0
-unfoldable pub failsWithZero : Kind → List ℕ → Bool
-failsWithZero Box ns = false
-failsWithZero Sag ns = false
-failsWithZero NoDefault ns = false
-failsWithZero Default ns = false
-failsWithZero Material ns = false
-failsWithZero Face ns = false
-failsWithZero FaceBin ns = false
-failsWithZero Vertex ns = false
-failsWithZero Triangle ns = false
-failsWithZero Fail ns = eqb (at ns 2) 0
-failsWithZero FailBin ns = eqb (at ns 2) 0
+unfoldable pub fails_with_zero : Kind → List ℕ → Bool
+fails_with_zero Box ns = false
+fails_with_zero Sag ns = false
+fails_with_zero NoDefault ns = false
+fails_with_zero Default ns = false
+fails_with_zero Material ns = false
+fails_with_zero Face ns = false
+fails_with_zero FaceBin ns = false
+fails_with_zero Vertex ns = false
+fails_with_zero Triangle ns = false
+fails_with_zero Fail ns = eqb (at ns 2) 0
+fails_with_zero FailBin ns = eqb (at ns 2) 0
 
 -- ---- line by line
 
@@ -136,25 +136,25 @@ unfoldable pub refuse : ℕ → State → State
 refuse n s = record { limits = s.limits; refusal = n; place = s.place; sheet = s.sheet }
 
 -- 51: a line is out of order, or fails with number 0. 51 before 52 on one line.
-unfoldable pub lineRefusal : Line → State → ℕ
-lineRefusal l s =
-    firstFailing (
-    check 51 (not (inOrder s.place l.kind) || failsWithZero l.kind l.numbers)
-    ∷ check 52 (passesLimit s.limits l.kind l.numbers s.sheet)
+unfoldable pub line_refusal : Line → State → ℕ
+line_refusal l s =
+    first_failing (
+    check 51 (not (in_order s.place l.kind) || fails_with_zero l.kind l.numbers)
+    ∷ check 52 (passes_limit s.limits l.kind l.numbers s.sheet)
     ∷ [])
 
 -- a line that is taken up
-unfoldable pub takeUp : State → Line → State
-takeUp s l = record { limits = s.limits; refusal = 0; place = (order_of l.kind).then; sheet = withLine l.kind l.numbers s.sheet }
+unfoldable pub take_up : State → Line → State
+take_up s l = record { limits = s.limits; refusal = 0; place = (order_of l.kind).then; sheet = with_line l.kind l.numbers s.sheet }
 
 -- a line that is some form: refused, or taken up
-unfoldable pub withForm : State → Line → State
-withForm s l = let n = lineRefusal l s in elim (eqb n 0) [ true ↦ takeUp s l | false ↦ refuse n s ]
+unfoldable pub with_form : State → Line → State
+with_form s l = let n = line_refusal l s in elim (eqb n 0) [ true ↦ take_up s l | false ↦ refuse n s ]
 
 -- A line, its LF left off: 51 if it is no such form. The earlier line decides.
-unfoldable pub readLine : State → List ℕ → State
-readLine s xs = elim (eqb s.refusal 0) [
-  | true ↦ elim (line_of xs) [ none ↦ refuse 51 s | some l ↦ withForm s l ]
+unfoldable pub read_line : State → List ℕ → State
+read_line s xs = elim (eqb s.refusal 0) [
+  | true ↦ elim (line_of xs) [ none ↦ refuse 51 s | some l ↦ with_form s l ]
   | false ↦ s
 ]
 
@@ -165,21 +165,21 @@ finished s rest = cond (eqb s.refusal 0 && not (eqb (length rest) 0 && leb 3 s.p
 -- ---- the text
 
 -- a byte that isn't LF, in front of what was cut
-unfoldable pub intoFirst : ℕ → List (List ℕ) → List (List ℕ)
-intoFirst c [] = (c ∷ []) ∷ []
-intoFirst c (l ∷ ls) = (c ∷ l) ∷ ls
+unfoldable pub into_first : ℕ → List (List ℕ) → List (List ℕ)
+into_first c [] = (c ∷ []) ∷ []
+into_first c (l ∷ ls) = (c ∷ l) ∷ ls
 
 -- the text cut at each LF: every piece but the last is a line, the last is what stands after the last LF
 unfoldable pub cut : List ℕ → List (List ℕ)
 cut [] = [] ∷ []
-cut (c ∷ cs) = elim (eqb c 10) [ true ↦ [] ∷ cut cs | false ↦ intoFirst c (cut cs) ]
+cut (c ∷ cs) = elim (eqb c 10) [ true ↦ [] ∷ cut cs | false ↦ into_first c (cut cs) ]
 
 -- line by line, then the end
-unfoldable pub readFrom : State → List (List ℕ) → State
-readFrom s [] = s
-readFrom s (rest ∷ []) = finished s rest
-readFrom s (l ∷ m ∷ ls) = readFrom (readLine s l) (m ∷ ls)
+unfoldable pub read_from : State → List (List ℕ) → State
+read_from s [] = s
+read_from s (rest ∷ []) = finished s rest
+read_from s (l ∷ m ∷ ls) = read_from (read_line s l) (m ∷ ls)
 
 -- what a text says to a program of such limits: the refusal's number or 0, and the sheet
-unfoldable pub sheetOf : Limits → List ℕ → State
-sheetOf limits text = readFrom (start limits) (cut text)
+unfoldable pub sheet_of : Limits → List ℕ → State
+sheet_of limits text = read_from (start limits) (cut text)

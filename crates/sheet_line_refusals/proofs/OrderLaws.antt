@@ -9,36 +9,36 @@ use borrow.Author.Tests.{le-leb, lt-leb, le-ltb, lt-ltb, leb-true, leb-false, lt
 use lib.Dec.{leb, ltb, eqb}
 use lib.ListN.{get_or, length, take}
 use lib.Seq.{get_or-take}
-use Rattle.body_rows.specs.Body.{rowWidth, firstFailing}
-use Rattle.sheet_lines.specs.Counted.{countIn}
+use Rattle.body_rows.specs.Body.{row_width, first_failing}
+use Rattle.sheet_lines.specs.Counted.{count_in}
 use Rattle.sheet_lines.specs.Forms.{form, numbers}
 use Rattle.sheet_lines.specs.declared.Kind.{Kind}
 use Rattle.sheet_lines.specs.declared.Kind.TheVariants.{Material, Vertex, Triangle, Fail, FailBin}
 use Rattle.sheet_line_order.specs.declared.Limits.{Limits}
-use Rattle.sheet_line_order.specs.Reading.{Patterns, State, failsWithZero, inOrder, lineRefusal, order_of, passesLimit}
+use Rattle.sheet_line_order.specs.Reading.{Patterns, State, fails_with_zero, in_order, line_refusal, order_of, passes_limit}
 use Rattle.sheet_line_order.specs.Refusals.{Limit, Refusal}
 
 -- ---- order
-pub order-before : (place : ℕ) (k : Kind) (f : ℕ) → f ≡ (order_of k).first → place < f → false ≡ inOrder place k
-order-before place k f e h = rw (lt-leb (order_of k).first place (subst (λ (n : ℕ). place < n) e h))
+pub order_before : (place : ℕ) (k : Kind) (f : ℕ) → f ≡ (order_of k).first → place < f → false ≡ in_order place k
+order_before place k f e h = rw (lt-leb (order_of k).first place (subst (λ (n : ℕ). place < n) e h))
 
-pub order-within : (place : ℕ) (k : Kind) (f l : ℕ) → f ≡ (order_of k).first → f ≤ place → l ≡ (order_of k).last → leb place l ≡ inOrder place k
-order-within place k f l e h q = ap (leb place) q ∙ rw (le-leb (order_of k).first place (subst (λ (n : ℕ). n ≤ place) e h))
+pub order_within : (place : ℕ) (k : Kind) (f l : ℕ) → f ≡ (order_of k).first → f ≤ place → l ≡ (order_of k).last → leb place l ≡ in_order place k
+order_within place k f l e h q = ap (leb place) q ∙ rw (le-leb (order_of k).first place (subst (λ (n : ℕ). n ≤ place) e h))
 
 -- ---- a fail line with number 0
 
 -- What holds of a kind holds of the kind that equals it.
-pub fails-as : (j : Kind) (N : List ℕ) (b : Bool) (k : Kind) → k ≡ j → b ≡ failsWithZero j (take (countIn (form j)) N) → b ≡ failsWithZero k (take (countIn (form k)) N)
-fails-as j N b k e q = subst (λ (i : Kind). b ≡ failsWithZero i (take (countIn (form i)) N)) (sym e) q
+pub fails_as : (j : Kind) (N : List ℕ) (b : Bool) (k : Kind) → k ≡ j → b ≡ fails_with_zero j (take (count_in (form j)) N) → b ≡ fails_with_zero k (take (count_in (form k)) N)
+fails_as j N b k e q = subst (λ (i : Kind). b ≡ fails_with_zero i (take (count_in (form i)) N)) (sym e) q
 
-pub fails-fail : (N : List ℕ) → eqb (get_or N 2 0) 0 ≡ failsWithZero Fail (take (countIn (form Fail)) N)
-unfolding failsWithZero form numbers countIn
-fails-fail N = ap (λ (n : ℕ). eqb n 0) (sym (get_or-take 3 N 2 0 (omega arith)))
+pub fails_fail : (N : List ℕ) → eqb (get_or N 2 0) 0 ≡ fails_with_zero Fail (take (count_in (form Fail)) N)
+unfolding fails_with_zero form numbers count_in
+fails_fail N = ap (λ (n : ℕ). eqb n 0) (sym (get_or-take 3 N 2 0 (omega arith)))
 
 -- the same with a bin
-pub fails-bin : (N : List ℕ) → eqb (get_or N 2 0) 0 ≡ failsWithZero FailBin (take (countIn (form FailBin)) N)
-unfolding failsWithZero form numbers countIn
-fails-bin N = ap (λ (n : ℕ). eqb n 0) (sym (get_or-take 4 N 2 0 (omega arith)))
+pub fails_bin : (N : List ℕ) → eqb (get_or N 2 0) 0 ≡ fails_with_zero FailBin (take (count_in (form FailBin)) N)
+unfolding fails_with_zero form numbers count_in
+fails_bin N = ap (λ (n : ℕ). eqb n 0) (sym (get_or-take 4 N 2 0 (omega arith)))
 
 -- ---- limits
 
@@ -50,95 +50,95 @@ times c m n p = go (leb m n) refl
     go true q = sym (le-leb (c * m) (c * n) (mul-le-mul_left c (leb-true m n q)))
     go false q = sym (lt-leb (c * m) (c * n) (mul-lt-mul_of_pos_left (leb-false m n q) p))
 
-pub row-face : (limits : Limits) (rows face : ℕ) → limits.face < face → true ≡ ltb limits.face face || leb limits.rows rows
-row-face limits rows face h = rw (lt-ltb limits.face face h)
+pub row_face : (limits : Limits) (rows face : ℕ) → limits.face < face → true ≡ ltb limits.face face || leb limits.rows rows
+row_face limits rows face h = rw (lt-ltb limits.face face h)
 
-pub row-rows : (limits : Limits) (rows face : ℕ) → face ≤ limits.face → leb limits.rows rows ≡ ltb limits.face face || leb limits.rows rows
-row-rows limits rows face h = rw (le-ltb limits.face face h)
+pub row_rows : (limits : Limits) (rows face : ℕ) → face ≤ limits.face → leb limits.rows rows ≡ ltb limits.face face || leb limits.rows rows
+row_rows limits rows face h = rw (le-ltb limits.face face h)
 
-pub three-past : (limit indices : ℕ) → limit < 3 → true ≡ ltb limit (indices + 3)
-three-past limit indices h = sym (lt-ltb limit (indices + 3) (omega arith))
+pub three_past : (limit indices : ℕ) → limit < 3 → true ≡ ltb limit (indices + 3)
+three_past limit indices h = sym (lt-ltb limit (indices + 3) (omega arith))
 
-pub three-more : (limit indices : ℕ) → 3 ≤ limit → ltb (limit - 3) indices ≡ ltb limit (indices + 3)
-three-more limit indices h = go (ltb (limit - 3) indices) refl
+pub three_more : (limit indices : ℕ) → 3 ≤ limit → ltb (limit - 3) indices ≡ ltb limit (indices + 3)
+three_more limit indices h = go (ltb (limit - 3) indices) refl
   where
     go : (b : Bool) → ltb (limit - 3) indices ≡ b → b ≡ ltb limit (indices + 3)
     go true q = sym (lt-ltb limit (indices + 3) (omega (arith, ltb-true (limit - 3) indices q)))
     go false q = sym (le-ltb limit (indices + 3) (omega (arith, ltb-false (limit - 3) indices q)))
 
 module _ (limits : Limits) (rows vertices indices : ℕ) (k : Kind) (N : List ℕ) where
-  limit-as : (j : Kind) (b : Bool) → k ≡ j → Limit limits rows vertices indices j (take (countIn (form j)) N) b → Limit limits rows vertices indices k (take (countIn (form k)) N) b
-  limit-as j b e v = subst (λ (i : Kind). Limit limits rows vertices indices i (take (countIn (form i)) N) b) (sym e) v
+  limit_as : (j : Kind) (b : Bool) → k ≡ j → Limit limits rows vertices indices j (take (count_in (form j)) N) b → Limit limits rows vertices indices k (take (count_in (form k)) N) b
+  limit_as j b e v = subst (λ (i : Kind). Limit limits rows vertices indices i (take (count_in (form i)) N) b) (sym e) v
 
   -- a kind that has no limit
-  pub limit-none : (j : Kind) → ((ns : List ℕ) (x : Patterns) → false ≡ passesLimit limits j ns x) → k ≡ j → Limit limits rows vertices indices k (take (countIn (form k)) N) false
-  limit-none j n e = limit-as j false e (record { is = λ x c. n (take (countIn (form j)) N) x })
+  pub limit_none : (j : Kind) → ((ns : List ℕ) (x : Patterns) → false ≡ passes_limit limits j ns x) → k ≡ j → Limit limits rows vertices indices k (take (count_in (form k)) N) false
+  limit_none j n e = limit_as j false e (record { is = λ x c. n (take (count_in (form j)) N) x })
 
-  pub limit-material : k ≡ Material → Limit limits rows vertices indices k (take (countIn (form k)) N) (ltb limits.face (get_or N 0 0))
-  unfolding passesLimit form numbers countIn
-  limit-material e = limit-as Material (ltb limits.face (get_or N 0 0)) e (record { is = λ x c. ap (ltb limits.face) (sym (get_or-take 2 N 0 0 (omega arith))) })
+  pub limit_material : k ≡ Material → Limit limits rows vertices indices k (take (count_in (form k)) N) (ltb limits.face (get_or N 0 0))
+  unfolding passes_limit form numbers count_in
+  limit_material e = limit_as Material (ltb limits.face (get_or N 0 0)) e (record { is = λ x c. ap (ltb limits.face) (sym (get_or-take 2 N 0 0 (omega arith))) })
 
   -- a kind that opens a row
-  pub limit-row : (j : Kind) → 1 < countIn (form j) → ((ns : List ℕ) (x : Patterns) → passesLimit limits j ns x ≡ ltb limits.face (get_or ns 1 0) || leb (rowWidth * limits.rows) (length x.table))
-      → (b : Bool) → k ≡ j → b ≡ ltb limits.face (get_or N 1 0) || leb limits.rows rows → Limit limits rows vertices indices k (take (countIn (form k)) N) b
-  limit-row j l is b e q =
-      let ns : List ℕ = take (countIn (form j)) N in
-      limit-as j b e
+  pub limit_row : (j : Kind) → 1 < count_in (form j) → ((ns : List ℕ) (x : Patterns) → passes_limit limits j ns x ≡ ltb limits.face (get_or ns 1 0) || leb (row_width * limits.rows) (length x.table))
+      → (b : Bool) → k ≡ j → b ≡ ltb limits.face (get_or N 1 0) || leb limits.rows rows → Limit limits rows vertices indices k (take (count_in (form k)) N) b
+  limit_row j l is b e q =
+      let ns : List ℕ = take (count_in (form j)) N in
+      limit_as j b e
       (record {
         is = λ x c.
-            q ∙ ap (λ (n : ℕ). ltb limits.face n || leb limits.rows rows) (sym (get_or-take (countIn (form j)) N 1 0 l))
-            ∙ ap (λ (t : Bool). ltb limits.face (get_or ns 1 0) || t) (times rowWidth limits.rows rows (omega arith) ∙ ap (leb (rowWidth * limits.rows)) (sym c.table))
+            q ∙ ap (λ (n : ℕ). ltb limits.face n || leb limits.rows rows) (sym (get_or-take (count_in (form j)) N 1 0 l))
+            ∙ ap (λ (t : Bool). ltb limits.face (get_or ns 1 0) || t) (times row_width limits.rows rows (omega arith) ∙ ap (leb (row_width * limits.rows)) (sym c.table))
             ∙ sym (is ns x);
       })
 
-  pub limit-vertex : k ≡ Vertex → Limit limits rows vertices indices k (take (countIn (form k)) N) (leb limits.vertices vertices)
-  unfolding passesLimit
-  limit-vertex e = limit-as Vertex (leb limits.vertices vertices) e (record { is = λ x c. times 3 limits.vertices vertices (omega arith) ∙ ap (leb (3 * limits.vertices)) (sym c.positions) })
+  pub limit_vertex : k ≡ Vertex → Limit limits rows vertices indices k (take (count_in (form k)) N) (leb limits.vertices vertices)
+  unfolding passes_limit
+  limit_vertex e = limit_as Vertex (leb limits.vertices vertices) e (record { is = λ x c. times 3 limits.vertices vertices (omega arith) ∙ ap (leb (3 * limits.vertices)) (sym c.positions) })
 
-  pub limit-triangle : (b : Bool) → k ≡ Triangle → b ≡ ltb limits.indices (indices + 3) → Limit limits rows vertices indices k (take (countIn (form k)) N) b
-  unfolding passesLimit
-  limit-triangle b e q = limit-as Triangle b e (record { is = λ x c. q ∙ ap (λ (n : ℕ). ltb limits.indices (n + 3)) (sym c.indices) })
+  pub limit_triangle : (b : Bool) → k ≡ Triangle → b ≡ ltb limits.indices (indices + 3) → Limit limits rows vertices indices k (take (count_in (form k)) N) b
+  unfolding passes_limit
+  limit_triangle b e q = limit_as Triangle b e (record { is = λ x c. q ∙ ap (λ (n : ℕ). ltb limits.indices (n + 3)) (sym c.indices) })
 
 -- ---- the refusal
 
 -- the refusal by its three tests
-of-tests : Bool → Bool → Bool → ℕ
-of-tests order zero limit = cond (not order || zero) 51 (cond limit 52 0)
+of_tests : Bool → Bool → Bool → ℕ
+of_tests order zero limit = cond (not order || zero) 51 (cond limit 52 0)
 
-refusal_is : (s : State) (k : Kind) (ns : List ℕ) (a b c : Bool) → a ≡ inOrder s.place k → b ≡ failsWithZero k ns → c ≡ passesLimit s.limits k ns s.sheet
-    → lineRefusal (record { kind = k; numbers = ns }) s ≡ of-tests a b c
-unfolding lineRefusal firstFailing of-tests
+refusal_is : (s : State) (k : Kind) (ns : List ℕ) (a b c : Bool) → a ≡ in_order s.place k → b ≡ fails_with_zero k ns → c ≡ passes_limit s.limits k ns s.sheet
+    → line_refusal (record { kind = k; numbers = ns }) s ≡ of_tests a b c
+unfolding line_refusal first_failing of_tests
 refusal_is s k ns a b c p q r =
-    ap (λ (x : Bool). of-tests x (failsWithZero k ns) (passesLimit s.limits k ns s.sheet)) (sym p)
-    ∙ ap (λ (x : Bool). of-tests a x (passesLimit s.limits k ns s.sheet)) (sym q)
-    ∙ ap (λ (x : Bool). of-tests a b x) (sym r)
+    ap (λ (x : Bool). of_tests x (fails_with_zero k ns) (passes_limit s.limits k ns s.sheet)) (sym p)
+    ∙ ap (λ (x : Bool). of_tests a x (passes_limit s.limits k ns s.sheet)) (sym q)
+    ∙ ap (λ (x : Bool). of_tests a b x) (sym r)
 
-module _ (limits : Limits) (place rows vertices indices : ℕ) (k : Kind) (ns : List ℕ) (a : Bool) (p : a ≡ inOrder place k) where
-  pub refused-order : not a ≡ true → Refusal limits place rows vertices indices k ns 51
-  unfolding of-tests
-  refused-order e =
+module _ (limits : Limits) (place rows vertices indices : ℕ) (k : Kind) (ns : List ℕ) (a : Bool) (p : a ≡ in_order place k) where
+  pub refused_order : not a ≡ true → Refusal limits place rows vertices indices k ns 51
+  unfolding of_tests
+  refused_order e =
       record {
         is = λ n x c.
             let y : State = record { limits = limits; refusal = n; place = place; sheet = x } in
-            sym (refusal_is y k ns a (failsWithZero k ns) (passesLimit limits k ns x) p refl refl ∙ ap (λ (b : Bool). of-tests b (failsWithZero k ns) (passesLimit limits k ns x)) (not-true a e));
+            sym (refusal_is y k ns a (fails_with_zero k ns) (passes_limit limits k ns x) p refl refl ∙ ap (λ (b : Bool). of_tests b (fails_with_zero k ns) (passes_limit limits k ns x)) (not-true a e));
       }
 
-  module _ (o : not a ≡ false) (b : Bool) (q : b ≡ failsWithZero k ns) where
-    tests : (n : ℕ) (x : Patterns) (c : Bool) → c ≡ passesLimit limits k ns x
-        → lineRefusal (record { kind = k; numbers = ns }) (record { limits = limits; refusal = n; place = place; sheet = x }) ≡ of-tests true b c
+  module _ (o : not a ≡ false) (b : Bool) (q : b ≡ fails_with_zero k ns) where
+    tests : (n : ℕ) (x : Patterns) (c : Bool) → c ≡ passes_limit limits k ns x
+        → line_refusal (record { kind = k; numbers = ns }) (record { limits = limits; refusal = n; place = place; sheet = x }) ≡ of_tests true b c
     tests n x c r =
         let y : State = record { limits = limits; refusal = n; place = place; sheet = x } in
-        refusal_is y k ns a b c p q r ∙ ap (λ (z : Bool). of-tests z b c) (not-false a o)
+        refusal_is y k ns a b c p q r ∙ ap (λ (z : Bool). of_tests z b c) (not-false a o)
 
-    pub refused-zero : b ≡ true → Refusal limits place rows vertices indices k ns 51
-    unfolding of-tests
-    refused-zero e = record { is = λ n x c. sym (tests n x (passesLimit limits k ns x) refl ∙ ap (λ (z : Bool). of-tests true z (passesLimit limits k ns x)) e) }
+    pub refused_zero : b ≡ true → Refusal limits place rows vertices indices k ns 51
+    unfolding of_tests
+    refused_zero e = record { is = λ n x c. sym (tests n x (passes_limit limits k ns x) refl ∙ ap (λ (z : Bool). of_tests true z (passes_limit limits k ns x)) e) }
 
     module _ (z : b ≡ false) (c : Bool) (v : Limit limits rows vertices indices k ns c) where
-      pub refused-limit : c ≡ true → Refusal limits place rows vertices indices k ns 52
-      unfolding of-tests
-      refused-limit e = record { is = λ n x h. sym (tests n x c (v.is x h) ∙ ap (λ (y : Bool). of-tests true y c) z ∙ ap (λ (y : Bool). of-tests true false y) e) }
+      pub refused_limit : c ≡ true → Refusal limits place rows vertices indices k ns 52
+      unfolding of_tests
+      refused_limit e = record { is = λ n x h. sym (tests n x c (v.is x h) ∙ ap (λ (y : Bool). of_tests true y c) z ∙ ap (λ (y : Bool). of_tests true false y) e) }
 
-      pub not-refused : c ≡ false → Refusal limits place rows vertices indices k ns 0
-      unfolding of-tests
-      not-refused e = record { is = λ n x h. sym (tests n x c (v.is x h) ∙ ap (λ (y : Bool). of-tests true y c) z ∙ ap (λ (y : Bool). of-tests true false y) e) }
+      pub not_refused : c ≡ false → Refusal limits place rows vertices indices k ns 0
+      unfolding of_tests
+      not_refused e = record { is = λ n x h. sym (tests n x c (v.is x h) ∙ ap (λ (y : Bool). of_tests true y c) z ∙ ap (λ (y : Bool). of_tests true false y) e) }

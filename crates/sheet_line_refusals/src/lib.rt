@@ -1,9 +1,9 @@
 // When a line of the sheet is refused: out of order, failing with 0, or past a limit.
 
 ghost use Rattle.std.specs.Prelude.{◌≡◌, ◌+◌, ◌<◌, ◌||◌, leb, ltb, length, take};
-ghost use Rattle.sheet_lines.specs.Counted.{countIn};
+ghost use Rattle.sheet_lines.specs.Counted.{count_in};
 ghost use Rattle.sheet_lines.specs.Forms.{form};
-ghost use Rattle.sheet_line_order.specs.Reading.{failsWithZero, inOrder, order_of};
+ghost use Rattle.sheet_line_order.specs.Reading.{fails_with_zero, in_order, order_of};
 ghost use Rattle.sheet_line_order.specs.Refusals.{Limit, Refusal};
 
 use sheet_line_order::Limits;
@@ -49,7 +49,7 @@ fn last_place(k: Kind) -> u32
 
 // Whether a kind may stand at a place.
 fn in_order(place: u32, k: Kind) -> bool
-    ensures { result ≡ inOrder place k }
+    ensures { result ≡ in_order place k }
 {
     if place < first_place(k) {
         return false;
@@ -60,7 +60,7 @@ fn in_order(place: u32, k: Kind) -> bool
 // Whether a line is a fail line with number 0.
 fn fails_with_zero(k: Kind, numbers: &[u64]) -> bool
     requires { 6 < length numbers.now }
-    ensures { result ≡ failsWithZero k (take (countIn (form k)) numbers.now) }
+    ensures { result ≡ fails_with_zero k (take (count_in (form k)) numbers.now) }
 {
     match k {
         Kind::Box => false,
@@ -107,7 +107,7 @@ fn passes_limit(
     numbers: &[u64],
 ) -> bool
     requires { 6 < length numbers.now }
-    ensures { Limit limits rows vertices indices k (take (countIn (form k)) numbers.now) result }
+    ensures { Limit limits rows vertices indices k (take (count_in (form k)) numbers.now) result }
 {
     match k {
         Kind::Box => false,
@@ -135,7 +135,7 @@ pub fn line_refusal(
     numbers: &[u64],
 ) -> u32
     requires { 6 < length numbers.now }
-    ensures { Refusal limits place rows vertices indices k (take (countIn (form k)) numbers.now) result }
+    ensures { Refusal limits place rows vertices indices k (take (count_in (form k)) numbers.now) result }
 {
     if !in_order(place, k) {
         return 51;

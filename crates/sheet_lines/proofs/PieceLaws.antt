@@ -12,94 +12,94 @@ use Rattle.sheet_digits.specs.Digits.{Found, found}
 use Rattle.sheet_digits.specs.Next.{next}
 use Rattle.sheet_digit_reading.specs.Given as goal
 use Rattle.sheet_digit_reading.specs.declared.Taken.{Taken}
-use Rattle.sheet_lines.specs.Forms.{Piece, Word, Bits, Number, Offset, afterWord, spaced}
-use Rattle.sheet_lines.specs.Pattern.{numbersOf, piece, readByte, readNumber, readPiece}
+use Rattle.sheet_lines.specs.Forms.{Piece, Word, Bits, Number, Offset, after_word, spaced}
+use Rattle.sheet_lines.specs.Pattern.{numbers_of, piece, read_byte, read_number, read_piece}
 use Rattle.sheet_lines.specs.Scan.{Numbers, PieceTaken}
 
 -- ---- what a byte stands for
-pub piece-number : (c : ℕ) → c ≡ 35 → piece c ≡ Number
+pub piece_number : (c : ℕ) → c ≡ 35 → piece c ≡ Number
 unfolding piece
-piece-number c e = rw (eq-eqb c 35 e)
+piece_number c e = rw (eq-eqb c 35 e)
 
-pub piece-long : (c : ℕ) → (c ≡ 35 → ⊥) → c ≡ 36 → piece c ≡ Bits 16
+pub piece_long : (c : ℕ) → (c ≡ 35 → ⊥) → c ≡ 36 → piece c ≡ Bits 16
 unfolding piece
-piece-long c m e = rw (ne_eqb c 35 m, eq-eqb c 36 e)
+piece_long c m e = rw (ne_eqb c 35 m, eq-eqb c 36 e)
 
-pub piece-short : (c : ℕ) → (c ≡ 35 → ⊥) → (c ≡ 36 → ⊥) → c ≡ 42 → piece c ≡ Bits 8
+pub piece_short : (c : ℕ) → (c ≡ 35 → ⊥) → (c ≡ 36 → ⊥) → c ≡ 42 → piece c ≡ Bits 8
 unfolding piece
-piece-short c m n e = rw (ne_eqb c 35 m, ne_eqb c 36 n, eq-eqb c 42 e)
+piece_short c m n e = rw (ne_eqb c 35 m, ne_eqb c 36 n, eq-eqb c 42 e)
 
-pub piece-offset : (c : ℕ) → (c ≡ 35 → ⊥) → (c ≡ 36 → ⊥) → (c ≡ 42 → ⊥) → c ≡ 37 → piece c ≡ Offset
+pub piece_offset : (c : ℕ) → (c ≡ 35 → ⊥) → (c ≡ 36 → ⊥) → (c ≡ 42 → ⊥) → c ≡ 37 → piece c ≡ Offset
 unfolding piece
-piece-offset c m n o e = rw (ne_eqb c 35 m, ne_eqb c 36 n, ne_eqb c 42 o, eq-eqb c 37 e)
+piece_offset c m n o e = rw (ne_eqb c 35 m, ne_eqb c 36 n, ne_eqb c 42 o, eq-eqb c 37 e)
 
 pub piece_byte : (c : ℕ) → (c ≡ 35 → ⊥) → (c ≡ 36 → ⊥) → (c ≡ 42 → ⊥) → (c ≡ 37 → ⊥) → piece c ≡ Word (c ∷ [])
 unfolding piece
 piece_byte c m n o q = rw (ne_eqb c 35 m, ne_eqb c 36 n, ne_eqb c 42 o, ne_eqb c 37 q)
 
-pub count-number : (c : ℕ) → c ≡ 35 → Numbers c 1
-unfolding numbersOf
-count-number c e = record { is = ap numbersOf (sym (piece-number c e)); few = omega arith }
+pub count_number : (c : ℕ) → c ≡ 35 → Numbers c 1
+unfolding numbers_of
+count_number c e = record { is = ap numbers_of (sym (piece_number c e)); few = omega arith }
 
 pub count_long : (c : ℕ) → (c ≡ 35 → ⊥) → c ≡ 36 → Numbers c 1
-unfolding numbersOf
-count_long c m e = record { is = ap numbersOf (sym (piece-long c m e)); few = omega arith }
+unfolding numbers_of
+count_long c m e = record { is = ap numbers_of (sym (piece_long c m e)); few = omega arith }
 
-pub count-short : (c : ℕ) → (c ≡ 35 → ⊥) → (c ≡ 36 → ⊥) → c ≡ 42 → Numbers c 1
-unfolding numbersOf
-count-short c m n e = record { is = ap numbersOf (sym (piece-short c m n e)); few = omega arith }
+pub count_short : (c : ℕ) → (c ≡ 35 → ⊥) → (c ≡ 36 → ⊥) → c ≡ 42 → Numbers c 1
+unfolding numbers_of
+count_short c m n e = record { is = ap numbers_of (sym (piece_short c m n e)); few = omega arith }
 
-pub count-offset : (c : ℕ) → (c ≡ 35 → ⊥) → (c ≡ 36 → ⊥) → (c ≡ 42 → ⊥) → c ≡ 37 → Numbers c 1
-unfolding numbersOf
-count-offset c m n o e = record { is = ap numbersOf (sym (piece-offset c m n o e)); few = omega arith }
+pub count_offset : (c : ℕ) → (c ≡ 35 → ⊥) → (c ≡ 36 → ⊥) → (c ≡ 42 → ⊥) → c ≡ 37 → Numbers c 1
+unfolding numbers_of
+count_offset c m n o e = record { is = ap numbers_of (sym (piece_offset c m n o e)); few = omega arith }
 
-pub count-byte : (c : ℕ) → (c ≡ 35 → ⊥) → (c ≡ 36 → ⊥) → (c ≡ 42 → ⊥) → (c ≡ 37 → ⊥) → Numbers c 0
-unfolding numbersOf
-count-byte c m n o q = record { is = ap numbersOf (sym (piece_byte c m n o q)); few = omega arith }
+pub count_byte : (c : ℕ) → (c ≡ 35 → ⊥) → (c ≡ 36 → ⊥) → (c ≡ 42 → ⊥) → (c ≡ 37 → ⊥) → Numbers c 0
+unfolding numbers_of
+count_byte c m n o q = record { is = ap numbers_of (sym (piece_byte c m n o q)); few = omega arith }
 
 -- ---- what is read
 
 -- nothing is there
-pub no-piece : (line : List ℕ) (o : Option Found) (r : Taken) (at : ℕ) → at ≤ length line → r ≡ record { ok = false; value = 0; next = at } → none ≡ o → PieceTaken line o r
-no-piece line o r at h e q = subst (λ (x : Taken). PieceTaken line o x) (sym e) (record { is = q; within = h })
+pub no_piece : (line : List ℕ) (o : Option Found) (r : Taken) (at : ℕ) → at ≤ length line → r ≡ record { ok = false; value = 0; next = at } → none ≡ o → PieceTaken line o r
+no_piece line o r at h e q = subst (λ (x : Taken). PieceTaken line o x) (sym e) (record { is = q; within = h })
 
 module _ (line : List ℕ) (at p : ℕ) where
-  pub byte-end : length line ≤ at → none ≡ readByte p (drop at line)
-  unfolding afterWord
-  byte-end h = ap (readByte p) (sym (drop_of_length-le line h))
+  pub byte_end : length line ≤ at → none ≡ read_byte p (drop at line)
+  unfolding after_word
+  byte_end h = ap (read_byte p) (sym (drop_of_length-le line h))
 
-  pub byte-other : at < length line → (get_or line at 0 ≡ p → ⊥) → none ≡ readByte p (drop at line)
-  unfolding afterWord
-  byte-other h n =
+  pub byte_other : at < length line → (get_or line at 0 ≡ p → ⊥) → none ≡ read_byte p (drop at line)
+  unfolding after_word
+  byte_other h n =
       let no : eqb p (get_or line at 0) ≡ false = ne_eqb p (get_or line at 0) (λ e. n (sym e)) in
-      let other : readByte p (get_or line at 0 ∷ drop (at + 1) line) ≡ none = rw (no, readByte, afterWord) in
-      sym other ∙ ap (readByte p) (sym (next line at 0 h))
+      let other : read_byte p (get_or line at 0 ∷ drop (at + 1) line) ≡ none = rw (no, read_byte, after_word) in
+      sym other ∙ ap (read_byte p) (sym (next line at 0 h))
 
-  pub byte-there : at < length line → get_or line at 0 ≡ p → PieceTaken line (readByte p (drop at line)) (record { ok = true; value = 0; next = at + 1 })
-  unfolding afterWord
-  byte-there h e =
+  pub byte_there : at < length line → get_or line at 0 ≡ p → PieceTaken line (read_byte p (drop at line)) (record { ok = true; value = 0; next = at + 1 })
+  unfolding after_word
+  byte_there h e =
       let yes : eqb p (get_or line at 0) ≡ true = eq-eqb p (get_or line at 0) (sym e) in
-      let there : readByte p (get_or line at 0 ∷ drop (at + 1) line) ≡ some (found 0 (drop (at + 1) line)) = rw (yes, readByte, afterWord) in
-      record { is = sym there ∙ ap (readByte p) (sym (next line at 0 h)); within = omega arith }
+      let there : read_byte p (get_or line at 0 ∷ drop (at + 1) line) ≡ some (found 0 (drop (at + 1) line)) = rw (yes, read_byte, after_word) in
+      record { is = sym there ∙ ap (read_byte p) (sym (next line at 0 h)); within = omega arith }
 
 -- ---- the number that a byte stands for
-pub number-none : (line : List ℕ) (at c : ℕ) (r : Taken) → at ≤ length line → (c ≡ 35 → ⊥) → (c ≡ 36 → ⊥) → (c ≡ 42 → ⊥) → (c ≡ 37 → ⊥)
-    → r ≡ record { ok = false; value = 0; next = at } → PieceTaken line (readNumber (piece c) (drop at line)) r
-unfolding readNumber
-number-none line at c r h m n o q e = no-piece line (readNumber (piece c) (drop at line)) r at h e (ap (λ (p : Piece). readNumber p (drop at line)) (sym (piece_byte c m n o q)))
+pub number_none : (line : List ℕ) (at c : ℕ) (r : Taken) → at ≤ length line → (c ≡ 35 → ⊥) → (c ≡ 36 → ⊥) → (c ≡ 42 → ⊥) → (c ≡ 37 → ⊥)
+    → r ≡ record { ok = false; value = 0; next = at } → PieceTaken line (read_number (piece c) (drop at line)) r
+unfolding read_number
+number_none line at c r h m n o q e = no_piece line (read_number (piece c) (drop at line)) r at h e (ap (λ (p : Piece). read_number p (drop at line)) (sym (piece_byte c m n o q)))
 
-pub number-as : (p : Piece) (line : List ℕ) (at c bound : ℕ) (r : Taken) → piece c ≡ p → goal.Number line bound (readNumber p (drop at line)) r
-    → PieceTaken line (readNumber (piece c) (drop at line)) r
-number-as p line at c bound r e v = record { is = v.is ∙ ap (λ (q : Piece). readNumber q (drop at line)) (sym e); within = v.within }
+pub number_as : (p : Piece) (line : List ℕ) (at c bound : ℕ) (r : Taken) → piece c ≡ p → goal.Number line bound (read_number p (drop at line)) r
+    → PieceTaken line (read_number (piece c) (drop at line)) r
+number_as p line at c bound r e v = record { is = v.is ∙ ap (λ (q : Piece). read_number q (drop at line)) (sym e); within = v.within }
 
 -- ---- a byte that stands for itself, or for a space and a number
 
 -- a byte that stands for no number stands for itself
 pub itself : (c n : ℕ) → Numbers c n → n ≡ 0 → piece c ≡ Word (c ∷ [])
-unfolding piece numbersOf
+unfolding piece numbers_of
 itself c n v z = go (eqb c 35) refl (eqb c 36) refl (eqb c 42) refl (eqb c 37) refl
   where
-    none_of : numbersOf (piece c) ≡ 0
+    none_of : numbers_of (piece c) ≡ 0
     none_of = sym v.is ∙ z
 
     go : (a : Bool) → eqb c 35 ≡ a → (b : Bool) → eqb c 36 ≡ b → (d : Bool) → eqb c 42 ≡ d → (e : Bool) → eqb c 37 ≡ e → piece c ≡ Word (c ∷ [])
@@ -109,40 +109,40 @@ itself c n v z = go (eqb c 35) refl (eqb c 36) refl (eqb c 42) refl (eqb c 37) r
     go false p false q false r true s = absurd (omega (arith, (rw (p, q, r, s) at none_of)))
     go false p false q false r false s = rw (p, q, r, s)
 
-pub byte-as : (line : List ℕ) (at c n : ℕ) (r : Taken) → Numbers c n → n ≡ 0 → PieceTaken line (readByte c (drop at line)) r → PieceTaken line (readPiece (piece c) (drop at line)) r
-unfolding readPiece
-byte-as line at c n r v z w = record { is = w.is ∙ ap (λ (p : Piece). readPiece p (drop at line)) (sym (itself c n v z)); within = w.within }
+pub byte_as : (line : List ℕ) (at c n : ℕ) (r : Taken) → Numbers c n → n ≡ 0 → PieceTaken line (read_byte c (drop at line)) r → PieceTaken line (read_piece (piece c) (drop at line)) r
+unfolding read_piece
+byte_as line at c n r v z w = record { is = w.is ∙ ap (λ (p : Piece). read_piece p (drop at line)) (sym (itself c n v z)); within = w.within }
 
 -- a space is read as a byte, and then the number
-spaced-is : (f : List ℕ → Option Found) (xs : List ℕ) → spaced f xs ≡ elim (readByte 32 xs) as (λ o. Option Found) [ none ↦ none | some g ↦ f g.rest ]
-unfolding spaced afterWord
-spaced-is f [] = refl
-spaced-is f (x ∷ xs) = go (eqb 32 x) refl
+spaced_is : (f : List ℕ → Option Found) (xs : List ℕ) → spaced f xs ≡ elim (read_byte 32 xs) as (λ o. Option Found) [ none ↦ none | some g ↦ f g.rest ]
+unfolding spaced after_word
+spaced_is f [] = refl
+spaced_is f (x ∷ xs) = go (eqb 32 x) refl
   where
-    go : (b : Bool) → eqb 32 x ≡ b → spaced f (x ∷ xs) ≡ elim (readByte 32 (x ∷ xs)) as (λ o. Option Found) [ none ↦ none | some g ↦ f g.rest ]
-    go true q = rw (q, eq-eqb x 32 (sym (eqb-true 32 x q)), spaced, readByte, afterWord)
-    go false q = rw (q, ne_eqb x 32 (λ h. eqb-false 32 x q (sym h)), spaced, readByte, afterWord)
+    go : (b : Bool) → eqb 32 x ≡ b → spaced f (x ∷ xs) ≡ elim (read_byte 32 (x ∷ xs)) as (λ o. Option Found) [ none ↦ none | some g ↦ f g.rest ]
+    go true q = rw (q, eq-eqb x 32 (sym (eqb-true 32 x q)), spaced, read_byte, after_word)
+    go false q = rw (q, ne_eqb x 32 (λ h. eqb-false 32 x q (sym h)), spaced, read_byte, after_word)
 
-number-piece : (p : Piece) (xs : List ℕ) → ¬ (numbersOf p ≡ 0) → readPiece p xs ≡ spaced (readNumber p) xs
-unfolding readPiece numbersOf readNumber
-number-piece (Word w) xs n = absurd (n refl)
-number-piece (Bits k) xs n = refl
-number-piece Number xs n = refl
-number-piece Offset xs n = refl
+number_piece : (p : Piece) (xs : List ℕ) → ¬ (numbers_of p ≡ 0) → read_piece p xs ≡ spaced (read_number p) xs
+unfolding read_piece numbers_of read_number
+number_piece (Word w) xs n = absurd (n refl)
+number_piece (Bits k) xs n = refl
+number_piece Number xs n = refl
+number_piece Offset xs n = refl
 
-module _ (line : List ℕ) (at c n : ℕ) (space : Taken) (v : Numbers c n) (m : ¬ (n ≡ 0)) (w : PieceTaken line (readByte 32 (drop at line)) space) where
+module _ (line : List ℕ) (at c n : ℕ) (space : Taken) (v : Numbers c n) (m : ¬ (n ≡ 0)) (w : PieceTaken line (read_byte 32 (drop at line)) space) where
   after : (b : Bool) → space.ok ≡ b
-      → readPiece (piece c) (drop at line) ≡ elim (cond b (some (found space.value (drop space.next line))) none) as (λ o. Option Found) [ none ↦ none | some g ↦ readNumber (piece c) g.rest ]
+      → read_piece (piece c) (drop at line) ≡ elim (cond b (some (found space.value (drop space.next line))) none) as (λ o. Option Found) [ none ↦ none | some g ↦ read_number (piece c) g.rest ]
   after b e =
-      number-piece (piece c) (drop at line) (λ z. m (v.is ∙ z))
-      ∙ spaced-is (readNumber (piece c)) (drop at line)
-      ∙ ap (λ (o : Option Found). elim o as (λ x. Option Found) [ none ↦ none | some g ↦ readNumber (piece c) g.rest ])
+      number_piece (piece c) (drop at line) (λ z. m (v.is ∙ z))
+      ∙ spaced_is (read_number (piece c)) (drop at line)
+      ∙ ap (λ (o : Option Found). elim o as (λ x. Option Found) [ none ↦ none | some g ↦ read_number (piece c) g.rest ])
       (sym w.is ∙ ap (λ (x : Bool). cond x (some (found space.value (drop space.next line))) none) e)
 
-  pub no-space : not space.ok ≡ true → PieceTaken line (readPiece (piece c) (drop at line)) space
-  no-space e =
+  pub no_space : not space.ok ≡ true → PieceTaken line (read_piece (piece c) (drop at line)) space
+  no_space e =
       let no : space.ok ≡ false = not-true space.ok e in
       record { is = ap (λ (x : Bool). cond x (some (found space.value (drop space.next line))) none) no ∙ sym (after false no); within = w.within }
 
-  pub space-then : (r : Taken) → not space.ok ≡ false → PieceTaken line (readNumber (piece c) (drop space.next line)) r → PieceTaken line (readPiece (piece c) (drop at line)) r
-  space-then r e u = record { is = u.is ∙ sym (after true (not-false space.ok e)); within = u.within }
+  pub space_then : (r : Taken) → not space.ok ≡ false → PieceTaken line (read_number (piece c) (drop space.next line)) r → PieceTaken line (read_piece (piece c) (drop at line)) r
+  space_then r e u = record { is = u.is ∙ sym (after true (not-false space.ok e)); within = u.within }

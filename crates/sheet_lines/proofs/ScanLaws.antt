@@ -11,14 +11,14 @@ use borrow.Author.Tests.{eqb-true, eqb-false, not-true, not-false}
 use lib.Dec.{eqb}
 use lib.ListN.{length, get_or, take, drop, set, length-set, drop_of_length-le}
 use lib.Seq.{take-set-le, take-suc-set}
-use Rattle.sheet_digits.specs.Digits.{Found, found, readDecimal, readHex}
-use Rattle.sheet_digits.specs.Offsets.{readOffset}
+use Rattle.sheet_digits.specs.Digits.{Found, found, read_decimal, read_hex}
+use Rattle.sheet_digits.specs.Offsets.{read_offset}
 use Rattle.sheet_digit_reading.specs.Given as Digits
 use Rattle.sheet_digits.specs.Next.{next}
 use Rattle.sheet_digit_reading.specs.declared.Taken.{Taken}
-use Rattle.sheet_lines.specs.Forms.{Piece, Word, Bits, Number, Offset, afterWord, read, spaced}
-use Rattle.sheet_lines.specs.Counted.{countIn}
-use Rattle.sheet_lines.specs.Pattern.{numbersOf, piece, pieces, readPiece}
+use Rattle.sheet_lines.specs.Forms.{Piece, Word, Bits, Number, Offset, after_word, read, spaced}
+use Rattle.sheet_lines.specs.Counted.{count_in}
+use Rattle.sheet_lines.specs.Pattern.{numbers_of, piece, pieces, read_piece}
 use Rattle.sheet_lines.specs.Scan.{Numbers, PieceTaken, Scanned}
 
 -- numbers in front of those that are read
@@ -26,15 +26,15 @@ unfoldable pub after : List ℕ → Option (List ℕ) → Option (List ℕ)
 after ns none = none
 after ns (some ms) = some (ns ++ ms)
 
-after-nil : (o : Option (List ℕ)) → after [] o ≡ o
+after_nil : (o : Option (List ℕ)) → after [] o ≡ o
 unfolding after
-after-nil none = refl
-after-nil (some ms) = refl
+after_nil none = refl
+after_nil (some ms) = refl
 
-after-after : (ns ms : List ℕ) (o : Option (List ℕ)) → after ns (after ms o) ≡ after (ns ++ ms) o
+after_after : (ns ms : List ℕ) (o : Option (List ℕ)) → after ns (after ms o) ≡ after (ns ++ ms) o
 unfolding after
-after-after ns ms none = refl
-after-after ns ms (some ls) = ap some (sym (append_assoc ns ms ls))
+after_after ns ms none = refl
+after_after ns ms (some ls) = ap some (sym (append_assoc ns ms ls))
 
 after_one : (n : ℕ) (o : Option (List ℕ)) → elim o as (λ x. Option (List ℕ)) [ none ↦ none | some ns ↦ some (n ∷ ns) ] ≡ after (n ∷ []) o
 unfolding after
@@ -52,43 +52,43 @@ own Offset n = n ∷ []
 one_then : Piece → Option Found → List Piece → Option (List ℕ)
 one_then p o ps = elim o [ none ↦ none | some f ↦ after (own p f.value) (read ps f.rest) ]
 
-read_step : (p : Piece) (ps : List Piece) (xs : List ℕ) → read (p ∷ ps) xs ≡ one_then p (readPiece p xs) ps
-unfolding read readPiece one_then own
-read_step (Word w) ps xs = go (afterWord w xs)
+read_step : (p : Piece) (ps : List Piece) (xs : List ℕ) → read (p ∷ ps) xs ≡ one_then p (read_piece p xs) ps
+unfolding read read_piece one_then own
+read_step (Word w) ps xs = go (after_word w xs)
   where
     go : (o : Option (List ℕ)) → elim o as (λ x. Option (List ℕ)) [ none ↦ none | some rest ↦ read ps rest ]
         ≡ one_then (Word w) (elim o as (λ x. Option Found) [ none ↦ none | some rest ↦ some (found 0 rest) ]) ps
     go none = refl
-    go (some rest) = sym (after-nil (read ps rest))
-read_step (Bits k) ps xs = go (spaced (readHex k) xs)
+    go (some rest) = sym (after_nil (read ps rest))
+read_step (Bits k) ps xs = go (spaced (read_hex k) xs)
   where
     go : (o : Option Found) → elim o as (λ x. Option (List ℕ)) [ none ↦ none | some f ↦ elim (read ps f.rest) as (λ x. Option (List ℕ)) [ none ↦ none | some ns ↦ some (f.value ∷ ns) ] ]
         ≡ one_then (Bits k) o ps
     go none = refl
     go (some f) = after_one f.value (read ps f.rest)
-read_step Number ps xs = go (spaced readDecimal xs)
+read_step Number ps xs = go (spaced read_decimal xs)
   where
     go : (o : Option Found) → elim o as (λ x. Option (List ℕ)) [ none ↦ none | some f ↦ elim (read ps f.rest) as (λ x. Option (List ℕ)) [ none ↦ none | some ns ↦ some (f.value ∷ ns) ] ]
         ≡ one_then Number o ps
     go none = refl
     go (some f) = after_one f.value (read ps f.rest)
-read_step Offset ps xs = go (spaced readOffset xs)
+read_step Offset ps xs = go (spaced read_offset xs)
   where
     go : (o : Option Found) → elim o as (λ x. Option (List ℕ)) [ none ↦ none | some f ↦ elim (read ps f.rest) as (λ x. Option (List ℕ)) [ none ↦ none | some ns ↦ some (f.value ∷ ns) ] ]
         ≡ one_then Offset o ps
     go none = refl
     go (some f) = after_one f.value (read ps f.rest)
 
-count-step : (p : Piece) (ps : List Piece) → countIn (p ∷ ps) ≡ numbersOf p + countIn ps
-unfolding countIn numbersOf
-count-step (Word w) ps = omega arith
-count-step (Bits k) ps = omega arith
-count-step Number ps = omega arith
-count-step Offset ps = omega arith
+count_step : (p : Piece) (ps : List Piece) → count_in (p ∷ ps) ≡ numbers_of p + count_in ps
+unfolding count_in numbers_of
+count_step (Word w) ps = omega arith
+count_step (Bits k) ps = omega arith
+count_step Number ps = omega arith
+count_step Offset ps = omega arith
 
 -- the number that was read stands behind those before
-stored : (p : Piece) (N : List ℕ) (count v : ℕ) → count < length N → take (count + numbersOf p) (set N count v) ≡ take count N ++ own p v
-unfolding numbersOf own
+stored : (p : Piece) (N : List ℕ) (count v : ℕ) → count < length N → take (count + numbers_of p) (set N count v) ≡ take count N ++ own p v
+unfolding numbers_of own
 stored (Word w) N count v h = ap (λ (n : ℕ). take n (set N count v)) (add-zero count) ∙ take-set-le count N count v (omega arith) ∙ sym (append-nil (take count N))
 stored (Bits k) N count v h = ap (λ (n : ℕ). take n (set N count v)) (add-one count) ∙ take-suc-set N count v h
 stored Number N count v h = ap (λ (n : ℕ). take n (set N count v)) (add-one count) ∙ take-suc-set N count v h
@@ -98,21 +98,21 @@ pub record Scanning (line form F N : List ℕ) (at count i : ℕ) : Type 0 where
   pub long : length N ≡ length F
   pub few : i ≤ length form
   pub inside : at ≤ length line
-  pub room : countIn (pieces form) < length N
-  pub counted : count + countIn (pieces (drop i form)) ≡ countIn (pieces form)
+  pub room : count_in (pieces form) < length N
+  pub counted : count + count_in (pieces (drop i form)) ≡ count_in (pieces form)
   pub same : after (take count N) (read (pieces (drop i form)) (drop at line)) ≡ read (pieces form) line
 
-pub scanning-none : (line form N : List ℕ) → countIn (pieces form) < length N → Scanning line form N N 0 0 0
-scanning-none line form N h = record { long = refl; few = omega arith; inside = omega arith; room = h; counted = omega arith; same = after-nil (read (pieces form) line) }
+pub scanning_none : (line form N : List ℕ) → count_in (pieces form) < length N → Scanning line form N N 0 0 0
+scanning_none line form N h = record { long = refl; few = omega arith; inside = omega arith; room = h; counted = omega arith; same = after_nil (read (pieces form) line) }
 
-pub scanning-place : (line form F N : List ℕ) (at count i : ℕ) → Scanning line form F N at count i → at ≤ length line
-scanning-place line form F N at count i v = v.inside
+pub scanning_place : (line form F N : List ℕ) (at count i : ℕ) → Scanning line form F N at count i → at ≤ length line
+scanning_place line form F N at count i v = v.inside
 
-pub scanning-room : (line form F N : List ℕ) (at count i : ℕ) → Scanning line form F N at count i → count < length N
-scanning-room line form F N at count i v = omega (arith, v.room, v.counted)
+pub scanning_room : (line form F N : List ℕ) (at count i : ℕ) → Scanning line form F N at count i → count < length N
+scanning_room line form F N at count i v = omega (arith, v.room, v.counted)
 
 module _ (line form F N : List ℕ) (at count i : ℕ) (v : Scanning line form F N at count i) (h : i < length form) (t : Taken)
-    (p : PieceTaken line (readPiece (piece (get_or form i 0)) (drop at line)) t) where
+    (p : PieceTaken line (read_piece (piece (get_or form i 0)) (drop at line)) t) where
   abbrev here : Piece
   here = piece (get_or form i 0)
 
@@ -126,44 +126,44 @@ module _ (line form F N : List ℕ) (at count i : ℕ) (v : Scanning line form F
       ∙ ap (λ (ps : List Piece). after (take count N) (read ps (drop at line))) (sym rest)
       ∙ v.same
 
-  pub scanning-other : not t.ok ≡ true → Scanned (pieces form) line N false
+  pub scanning_other : not t.ok ≡ true → Scanned (pieces form) line N false
   unfolding one_then after
-  scanning-other e =
+  scanning_other e =
       let no : Digits.given line t ≡ none = ap (λ (b : Bool). cond b (some (found t.value (drop t.next line))) none) (not-true t.ok e) in
       record { is = ap (λ (o : Option Found). after (take count N) (one_then here o (pieces (drop (i + 1) form)))) (sym no) ∙ step }
 
-  pub scanning-more : (n : ℕ) → not t.ok ≡ false → Numbers (get_or form i 0) n → Scanning line form F (set N count t.value) t.next (count + n) (i + 1)
+  pub scanning_more : (n : ℕ) → not t.ok ≡ false → Numbers (get_or form i 0) n → Scanning line form F (set N count t.value) t.next (count + n) (i + 1)
   unfolding one_then
-  scanning-more n e counts =
+  scanning_more n e counts =
       let yes : Digits.given line t ≡ some (found t.value (drop t.next line)) = ap (λ (b : Bool). cond b (some (found t.value (drop t.next line))) none) (not-false t.ok e) in
-      let q : n ≡ numbersOf here = counts.is in
+      let q : n ≡ numbers_of here = counts.is in
       let left : List Piece = pieces (drop (i + 1) form) in
-      let many : countIn (pieces (drop i form)) ≡ numbersOf here + countIn left = ap countIn rest ∙ count-step here left in
+      let many : count_in (pieces (drop i form)) ≡ numbers_of here + count_in left = ap count_in rest ∙ count_step here left in
       record {
         long = length-set N count t.value ∙ v.long;
         few = omega arith;
         inside = p.within;
-        room = subst (λ (k : ℕ). countIn (pieces form) < k) (sym (length-set N count t.value)) v.room;
+        room = subst (λ (k : ℕ). count_in (pieces form) < k) (sym (length-set N count t.value)) v.room;
         counted = omega (arith, v.counted);
         same =
             ap (λ (k : ℕ). after (take (count + k) (set N count t.value)) (read left (drop t.next line))) q
-            ∙ ap (λ (ns : List ℕ). after ns (read left (drop t.next line))) (stored here N count t.value (scanning-room line form F N at count i v))
-            ∙ sym (after-after (take count N) (own here t.value) (read left (drop t.next line)))
+            ∙ ap (λ (ns : List ℕ). after ns (read left (drop t.next line))) (stored here N count t.value (scanning_room line form F N at count i v))
+            ∙ sym (after_after (take count N) (own here t.value) (read left (drop t.next line)))
             ∙ ap (λ (o : Option Found). after (take count N) (one_then here o left)) (sym yes)
             ∙ step;
       }
 
-pub scanning-all : (line form F N : List ℕ) (at count i : ℕ) → Scanning line form F N at count i → length form ≤ i → Scanned (pieces form) line N (eqb at (length line))
-unfolding read countIn after
-scanning-all line form F N at count i v h = record { is = go (eqb at (length line)) refl }
+pub scanning_all : (line form F N : List ℕ) (at count i : ℕ) → Scanning line form F N at count i → length form ≤ i → Scanned (pieces form) line N (eqb at (length line))
+unfolding read count_in after
+scanning_all line form F N at count i v h = record { is = go (eqb at (length line)) refl }
   where
     done : drop i form ≡ []
     done = drop_of_length-le form h
 
-    whole : count ≡ countIn (pieces form)
-    whole = sym (ap (λ (ps : List ℕ). count + countIn (pieces ps)) done ∙ add-zero count) ∙ v.counted
+    whole : count ≡ count_in (pieces form)
+    whole = sym (ap (λ (ps : List ℕ). count + count_in (pieces ps)) done ∙ add-zero count) ∙ v.counted
 
-    go : (b : Bool) → eqb at (length line) ≡ b → cond b (some (take (countIn (pieces form)) N)) none ≡ read (pieces form) line
+    go : (b : Bool) → eqb at (length line) ≡ b → cond b (some (take (count_in (pieces form)) N)) none ≡ read (pieces form) line
     go true q =
         let past : length line ≤ at = omega (arith, eqb-true at (length line) q) in
         let end : drop at line ≡ [] = drop_of_length-le line past in

@@ -4,8 +4,8 @@ use Rattle.std.proofs.Math.Option.{Option, none, some}
 use Rattle.sheet_lines.specs.declared.Kind.{Kind}
 use Rattle.sheet_lines.specs.declared.Kind.TheVariants.{Box, Sag, NoDefault, Default, Material, Face, FaceBin, Vertex, Triangle, Fail, FailBin}
 use Rattle.sheet_digits.specs.Bytes.{bytes}
-use Rattle.sheet_digits.specs.Digits.{Found, hex, decimal, readHex, readDecimal}
-use Rattle.sheet_digits.specs.Offsets.{offset, readOffset}
+use Rattle.sheet_digits.specs.Digits.{Found, hex, decimal, read_hex, read_decimal}
+use Rattle.sheet_digits.specs.Offsets.{offset, read_offset}
 
 -- a piece of a line: bytes that stand as they are; a space and bits of so many hex digits; a space and a decimal number; a space and an offset, which may have a minus
 pub data Piece : Type 0 where
@@ -30,10 +30,10 @@ unfoldable pub line : List Piece → List ℕ → List ℕ
 line form ns = print form ns ++ 10 ∷ []
 
 -- what follows a word, if the text begins with it
-unfoldable pub afterWord : List ℕ → List ℕ → Option (List ℕ)
-afterWord [] xs = some xs
-afterWord (w ∷ ws) [] = none
-afterWord (w ∷ ws) (x ∷ xs) = elim (eqb w x) [ true ↦ afterWord ws xs | false ↦ none ]
+unfoldable pub after_word : List ℕ → List ℕ → Option (List ℕ)
+after_word [] xs = some xs
+after_word (w ∷ ws) [] = none
+after_word (w ∷ ws) (x ∷ xs) = elim (eqb w x) [ true ↦ after_word ws xs | false ↦ none ]
 
 -- the text begins with a space and the number
 unfoldable pub spaced : (List ℕ → Option Found) → List ℕ → Option Found
@@ -44,16 +44,16 @@ spaced f (x ∷ xs) = elim (eqb x 32) [ true ↦ f xs | false ↦ none ]
 unfoldable pub read : List Piece → List ℕ → Option (List ℕ)
 read [] [] = some []
 read [] (x ∷ xs) = none
-read (Word w ∷ ps) xs = elim (afterWord w xs) [ none ↦ none | some rest ↦ read ps rest ]
-read (Bits k ∷ ps) xs = elim (spaced (readHex k) xs) [
+read (Word w ∷ ps) xs = elim (after_word w xs) [ none ↦ none | some rest ↦ read ps rest ]
+read (Bits k ∷ ps) xs = elim (spaced (read_hex k) xs) [
   | none ↦ none
   | some f ↦ elim (read ps f.rest) [ none ↦ none | some ns ↦ some (f.value ∷ ns) ]
 ]
-read (Number ∷ ps) xs = elim (spaced readDecimal xs) [
+read (Number ∷ ps) xs = elim (spaced read_decimal xs) [
   | none ↦ none
   | some f ↦ elim (read ps f.rest) [ none ↦ none | some ns ↦ some (f.value ∷ ns) ]
 ]
-read (Offset ∷ ps) xs = elim (spaced readOffset xs) [
+read (Offset ∷ ps) xs = elim (spaced read_offset xs) [
   | none ↦ none
   | some f ↦ elim (read ps f.rest) [ none ↦ none | some ns ↦ some (f.value ∷ ns) ]
 ]
@@ -61,8 +61,8 @@ read (Offset ∷ ps) xs = elim (spaced readOffset xs) [
 -- ---- the lines of the sheet
 
 -- a vertex: the bits of its position and normal; printed too
-abbrev pub vertexForm : List Piece
-vertexForm = Word (bytes "(v (p") ∷ Bits 8 ∷ Bits 8 ∷ Bits 8 ∷ Word (bytes ") (n") ∷ Bits 8 ∷ Bits 8 ∷ Bits 8 ∷ Word (bytes "))") ∷ []
+abbrev pub vertex_form : List Piece
+vertex_form = Word (bytes "(v (p") ∷ Bits 8 ∷ Bits 8 ∷ Bits 8 ∷ Word (bytes ") (n") ∷ Bits 8 ∷ Bits 8 ∷ Bits 8 ∷ Word (bytes "))") ∷ []
 
 -- so many decimal numbers, and the bracket that closes the line
 unfoldable pub numbers : ℕ → List Piece
@@ -70,8 +70,8 @@ numbers zero = Word (bytes ")") ∷ []
 numbers (suc k) = Number ∷ numbers k
 
 -- a triangle: its three indices; printed too
-abbrev pub triangleForm : List Piece
-triangleForm = Word (bytes "(t") ∷ numbers 3
+abbrev pub triangle_form : List Piece
+triangle_form = Word (bytes "(t") ∷ numbers 3
 
 -- The form of each kind: floats are upper-case hex bits, other numbers decimal below 2^32 without leading zeros; - is no default, and a face or a fail line may have a bin as its last number.
 unfoldable pub form : Kind → List Piece
@@ -82,8 +82,8 @@ form Default = Word (bytes "(default") ∷ numbers 1
 form Material = Word (bytes "(material") ∷ numbers 2
 form Face = Word (bytes "(face") ∷ numbers 2
 form FaceBin = Word (bytes "(face") ∷ numbers 3
-form Vertex = vertexForm
-form Triangle = triangleForm
+form Vertex = vertex_form
+form Triangle = triangle_form
 form Fail = Word (bytes "(fail") ∷ numbers 3
 form FailBin = Word (bytes "(fail") ∷ numbers 4
 
@@ -93,10 +93,10 @@ pub record Line : Type 0 where
   pub numbers : List ℕ
 
 -- a line of the first of some kinds whose form it has
-unfoldable pub lineAmong : List Kind → List ℕ → Option Line
-lineAmong [] xs = none
-lineAmong (k ∷ ks) xs = elim (read (form k) xs) [ none ↦ lineAmong ks xs | some ns ↦ some (record { kind = k; numbers = ns }) ]
+unfoldable pub line_among : List Kind → List ℕ → Option Line
+line_among [] xs = none
+line_among (k ∷ ks) xs = elim (read (form k) xs) [ none ↦ line_among ks xs | some ns ↦ some (record { kind = k; numbers = ns }) ]
 
 -- a line of the sheet; at most one form fits
 unfoldable pub line_of : List ℕ → Option Line
-line_of xs = lineAmong (Box ∷ Sag ∷ NoDefault ∷ Default ∷ Material ∷ Vertex ∷ Triangle ∷ Face ∷ FaceBin ∷ Fail ∷ FailBin ∷ []) xs
+line_of xs = line_among (Box ∷ Sag ∷ NoDefault ∷ Default ∷ Material ∷ Vertex ∷ Triangle ∷ Face ∷ FaceBin ∷ Fail ∷ FailBin ∷ []) xs

@@ -1,7 +1,7 @@
 // The kind of a line of the sheet.
 
 ghost use Rattle.std.specs.Prelude.{◌≡◌, ◌<◌, length};
-ghost use Rattle.sheet_lines.specs.Forms.{lineAmong, line_of};
+ghost use Rattle.sheet_lines.specs.Forms.{line_among, line_of};
 ghost use Rattle.sheet_lines.specs.Pattern.{later, opening};
 ghost use Rattle.sheet_lines.specs.Scan.{given};
 
@@ -18,7 +18,7 @@ pub enum Given {
 // The same for a line that opens a row.
 fn opening_line_of(line: &[u8], numbers: &mut [u64]) -> Given
     requires { 6 < length numbers.old }
-    ensures { given result numbers.new ≡ lineAmong opening line.now }
+    ensures { given result numbers.new ≡ line_among opening line.now }
 {
     if scan(line, b"(face##)", numbers) {
         return Given::Line(Kind::Face);
@@ -38,7 +38,7 @@ fn opening_line_of(line: &[u8], numbers: &mut [u64]) -> Given
 // The same for a line after the default.
 fn later_line_of(line: &[u8], numbers: &mut [u64]) -> Given
     requires { 6 < length numbers.old }
-    ensures { given result numbers.new ≡ lineAmong later line.now }
+    ensures { given result numbers.new ≡ line_among later line.now }
 {
     if scan(line, b"(material##)", numbers) {
         return Given::Line(Kind::Material);

@@ -1,8 +1,8 @@
 // A line read by a form.
 
 ghost use Rattle.std.specs.Prelude.{◌+◌, ◌<◌, ◌≤◌, length, drop};
-ghost use Rattle.sheet_lines.specs.Counted.{countIn};
-ghost use Rattle.sheet_lines.specs.Pattern.{piece, pieces, readByte, readNumber, readPiece};
+ghost use Rattle.sheet_lines.specs.Counted.{count_in};
+ghost use Rattle.sheet_lines.specs.Pattern.{piece, pieces, read_byte, read_number, read_piece};
 ghost use Rattle.sheet_lines.specs.Scan.{Numbers, PieceTaken, Scanned};
 
 use sheet_digit_reading::{Taken, missing, read_decimal, read_hex, read_offset};
@@ -29,7 +29,7 @@ pub fn numbers_of(p: u8) -> usize
 // The byte p at a place.
 fn byte_at(line: &[u8], at: usize, p: u8) -> Taken
     requires { at ≤ length line.now }
-    ensures { PieceTaken line.now (readByte p (drop at line.now)) result }
+    ensures { PieceTaken line.now (read_byte p (drop at line.now)) result }
 {
     if line.len() <= at {
         return missing(at);
@@ -47,7 +47,7 @@ fn byte_at(line: &[u8], at: usize, p: u8) -> Taken
 // The number that a byte of a form stands for, at a place.
 fn number_at(line: &[u8], at: usize, p: u8) -> Taken
     requires { at ≤ length line.now }
-    ensures { PieceTaken line.now (readNumber (piece p) (drop at line.now)) result }
+    ensures { PieceTaken line.now (read_number (piece p) (drop at line.now)) result }
 {
     if p == 35 {
         return read_decimal(line, at);
@@ -67,7 +67,7 @@ fn number_at(line: &[u8], at: usize, p: u8) -> Taken
 // What a byte of a form stands for, at a place: itself, or a space and a number.
 fn piece_at(line: &[u8], at: usize, p: u8) -> Taken
     requires { at ≤ length line.now }
-    ensures { PieceTaken line.now (readPiece (piece p) (drop at line.now)) result }
+    ensures { PieceTaken line.now (read_piece (piece p) (drop at line.now)) result }
 {
     if numbers_of(p) == 0 {
         return byte_at(line, at, p);
@@ -81,7 +81,7 @@ fn piece_at(line: &[u8], at: usize, p: u8) -> Taken
 
 // Whether a line has a form, and its numbers in front of `numbers`, which is longer than there are.
 pub fn scan(line: &[u8], form: &[u8], numbers: &mut [u64]) -> bool
-    requires { countIn (pieces form.now) < length numbers.old }
+    requires { count_in (pieces form.now) < length numbers.old }
     ensures { Scanned (pieces form.now) line.now numbers.new result }
 {
     let mut at: usize = 0;

@@ -3,7 +3,7 @@
 ghost use Rattle.std.specs.Prelude.{◌≡◌, ◌≤◌, length, get_or};
 ghost use Rattle.sheet_digit_writing.specs.Writing.{Wrote};
 ghost use Rattle.sheet_lines.specs.Forms.{line, print};
-ghost use Rattle.sheet_lines.specs.Pattern.{piece, pieces, printNumber, printPiece};
+ghost use Rattle.sheet_lines.specs.Pattern.{piece, pieces, print_number, print_piece};
 
 use crate::scanning::numbers_of;
 use sheet_digit_writing::{put_byte, put_decimal, put_hex, put_offset};
@@ -11,7 +11,7 @@ use sheet_digit_writing::{put_byte, put_decimal, put_hex, put_offset};
 // The number that a byte of a form stands for, n, at a place; answers the place after it.
 fn put_number(out: &mut [u8], at: usize, p: u8, n: u64) -> usize
     requires { at ≤ length out.old }
-    ensures { Wrote out.old at (printNumber (piece p) n) out.new result }
+    ensures { Wrote out.old at (print_number (piece p) n) out.new result }
 {
     if p == 35 {
         return put_decimal(out, at, n);
@@ -31,7 +31,7 @@ fn put_number(out: &mut [u8], at: usize, p: u8, n: u64) -> usize
 // What a byte of a form stands for, at a place: itself, or a space and the number n; answers the place after it.
 fn put_piece(out: &mut [u8], at: usize, p: u8, n: u64) -> usize
     requires { at ≤ length out.old }
-    ensures { Wrote out.old at (printPiece (piece p) n) out.new result }
+    ensures { Wrote out.old at (print_piece (piece p) n) out.new result }
 {
     if numbers_of(p) == 0 {
         return put_byte(out, at, p);

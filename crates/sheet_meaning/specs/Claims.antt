@@ -23,6 +23,6 @@ claims =
     ∷ []
 
 -- The definitions yield each.
-pub claims-hold : T (all agrees claims)
+pub claims_hold : T (all agrees claims)
 unfolding evaluation sheet face vertex claims
-claims-hold = tt
+claims_hold = tt

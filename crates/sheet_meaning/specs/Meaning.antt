@@ -6,8 +6,8 @@ use Rattle.bench_definition.specs.Finish.{Sheet}
 use Rattle.sheet_line_order.specs.Reading.{Patterns, at}
 
 -- box (minimum, maximum)
-unfoldable pub boxOf : List ℕ → Aabb
-boxOf ns =
+unfoldable pub box_of : List ℕ → Aabb
+box_of ns =
     record {
       min = record { x = f64 (at ns 0); y = f64 (at ns 1); z = f64 (at ns 2) };
       max = record { x = f64 (at ns 3); y = f64 (at ns 4); z = f64 (at ns 5) };
@@ -17,7 +17,7 @@ boxOf ns =
 unfoldable pub meant : Patterns → Sheet
 meant x =
     record {
-      box = boxOf x.box;
+      box = box_of x.box;
       sag = f64 x.sag;
       default = x.default;
       materials = x.materials;

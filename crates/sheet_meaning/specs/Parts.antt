@@ -10,8 +10,8 @@ unfoldable pub corner : Vec3 → List ℕ
 corner p = bits64 p.x ∷ bits64 p.y ∷ bits64 p.z ∷ []
 
 -- refusal and place; box, sag and default; materials, table, positions, normals, indices
-unfoldable pub stateNumbers : State → List ℕ
-stateNumbers s =
+unfoldable pub state_numbers : State → List ℕ
+state_numbers s =
     let x = meant s.sheet in
     (s.refusal ∷ s.place ∷ [])
     ++ corner x.box.min

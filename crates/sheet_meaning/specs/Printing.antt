@@ -2,24 +2,24 @@
 use Rattle.std.specs.Prelude.{List, ℕ}
 use Rattle.sheet_answer_text.specs.declared.Sizes.{Sizes}
 use Rattle.sheet_answer_text.specs.declared.Tallies.{Tallies}
-use Rattle.sheet_answer_text.specs.Answer.{countText, meshText}
+use Rattle.sheet_answer_text.specs.Answer.{count_text, mesh_text}
 use Rattle.turn_definition.specs.Orient.{AfterTurn}
 use Rattle.stitch_definition.specs.Slices.{AfterStitch}
 use Rattle.mesh_definition.specs.Assemble.{AfterAssemble}
 
 -- how much assemble wrote
-abbrev pub sizesOf : AfterAssemble → Sizes
-sizesOf a = record { vertices = a.vertices; indices = a.indices; parts = a.parts; ranges = a.ranges; failures = a.failures }
+abbrev pub sizes_of : AfterAssemble → Sizes
+sizes_of a = record { vertices = a.vertices; indices = a.indices; parts = a.parts; ranges = a.ranges; failures = a.failures }
 
 -- the mesh
-unfoldable pub meshLines : AfterAssemble → List ℕ
-meshLines a =
+unfoldable pub mesh_lines : AfterAssemble → List ℕ
+mesh_lines a =
     let out = a.slices in
-    meshText (sizesOf a) out.vertices.positions out.vertices.normals out.indices out.parts out.ranges out.failures
+    mesh_text (sizes_of a) out.vertices.positions out.vertices.normals out.indices out.parts out.ranges out.failures
 
 -- what was counted; ok is the number of accepted rows, each of which has a range
-abbrev pub talliesOf : AfterTurn → AfterStitch → AfterAssemble → Tallies
-talliesOf t s a =
+abbrev pub tallies_of : AfterTurn → AfterStitch → AfterAssemble → Tallies
+tallies_of t s a =
     record {
       turned = t.turned;
       against = t.against;
@@ -32,5 +32,5 @@ talliesOf t s a =
     }
 
 -- the counts
-unfoldable pub countLines : AfterTurn → AfterStitch → AfterAssemble → List ℕ
-countLines t s a = countText (talliesOf t s a)
+unfoldable pub count_lines : AfterTurn → AfterStitch → AfterAssemble → List ℕ
+count_lines t s a = count_text (tallies_of t s a)

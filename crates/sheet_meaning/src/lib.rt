@@ -2,7 +2,7 @@
 
 ghost use Rattle.std.specs.Prelude.{◌≡◌, ◌++◌, ◌∷◌, [], map, length, take, drop};
 ghost use Rattle.float_steps.specs.Floats.{f32, f64};
-ghost use Rattle.sheet_meaning.specs.Meaning.{boxOf};
+ghost use Rattle.sheet_meaning.specs.Meaning.{box_of};
 
 use float_steps::{f32_of_bits, f64_of_bits};
 use patch_geometry::{Aabb, Vec3};
@@ -32,7 +32,7 @@ fn point_of(x: u64, y: u64, z: u64) -> Vec3
 
 // The box that was read.
 pub fn box_of(r: Reader) -> Aabb
-    ensures { result ≡ boxOf (r.minx ∷ r.miny ∷ r.minz ∷ r.maxx ∷ r.maxy ∷ r.maxz ∷ []) }
+    ensures { result ≡ box_of (r.minx ∷ r.miny ∷ r.minz ∷ r.maxx ∷ r.maxy ∷ r.maxz ∷ []) }
 {
     let min = point_of(r.minx, r.miny, r.minz);
     let max = point_of(r.maxx, r.maxy, r.maxz);

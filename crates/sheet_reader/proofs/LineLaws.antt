@@ -7,102 +7,102 @@ use Prim.Native.Nat.{ℕ, ◌<◌}
 use borrow.Author.Tests.{eq-eqb, ne_eqb, not-true, not-false}
 use lib.Dec.{eqb}
 use lib.ListN.{length}
-use Rattle.sheet_lines.specs.Exact.{line-fits}
+use Rattle.sheet_lines.specs.Exact.{line_fits}
 use Rattle.sheet_lines.specs.Forms.{Line, line_of}
 use Rattle.sheet_lines.specs.Scan.{given}
 use Rattle.sheet_lines.specs.declared.Kind.{Kind}
 use Rattle.sheet_lines.specs.declared.kinds.Given.{Given}
 use Rattle.sheet_lines.specs.declared.kinds.Given.TheVariants as Given
 use Rattle.sheet_reader_state.specs.declared.Reader.{Reader}
-use Rattle.sheet_line_order.specs.Reading.{State, lineRefusal, readLine, refuse, takeUp, withForm}
+use Rattle.sheet_line_order.specs.Reading.{State, line_refusal, read_line, refuse, take_up, with_form}
 use Rattle.sheet_line_order.specs.Refusals.{Refusal}
-use Rattle.sheet_reader_state.specs.Slices.{Lent, fits, lent, lineFrom, over, patternsOf, readForm, readInto, readRoomy, refuseIn, refused, state_of, takenUp}
+use Rattle.sheet_reader_state.specs.Slices.{Lent, fits, lent, line_from, over, patterns_of, read_form, read_into, read_roomy, refuse_in, refused, state_of, taken_up}
 use Rattle.sheet_line_effects.specs.Added.{Fitting, Ready, Roomy}
 use Rattle.sheet_reader_state.specs.Held.{Held, counts_of, held_of}
-use Rattle.sheet_reader_state.specs.Same.{over-same}
+use Rattle.sheet_reader_state.specs.Same.{over_same}
 
 module _ (s : Reader) (T P N I M : List ℕ) where
   abbrev here : Lent
   here = lent s T P N I M
 
   -- the refusal in the slices changes nothing else
-  over-refused : (n : ℕ) → Held s T P N I M → refuseIn n here ≡ over here (refuse n (state_of here))
+  over_refused : (n : ℕ) → Held s T P N I M → refuse_in n here ≡ over here (refuse n (state_of here))
   unfolding refuse
-  over-refused n h = ap (refuseIn n) (over-same s T P N I M h)
+  over_refused n h = ap (refuse_in n) (over_same s T P N I M h)
 
-  module _ (k : Kind) (ns : List ℕ) (v : Fitting here k ns) (n : ℕ) (u : Refusal s.limits s.place s.rows s.vertices s.indices k (lineFrom k ns).numbers n) where
+  module _ (k : Kind) (ns : List ℕ) (v : Fitting here k ns) (n : ℕ) (u : Refusal s.limits s.place s.rows s.vertices s.indices k (line_from k ns).numbers n) where
     held : Held s T P N I M
     held = held_of s T P N I M v.roomy.held
 
-    refusal_is : n ≡ lineRefusal (lineFrom k ns) (state_of here)
-    refusal_is = u.is s.refusal (patternsOf here) (counts_of s T P N I M held)
+    refusal_is : n ≡ line_refusal (line_from k ns) (state_of here)
+    refusal_is = u.is s.refusal (patterns_of here) (counts_of s T P N I M held)
 
-    pub form-refused : (r : Reader) → (n ≡ 0 → ⊥) → r ≡ refused n s → lent r T P N I M ≡ readForm here k ns
-    unfolding readForm withForm
-    form-refused r z e =
-        let no : eqb (lineRefusal (lineFrom k ns) (state_of here)) 0 ≡ false = ap (λ (m : ℕ). eqb m 0) (sym refusal_is) ∙ ne_eqb n 0 z in
+    pub form_refused : (r : Reader) → (n ≡ 0 → ⊥) → r ≡ refused n s → lent r T P N I M ≡ read_form here k ns
+    unfolding read_form with_form
+    form_refused r z e =
+        let no : eqb (line_refusal (line_from k ns) (state_of here)) 0 ≡ false = ap (λ (m : ℕ). eqb m 0) (sym refusal_is) ∙ ne_eqb n 0 z in
         ap (λ (x : Reader). lent x T P N I M) e
-        ∙ over-refused n held
+        ∙ over_refused n held
         ∙ ap (λ (m : ℕ). over here (refuse m (state_of here))) refusal_is
-        ∙ ap (over here) (sym (ap (λ (b : Bool). elim b as (λ x. State) [ true ↦ takeUp (state_of here) (lineFrom k ns) | false ↦ refuse (lineRefusal (lineFrom k ns) (state_of here)) (state_of here) ])
+        ∙ ap (over here) (sym (ap (λ (b : Bool). elim b as (λ x. State) [ true ↦ take_up (state_of here) (line_from k ns) | false ↦ refuse (line_refusal (line_from k ns) (state_of here)) (state_of here) ])
         no))
 
-    pub form-ready : n ≡ 0 → Ready here k ns
-    form-ready z = record { fitting = v; taken = sym refusal_is ∙ z }
+    pub form_ready : n ≡ 0 → Ready here k ns
+    form_ready z = record { fitting = v; taken = sym refusal_is ∙ z }
 
-    pub form-taken : (x : Lent) → n ≡ 0 → x ≡ takenUp here k ns → x ≡ readForm here k ns
-    unfolding readForm withForm takenUp
-    form-taken x z e =
-        let yes : eqb (lineRefusal (lineFrom k ns) (state_of here)) 0 ≡ true = ap (λ (m : ℕ). eqb m 0) (sym refusal_is) ∙ eq-eqb n 0 z in
-        e ∙ ap (over here) (sym (ap (λ (b : Bool). elim b as (λ x. State) [ true ↦ takeUp (state_of here) (lineFrom k ns) | false ↦ refuse (lineRefusal (lineFrom k ns) (state_of here)) (state_of here) ])
+    pub form_taken : (x : Lent) → n ≡ 0 → x ≡ taken_up here k ns → x ≡ read_form here k ns
+    unfolding read_form with_form taken_up
+    form_taken x z e =
+        let yes : eqb (line_refusal (line_from k ns) (state_of here)) 0 ≡ true = ap (λ (m : ℕ). eqb m 0) (sym refusal_is) ∙ eq-eqb n 0 z in
+        e ∙ ap (over here) (sym (ap (λ (b : Bool). elim b as (λ x. State) [ true ↦ take_up (state_of here) (line_from k ns) | false ↦ refuse (line_refusal (line_from k ns) (state_of here)) (state_of here) ])
         yes))
 
   module _ (line : List ℕ) (v : Roomy here) where
     -- what the line's form makes of it
-    read_as : (o : Option Line) → line_of line ≡ o → readRoomy here line ≡ over here (elim o as (λ x. State) [ none ↦ refuse 51 (state_of here) | some l ↦ withForm (state_of here) l ])
-    unfolding readRoomy readLine
+    read_as : (o : Option Line) → line_of line ≡ o → read_roomy here line ≡ over here (elim o as (λ x. State) [ none ↦ refuse 51 (state_of here) | some l ↦ with_form (state_of here) l ])
+    unfolding read_roomy read_line
     read_as o e =
         ap (λ (b : Bool). over here (elim b as (λ x. State) [
           | true ↦ elim (line_of line) as
-              (λ x. State) [ none ↦ refuse 51 (state_of here) | some l ↦ withForm (state_of here) l ]
+              (λ x. State) [ none ↦ refuse 51 (state_of here) | some l ↦ with_form (state_of here) l ]
           | false ↦ state_of here
         ])) (eq-eqb s.refusal 0 v.clean)
-        ∙ ap (λ (p : Option Line). over here (elim p as (λ x. State) [ none ↦ refuse 51 (state_of here) | some l ↦ withForm (state_of here) l ])) e
+        ∙ ap (λ (p : Option Line). over here (elim p as (λ x. State) [ none ↦ refuse 51 (state_of here) | some l ↦ with_form (state_of here) l ])) e
 
     module _ (g : Given) (ns : List ℕ) (q : given g ns ≡ line_of line) where
-      line-is : (k : Kind) → g ≡ Given.Line k → line_of line ≡ some (lineFrom k ns)
+      line_is : (k : Kind) → g ≡ Given.Line k → line_of line ≡ some (line_from k ns)
       unfolding given
-      line-is k e = sym (sym (ap (λ (x : Given). given x ns) e) ∙ q)
+      line_is k e = sym (sym (ap (λ (x : Given). given x ns) e) ∙ q)
 
-      pub roomy-fitting : (k : Kind) → g ≡ Given.Line k → 6 < length ns → Fitting here k ns
-      roomy-fitting k e l = record { roomy = v; long = l; small = line-fits line (lineFrom k ns) (line-is k e) }
+      pub roomy_fitting : (k : Kind) → g ≡ Given.Line k → 6 < length ns → Fitting here k ns
+      roomy_fitting k e l = record { roomy = v; long = l; small = line_fits line (line_from k ns) (line_is k e) }
 
-      pub roomy-line : (x : Lent) (k : Kind) → g ≡ Given.Line k → x ≡ readForm here k ns → x ≡ readRoomy here line
-      unfolding readForm
-      roomy-line x k e p = p ∙ sym (read_as (some (lineFrom k ns)) (line-is k e))
+      pub roomy_line : (x : Lent) (k : Kind) → g ≡ Given.Line k → x ≡ read_form here k ns → x ≡ read_roomy here line
+      unfolding read_form
+      roomy_line x k e p = p ∙ sym (read_as (some (line_from k ns)) (line_is k e))
 
-      pub roomy-nothing : (r : Reader) → g ≡ Given.Nothing → r ≡ refused 51 s → lent r T P N I M ≡ readRoomy here line
+      pub roomy_nothing : (r : Reader) → g ≡ Given.Nothing → r ≡ refused 51 s → lent r T P N I M ≡ read_roomy here line
       unfolding given
-      roomy-nothing r e p =
+      roomy_nothing r e p =
           let no : line_of line ≡ none = sym (sym (ap (λ (x : Given). given x ns) e) ∙ q) in
-          ap (λ (x : Reader). lent x T P N I M) p ∙ over-refused 51 (held_of s T P N I M v.held) ∙ sym (read_as none no)
+          ap (λ (x : Reader). lent x T P N I M) p ∙ over_refused 51 (held_of s T P N I M v.held) ∙ sym (read_as none no)
 
-  pub read-room : s.refusal ≡ 0 → (b : Bool) → b ≡ fits here → not b ≡ false → Roomy here
-  read-room clean b f n = record { clean = clean; held = sym f ∙ not-false b n }
+  pub read_room : s.refusal ≡ 0 → (b : Bool) → b ≡ fits here → not b ≡ false → Roomy here
+  read_room clean b f n = record { clean = clean; held = sym f ∙ not-false b n }
 
-  pub read-refused : (line : List ℕ) → (s.refusal ≡ 0 → ⊥) → here ≡ readInto here line
-  unfolding readInto
-  read-refused line n = rw (ne_eqb s.refusal 0 n, readInto)
+  pub read_refused : (line : List ℕ) → (s.refusal ≡ 0 → ⊥) → here ≡ read_into here line
+  unfolding read_into
+  read_refused line n = rw (ne_eqb s.refusal 0 n, read_into)
 
   module _ (line : List ℕ) (clean : s.refusal ≡ 0) (b : Bool) (f : b ≡ fits here) where
-    pub read-unfit : (r : Reader) → not b ≡ true → r ≡ refused 52 s → lent r T P N I M ≡ readInto here line
-    unfolding readInto
-    read-unfit r n e =
+    pub read_unfit : (r : Reader) → not b ≡ true → r ≡ refused 52 s → lent r T P N I M ≡ read_into here line
+    unfolding read_into
+    read_unfit r n e =
         let no : fits here ≡ false = sym f ∙ not-true b n in
-        ap (λ (x : Reader). lent x T P N I M) e ∙ sym (rw (eq-eqb s.refusal 0 clean, no, readInto))
+        ap (λ (x : Reader). lent x T P N I M) e ∙ sym (rw (eq-eqb s.refusal 0 clean, no, read_into))
 
-    pub read-roomy : (x : Lent) → not b ≡ false → x ≡ readRoomy here line → x ≡ readInto here line
-    unfolding readInto readRoomy
-    read-roomy x n e =
+    pub read_roomy_lem : (x : Lent) → not b ≡ false → x ≡ read_roomy here line → x ≡ read_into here line
+    unfolding read_into read_roomy
+    read_roomy_lem x n e =
         let yes : fits here ≡ true = sym f ∙ not-false b n in
-        e ∙ sym (rw (eq-eqb s.refusal 0 clean, yes, readInto))
+        e ∙ sym (rw (eq-eqb s.refusal 0 clean, yes, read_into))

@@ -1,7 +1,7 @@
 // A sheet read line by line: the order of its lines and its limits.
 
 ghost use Rattle.std.specs.Prelude.{◌≡◌};
-ghost use Rattle.sheet_reader_state.specs.Slices.{lent, readForm, readInto, readRoomy};
+ghost use Rattle.sheet_reader_state.specs.Slices.{lent, read_form, read_into, read_roomy};
 ghost use Rattle.sheet_line_effects.specs.Added.{Fitting, Roomy};
 
 use sheet_ends::refuse;
@@ -24,7 +24,7 @@ fn with_form(
 ) -> Reader
     requires { Fitting (lent s table.old positions.old normals.old indices.old materials.old) k numbers.now }
     ensures { lent result table.new positions.new normals.new indices.new materials.new
-        ≡ readForm (lent s table.old positions.old normals.old indices.old materials.old) k
+        ≡ read_form (lent s table.old positions.old normals.old indices.old materials.old) k
         numbers.now }
 {
     let limits = s.limits;
@@ -47,7 +47,7 @@ fn read_roomy(
 ) -> Reader
     requires { Roomy (lent s table.old positions.old normals.old indices.old materials.old) }
     ensures { lent result table.new positions.new normals.new indices.new materials.new
-        ≡ readRoomy (lent s table.old positions.old normals.old indices.old materials.old)
+        ≡ read_roomy (lent s table.old positions.old normals.old indices.old materials.old)
         line.now }
 {
     let mut numbers = [0u64; 7];
@@ -71,7 +71,7 @@ pub fn read_line(
     materials: &mut [u64],
 ) -> Reader
     ensures { lent result table.new positions.new normals.new indices.new materials.new
-        ≡ readInto (lent s table.old positions.old normals.old indices.old materials.old)
+        ≡ read_into (lent s table.old positions.old normals.old indices.old materials.old)
         line.now }
 {
     let before = s.refusal;

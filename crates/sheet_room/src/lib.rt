@@ -1,10 +1,10 @@
 // Whether the lent slices have room for every sheet within the limits, and hold what the reader counts.
 
 ghost use Rattle.std.specs.Prelude.{◌≡◌, ◌*◌, ◌≤◌, leb, length};
-ghost use Rattle.body_rows.specs.Body.{rowWidth};
-ghost use Rattle.body_refusals.specs.TableChecks.{mostRows};
+ghost use Rattle.body_rows.specs.Body.{row_width};
+ghost use Rattle.body_refusals.specs.TableChecks.{most_rows};
 ghost use Rattle.sheet_reader_state.specs.Limits.{Small};
-ghost use Rattle.sheet_reader_state.specs.Slices.{countsIn, fitsIn, inLimits, lastFits, ofBodies, room_for};
+ghost use Rattle.sheet_reader_state.specs.Slices.{counts_in, fits_in, in_limits, last_fits, of_bodies, room_for};
 
 use body_rows::{INDICES_BACK, ROW_WIDTH, VERTICES_BACK};
 use body_table_checks::{MOST_ROWS, too_many};
@@ -20,9 +20,9 @@ fn within(count: u32, limit: usize) -> bool
 
 // Whether the last row's counts are within the limits; without a row no line of a face has been read.
 fn last_fits(limits: Limits, place: u32, rows: usize, table: &[u32]) -> bool
-    requires rows_in_bounds { rowWidth * rows ≤ length table.now }
-    requires rows_le_most_rows { rows ≤ mostRows }
-    ensures { result ≡ lastFits limits place rows table.now }
+    requires rows_in_bounds { row_width * rows ≤ length table.now }
+    requires rows_le_most_rows { rows ≤ most_rows }
+    ensures { result ≡ last_fits limits place rows table.now }
 {
     if rows == 0 {
         return place < 4;
@@ -35,7 +35,7 @@ fn last_fits(limits: Limits, place: u32, rows: usize, table: &[u32]) -> bool
 
 // Whether a body may have so many rows, vertices and indices.
 fn of_bodies(limits: Limits) -> bool
-    ensures { result ≡ ofBodies limits }
+    ensures { result ≡ of_bodies limits }
 {
     if MOST_ROWS < limits.rows {
         return false;
@@ -72,7 +72,7 @@ fn room_for(
 
 // Whether a reader counts no more than the limits.
 fn counts_in(limits: Limits, rows: usize, vertices: usize, indices: usize) -> bool
-    ensures { result ≡ countsIn limits rows vertices indices }
+    ensures { result ≡ counts_in limits rows vertices indices }
 {
     if limits.rows < rows {
         return false;
@@ -92,7 +92,7 @@ pub fn in_limits(
     indices: usize,
     materials: usize,
 ) -> bool
-    ensures { result ≡ inLimits s table positions normals indices materials }
+    ensures { result ≡ in_limits s table positions normals indices materials }
 {
     let limits = s.limits;
     if !of_bodies(limits) {
@@ -113,7 +113,7 @@ pub fn fits(
     indices: usize,
     materials: usize,
 ) -> bool
-    ensures { result ≡ fitsIn s table.now positions normals indices materials }
+    ensures { result ≡ fits_in s table.now positions normals indices materials }
 {
     if !in_limits(s, table.len(), positions, normals, indices, materials) {
         return false;

@@ -8,12 +8,12 @@ abbrev pub placed : List ℕ → ℕ → List ℕ → List ℕ
 placed xs i vs = take i xs ++ (vs ++ drop (i + length vs) xs)
 
 -- three numbers from a place on, their low 32 bits
-abbrev pub lowThree : List ℕ → ℕ → List ℕ
-lowThree ns i = at ns i % 2 ^ 32 ∷ at ns (i + 1) % 2 ^ 32 ∷ at ns (i + 2) % 2 ^ 32 ∷ []
+abbrev pub low_three : List ℕ → ℕ → List ℕ
+low_three ns i = at ns i % 2 ^ 32 ∷ at ns (i + 1) % 2 ^ 32 ∷ at ns (i + 2) % 2 ^ 32 ∷ []
 
 -- three numbers at a place, and what follows them, by equal numbers
-pub three-same : {W : List ℕ} (S : List ℕ) (i : ℕ) (rest : List ℕ) {x x' y y' z z' : ℕ} → x ≡ x' → y ≡ y' → z ≡ z' → W ≡ placed S i (x ∷ y ∷ z ∷ rest) → W ≡ placed S i (x' ∷ y' ∷ z' ∷ rest)
-three-same S i rest {x} {x'} {y} {y'} {z} {z'} p q o e =
+pub three_same : {W : List ℕ} (S : List ℕ) (i : ℕ) (rest : List ℕ) {x x' y y' z z' : ℕ} → x ≡ x' → y ≡ y' → z ≡ z' → W ≡ placed S i (x ∷ y ∷ z ∷ rest) → W ≡ placed S i (x' ∷ y' ∷ z' ∷ rest)
+three_same S i rest {x} {x'} {y} {y'} {z} {z'} p q o e =
     e
     ∙ ap (λ (n : ℕ). placed S i (n ∷ y ∷ z ∷ rest)) p
     ∙ ap (λ (n : ℕ). placed S i (x' ∷ n ∷ z ∷ rest)) q

@@ -1,8 +1,8 @@
 // Numbers of 32 bits stored side by side.
 
 ghost use Rattle.std.specs.Prelude.{◌≡◌, ◌∷◌, [], ◌+◌, ◌%◌, ◌^◌, ◌<◌, ◌≤◌, length, get_or, set};
-ghost use Rattle.body_rows.specs.Body.{rowWidth};
-ghost use Rattle.sheet_storing.specs.Placed.{lowThree, placed};
+ghost use Rattle.body_rows.specs.Body.{row_width};
+ghost use Rattle.sheet_storing.specs.Placed.{low_three, placed};
 
 // The low 32 bits.
 pub fn low(n: u64) -> u32
@@ -25,7 +25,7 @@ pub fn store_three(s: &mut [u32], at: usize, a: u32, b: u32, c: u32)
 pub fn store_low(s: &mut [u32], at: usize, numbers: &[u64], i: usize)
     requires at_in_bounds { at + 3 ≤ length s.old }
     requires i_in_bounds { i + 3 ≤ length numbers.now }
-    ensures { s.new ≡ placed s.old at (lowThree numbers.now i) }
+    ensures { s.new ≡ placed s.old at (low_three numbers.now i) }
 {
     let a = low(numbers[i]);
     let b = low(numbers[i + 1]);
@@ -35,7 +35,7 @@ pub fn store_low(s: &mut [u32], at: usize, numbers: &[u64], i: usize)
 
 // A row from a place on, its counts 0.
 pub fn store_row(s: &mut [u32], at: usize, shell: u32, face: u32, outcome: u32, bin: u32)
-    requires { at + rowWidth ≤ length s.old }
+    requires { at + row_width ≤ length s.old }
     ensures { s.new ≡ placed s.old at (shell ∷ face ∷ outcome ∷ 0 ∷ 0 ∷ bin ∷ []) }
 {
     s[at] = shell;

@@ -12,16 +12,16 @@ use mir.Val.{Fits, SFits, to_z}
 use mir.ValLaws.{to_z-of_z, to_z_pos}
 use Rattle.signed_numbers.specs.Range.{farthest, within}
 use Rattle.signed_numbers.specs.Linear.{up, down, alone, abs, plus, minus, at_most, below}
-use Rattle.signed_numbers.specs.Bits.{read, small-fits, small-read, not_negative}
+use Rattle.signed_numbers.specs.Bits.{read, small_fits, small_read, not_negative}
 
 -- ---- the range
-pub under-range : (x : ℤ) → SFits w64 x → lt_z (read x) (negsuc 1099511627775) ≡ true → false ≡ within x
-under-range x f e =
+pub under_range : (x : ℤ) → SFits w64 x → lt_z (read x) (negsuc 1099511627775) ≡ true → false ≡ within x
+under_range x f e =
     let test : ltb (up x + suc 1099511627775) (0 + down x) ≡ true = sym (below x (negsuc 1099511627775)) ∙ ap (λ (z : ℤ). lt_z z (negsuc 1099511627775)) (sym (to_z-of_z w64 x f)) ∙ e in
     sym (lt-leb (nat_abs x) farthest (omega (arith, abs x, ltb-true (up x + suc 1099511627775) (0 + down x) test)))
 
-pub from-range : (x : ℤ) → SFits w64 x → lt_z (read x) (negsuc 1099511627775) ≡ false → le_z (read x) (pos 1099511627776) ≡ within x
-from-range x f e =
+pub from_range : (x : ℤ) → SFits w64 x → lt_z (read x) (negsuc 1099511627775) ≡ false → le_z (read x) (pos 1099511627776) ≡ within x
+from_range x f e =
     let test : ltb (up x + suc 1099511627775) (0 + down x) ≡ false = sym (below x (negsuc 1099511627775)) ∙ ap (λ (z : ℤ). lt_z z (negsuc 1099511627775)) (sym (to_z-of_z w64 x f)) ∙ e in
     ap (λ (z : ℤ). le_z z (pos 1099511627776)) (to_z-of_z w64 x f) ∙ at_most x (pos 1099511627776)
     ∙ go (leb (nat_abs x) farthest) refl (ltb-false (up x + suc 1099511627775) (0 + down x) test)
@@ -36,27 +36,27 @@ module _ (x : ℤ) (l : nat_abs x ≤ farthest) where
   word_small = omega (arith, plus x (pos farthest), alone (x +ℤ pos farthest), abs x, abs (x +ℤ pos farthest))
 
   pub word_fits : SFits w64 (x +ℤ pos farthest)
-  word_fits = small-fits (x +ℤ pos farthest) word_small
+  word_fits = small_fits (x +ℤ pos farthest) word_small
 
-  pub word-sign : T (non_neg (x +ℤ pos farthest))
-  word-sign = not_negative (x +ℤ pos farthest) (let e : down (x +ℤ pos farthest) ≡ 0 = omega (arith, plus x (pos farthest), alone (x +ℤ pos farthest), abs x) in e)
+  pub word_sign : T (non_neg (x +ℤ pos farthest))
+  word_sign = not_negative (x +ℤ pos farthest) (let e : down (x +ℤ pos farthest) ≡ 0 = omega (arith, plus x (pos farthest), alone (x +ℤ pos farthest), abs x) in e)
 
   pub word_size : Fits w64 (nat_abs (x +ℤ pos farthest))
   word_size = record { fits = omega (arith, word_small) }
 
-  pub word-is : pos (nat_abs (x +ℤ pos farthest)) ≡ x +ℤ pos farthest
-  word-is = pos-nat_abs (x +ℤ pos farthest) word-sign
+  pub word_is : pos (nat_abs (x +ℤ pos farthest)) ≡ x +ℤ pos farthest
+  word_is = pos-nat_abs (x +ℤ pos farthest) word_sign
 
 -- ---- a bias less than a word
 module _ (n bias : ℕ) (l : n ≤ 2 ^ 62) (m : bias ≤ 2 ^ 62) where
-  less-plain : to_z w64 n -ℤ to_z w64 bias ≡ pos n -ℤ pos bias
-  less-plain = ap (λ (y : ℤ). y -ℤ to_z w64 bias) (to_z_pos w64 n (omega arith)) ∙ ap (λ (y : ℤ). pos n -ℤ y) (to_z_pos w64 bias (omega arith))
+  less_plain : to_z w64 n -ℤ to_z w64 bias ≡ pos n -ℤ pos bias
+  less_plain = ap (λ (y : ℤ). y -ℤ to_z w64 bias) (to_z_pos w64 n (omega arith)) ∙ ap (λ (y : ℤ). pos n -ℤ y) (to_z_pos w64 bias (omega arith))
 
-  less-small : nat_abs (pos n -ℤ pos bias) ≤ 2 ^ 62
-  less-small = omega (arith, minus (pos n) (pos bias), alone (pos n -ℤ pos bias), abs (pos n -ℤ pos bias))
+  less_small : nat_abs (pos n -ℤ pos bias) ≤ 2 ^ 62
+  less_small = omega (arith, minus (pos n) (pos bias), alone (pos n -ℤ pos bias), abs (pos n -ℤ pos bias))
 
-  pub less-fits : SFits w64 (to_z w64 n -ℤ to_z w64 bias)
-  less-fits = subst (SFits w64) (sym less-plain) (small-fits _ less-small)
+  pub less_fits : SFits w64 (to_z w64 n -ℤ to_z w64 bias)
+  less_fits = subst (SFits w64) (sym less_plain) (small_fits _ less_small)
 
-  pub less-is : read (to_z w64 n -ℤ to_z w64 bias) ≡ pos n -ℤ pos bias
-  less-is = ap read less-plain ∙ small-read _ less-small
+  pub less_is : read (to_z w64 n -ℤ to_z w64 bias) ≡ pos n -ℤ pos bias
+  less_is = ap read less_plain ∙ small_read _ less_small

@@ -4,19 +4,19 @@ use Rattle.std.proofs.Common.{sym, ap, ◌∙◌, subst, arith, Fits, SFits, to_
 use Rattle.std.specs.Int.Signed.{non_neg, pos-nat_abs}
 use Rattle.std.specs.Int.{w64}
 use Rattle.std.proofs.lemmas.Int.{to_z-of_z, to_z_pos}
-use Rattle.signed_numbers.specs.Linear.{up, down, mag-abs}
+use Rattle.signed_numbers.specs.Linear.{up, down, mag_abs}
 
 -- as the machine reads it
 abbrev pub read : ℤ → ℤ
 read x = to_z w64 (of_z w64 x)
 
 -- a number within 2^62 fits
-pub small-fits : (z : ℤ) → nat_abs z ≤ 2 ^ 62 → SFits w64 z
-small-fits z h = record { sfits = omega (arith, mag-abs z) }
+pub small_fits : (z : ℤ) → nat_abs z ≤ 2 ^ 62 → SFits w64 z
+small_fits z h = record { sfits = omega (arith, mag_abs z) }
 
 -- and is read back
-pub small-read : (z : ℤ) → nat_abs z ≤ 2 ^ 62 → read z ≡ z
-small-read z h = to_z-of_z w64 z (small-fits z h)
+pub small_read : (z : ℤ) → nat_abs z ≤ 2 ^ 62 → read z ≡ z
+small_read z h = to_z-of_z w64 z (small_fits z h)
 
 -- not negative
 pub not_negative : (z : ℤ) → down z ≡ 0 → T (non_neg z)

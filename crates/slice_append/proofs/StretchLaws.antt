@@ -8,8 +8,8 @@ use native.Mathlib.Omega.{arith}
 use lib.ListN.{length, get_or, take, drop, set, length-set, length-drop, length-map}
 use lib.Seq.{sets, take-suc, length-take-le, get_or-drop}
 use lib.Ieee.{Float}
-use Rattle.lists.specs.Sets.{sets-append}
-use Rattle.slice_append.specs.Appended.{Appended, appended-sets}
+use Rattle.lists.specs.Sets.{sets_append}
+use Rattle.slice_append.specs.Appended.{Appended, appended_sets}
 use Rattle.slice_append.specs.Ready.{StretchReady, MovedReady}
 
 module _ {A B : Type 0} (f : A → B) where
@@ -20,43 +20,43 @@ module _ {A B : Type 0} (f : A → B) where
     pub long : length ys ≡ length old
 
   -- none is written yet
-  pub stretching-none : (from : List A) (start end o : ℕ) (old : List B) → Stretching from start end o old 0 old
-  stretching-none from start end o old = record { low = omega arith; list = refl; long = refl }
+  pub stretching_none : (from : List A) (start end o : ℕ) (old : List B) → Stretching from start end o old 0 old
+  stretching_none from start end o old = record { low = omega arith; list = refl; long = refl }
 
   -- a stretch of k items has k
-  stretch-long : (from : List A) (start k : ℕ) → start + k ≤ length from → length (map f (take k (drop start from))) ≡ k
-  stretch-long from start k h = length-map (take k (drop start from)) f ∙ length-take-le k (drop start from) (omega (arith, length-drop start from))
+  stretch_long : (from : List A) (start k : ℕ) → start + k ≤ length from → length (map f (take k (drop start from))) ≡ k
+  stretch_long from start k h = length-map (take k (drop start from)) f ∙ length-take-le k (drop start from) (omega (arith, length-drop start from))
 
   -- the item that follows
-  stretch-next : (from : List A) (old : List B) (start o k : ℕ) (d : A) → start + k < length from
+  stretch_next : (from : List A) (old : List B) (start o k : ℕ) (d : A) → start + k < length from
       → set (sets old o (map f (take k (drop start from)))) (o + k) (f (get_or from (start + k) d)) ≡ sets old o (map f (take (k + 1) (drop start from)))
-  stretch-next from old start o k d h =
+  stretch_next from old start o k d h =
       let s = drop start from in
       let x = get_or s k d in
       let done = map f (take k s) in
       ap (λ (v : A). set (sets old o done) (o + k) (f v)) (sym (get_or-drop start from k d))
-      ∙ ap (λ (j : ℕ). set (sets old o done) (o + j) (f x)) (sym (stretch-long from start k (omega arith)))
-      ∙ sym (sets-append old o done (f x ∷ []))
+      ∙ ap (λ (j : ℕ). set (sets old o done) (o + j) (f x)) (sym (stretch_long from start k (omega arith)))
+      ∙ sym (sets_append old o done (f x ∷ []))
       ∙ ap (sets old o)
       (sym (map-append f (take k s) (x ∷ [])) ∙ ap (map f) (sym (take-suc s k d (omega (arith, length-drop start from))) ∙ ap (λ (j : ℕ). take j s) (sym (add-one k))))
 
   -- one more is
-  pub stretching-more : {from : List A} {old ys : List B} {start end o k : ℕ} (d : A) → start ≤ end → end ≤ length from → Stretching from start end o old k ys → k < end - start
+  pub stretching_more : {from : List A} {old ys : List B} {start end o k : ℕ} (d : A) → start ≤ end → end ≤ length from → Stretching from start end o old k ys → k < end - start
       → Stretching from start end o old (k + 1) (set ys (o + k) (f (get_or from (start + k) d)))
-  stretching-more {from} {old} {ys} {start} {end} {o} {k} d r s c h =
+  stretching_more {from} {old} {ys} {start} {end} {o} {k} d r s c h =
       record {
         low = omega arith;
-        list = ap (λ (v : List B). set v (o + k) (f (get_or from (start + k) d))) c.list ∙ stretch-next from old start o k d (omega arith);
+        list = ap (λ (v : List B). set v (o + k) (f (get_or from (start + k) d))) c.list ∙ stretch_next from old start o k d (omega arith);
         long = simp length-set c.long;
       }
 
   -- all are
-  pub stretching-all : {from : List A} {old ys : List B} {start end o k : ℕ} → start ≤ end → end ≤ length from → o + (end - start) ≤ length old → Stretching from start end o old k ys → end - start ≤ k
+  pub stretching_all : {from : List A} {old ys : List B} {start end o k : ℕ} → start ≤ end → end ≤ length from → o + (end - start) ≤ length old → Stretching from start end o old k ys → end - start ≤ k
       → Appended o (map f (take (end - start) (drop start from))) old ys
-  stretching-all {from} {old} {ys} {start} {end} {o} {k} r s room c h =
+  stretching_all {from} {old} {ys} {start} {end} {o} {k} r s room c h =
       let n = end - start in
-      let long = stretch-long from start n (omega arith) in
-      appended-sets (omega arith) (c.list ∙ ap (λ (j : ℕ). sets old o (map f (take j (drop start from)))) (le_antisymm c.low h))
+      let long = stretch_long from start n (omega arith) in
+      appended_sets (omega arith) (c.list ∙ ap (λ (j : ℕ). sets old o (map f (take j (drop start from)))) (le_antisymm c.low h))
 
 -- ---- floats as they are
 
@@ -65,15 +65,15 @@ abbrev pub Copying : List Float → ℕ → ℕ → ℕ → List Float → ℕ �
 Copying from start end o old k ys = Stretching (λ (x : Float). x) from start end o old k ys
 
 -- one more is
-pub copying-more : {from old ys : List Float} {start end o k : ℕ} (d : Float) → StretchReady from start end old o → Copying from start end o old k ys → k < end - start
+pub copying_more : {from old ys : List Float} {start end o k : ℕ} (d : Float) → StretchReady from start end old o → Copying from start end o old k ys → k < end - start
     → Copying from start end o old (k + 1) (set ys (o + k) (get_or from (start + k) d))
-copying-more d r c h = stretching-more (λ (x : Float). x) d r.order r.inside c h
+copying_more d r c h = stretching_more (λ (x : Float). x) d r.order r.inside c h
 
 -- all are
-pub copying-all : {from old ys : List Float} {start end o k : ℕ} → StretchReady from start end old o → Copying from start end o old k ys → end - start ≤ k
+pub copying_all : {from old ys : List Float} {start end o k : ℕ} → StretchReady from start end old o → Copying from start end o old k ys → end - start ≤ k
     → Appended o (take (end - start) (drop start from)) old ys
-copying-all {from} {old} {ys} {start} {end} {o} r c h =
-    subst (λ (xs : List Float). Appended o xs old ys) (map-id (take (end - start) (drop start from))) (stretching-all (λ (x : Float). x) r.order r.inside r.room c h)
+copying_all {from} {old} {ys} {start} {end} {o} r c h =
+    subst (λ (xs : List Float). Appended o xs old ys) (map-id (take (end - start) (drop start from))) (stretching_all (λ (x : Float). x) r.order r.inside r.room c h)
 
 -- ---- indices moved
 
@@ -82,16 +82,16 @@ abbrev pub Moving : List ℕ → ℕ → ℕ → ℕ → ℕ → List ℕ → �
 Moving from start end base o old k ys = Stretching (λ (i : ℕ). base + i) from start end o old k ys
 
 -- the next stays below 2 ^ 32
-pub moving-small : {from old ys : List ℕ} {start end base o k : ℕ} → MovedReady from start end base old o → Moving from start end base o old k ys → k < end - start
+pub moving_small : {from old ys : List ℕ} {start end base o k : ℕ} → MovedReady from start end base old o → Moving from start end base o old k ys → k < end - start
     → base + get_or from (start + k) 0 < 4294967296
-moving-small {start = start} {k = k} r c h = r.small (start + k) (omega arith) (omega arith)
+moving_small {start = start} {k = k} r c h = r.small (start + k) (omega arith) (omega arith)
 
 -- one more is
-pub moving-more : {from old ys : List ℕ} {start end base o k : ℕ} (d : ℕ) → MovedReady from start end base old o → Moving from start end base o old k ys → k < end - start
+pub moving_more : {from old ys : List ℕ} {start end base o k : ℕ} (d : ℕ) → MovedReady from start end base old o → Moving from start end base o old k ys → k < end - start
     → Moving from start end base o old (k + 1) (set ys (o + k) (base + get_or from (start + k) d))
-moving-more {base = base} d r c h = stretching-more (λ (i : ℕ). base + i) d r.order r.inside c h
+moving_more {base = base} d r c h = stretching_more (λ (i : ℕ). base + i) d r.order r.inside c h
 
 -- all are
-pub moving-all : {from old ys : List ℕ} {start end base o k : ℕ} → MovedReady from start end base old o → Moving from start end base o old k ys → end - start ≤ k
+pub moving_all : {from old ys : List ℕ} {start end base o k : ℕ} → MovedReady from start end base old o → Moving from start end base o old k ys → end - start ≤ k
     → Appended o (map (λ i. base + i) (take (end - start) (drop start from))) old ys
-moving-all {base = base} r c h = stretching-all (λ (i : ℕ). base + i) r.order r.inside r.room c h
+moving_all {base = base} r c h = stretching_all (λ (i : ℕ). base + i) r.order r.inside r.room c h

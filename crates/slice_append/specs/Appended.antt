@@ -7,8 +7,8 @@ use Rattle.std.proofs.Math.Nat.{zero-add}
 use Rattle.std.proofs.Math.ListN.{length, take, drop}
 use Rattle.std.proofs.lemmas.List.Edits.{sets, sets-eq}
 use Rattle.lists.specs.Lists.{written}
-use Rattle.lists.specs.Sets.{drop-sets}
-use Rattle.lists.specs.Stretches.{rest-less}
+use Rattle.lists.specs.Sets.{drop_sets}
+use Rattle.lists.specs.Stretches.{rest_less}
 
 -- `out` became `new`: from place o on the items xs were written, and all else is as it was
 pub record Appended {A : Type 0} (o : ℕ) (xs out new : List A) : Type 0 where
@@ -17,15 +17,15 @@ pub record Appended {A : Type 0} (o : ℕ) (xs out new : List A) : Type 0 where
 
 module _ {A : Type 0} where
   -- nothing was appended
-  pub appended-none : (o : ℕ) (out : List A) → Appended o [] out out
-  appended-none o out = record {
+  pub appended_none : (o : ℕ) (out : List A) → Appended o [] out out
+  appended_none o out = record {
     content = ap (λ (n : ℕ). take n out) (add-zero o) ∙ sym (append-nil (take o out));
     rest = refl;
   }
 
   -- appended twice is appended once
-  pub appended-twice : {o : ℕ} {xs ys out mid new : List A} → Appended o xs out mid → Appended (o + length xs) ys mid new → Appended o (xs ++ ys) out new
-  appended-twice {o} {xs} {ys} {out} {mid} {new} p q =
+  pub appended_twice : {o : ℕ} {xs ys out mid new : List A} → Appended o xs out mid → Appended (o + length xs) ys mid new → Appended o (xs ++ ys) out new
+  appended_twice {o} {xs} {ys} {out} {mid} {new} p q =
       let e : o + length (xs ++ ys) ≡ o + length xs + length ys = omega (arith, length-append xs ys) in
       record {
         content =
@@ -36,35 +36,35 @@ module _ {A : Type 0} where
         rest =
             ap (λ (n : ℕ). drop n new) e
             ∙ q.rest
-            ∙ rest-less (o + length xs) (o + length xs + length ys) out mid p.rest (omega arith)
+            ∙ rest_less (o + length xs) (o + length xs + length ys) out mid p.rest (omega arith)
             ∙ ap (λ (n : ℕ). drop n out) (sym e);
       }
 
   -- from the place p where the first ended
   pub appended_then : {o p : ℕ} {xs ys out mid new : List A} → Appended o xs out mid → p ≡ o + length xs → Appended p ys mid new → Appended o (xs ++ ys) out new
-  appended_then {ys = ys} {mid = mid} {new = new} a e b = appended-twice a (subst (λ (n : ℕ). Appended n ys mid new) e b)
+  appended_then {ys = ys} {mid = mid} {new = new} a e b = appended_twice a (subst (λ (n : ℕ). Appended n ys mid new) e b)
 
   -- what was appended from place 0 on was written to the front
-  pub appended-written : {xs out new : List A} → Appended 0 xs out new → new ≡ written xs out
+  pub appended_written : {xs out new : List A} → Appended 0 xs out new → new ≡ written xs out
   unfolding written
-  appended-written {xs} {out} {new} p =
+  appended_written {xs} {out} {new} p =
       let e = zero-add (length xs) in
       sym (take-append-drop (length xs) new)
       ∙ ap (λ (l : List A). l ++ drop (length xs) new) (ap (λ (n : ℕ). take n new) (sym e) ∙ p.content)
       ∙ ap (λ (l : List A). xs ++ l) (ap (λ (n : ℕ). drop n new) (sym e) ∙ p.rest ∙ ap (λ (n : ℕ). drop n out) e)
 
   -- what was appended from place o on stands behind what was there
-  pub appended-behind : {o : ℕ} {xs out new : List A} → Appended o xs out new → new ≡ take o out ++ written xs (drop o out)
+  pub appended_behind : {o : ℕ} {xs out new : List A} → Appended o xs out new → new ≡ take o out ++ written xs (drop o out)
   unfolding written
-  appended-behind {o} {xs} {out} {new} p =
+  appended_behind {o} {xs} {out} {new} p =
       sym (take-append-drop (o + length xs) new)
       ∙ (λ j. p.content j ++ p.rest j)
       ∙ append_assoc (take o out) xs (drop (o + length xs) out)
       ∙ ap (λ (l : List A). take o out ++ (xs ++ l)) (sym (drop-drop (length xs) o out))
 
   -- a slice with room for what was appended is as long as it was
-  pub appended-long : {o : ℕ} {xs out new : List A} → Appended o xs out new → o + length xs ≤ length out → length new ≡ length out
-  appended-long {o} {xs} {out} {new} p h =
+  pub appended_long : {o : ℕ} {xs out new : List A} → Appended o xs out new → o + length xs ≤ length out → length new ≡ length out
+  appended_long {o} {xs} {out} {new} p h =
       let n = o + length xs in
       let front : length (take n new) ≡ n = ap length p.content ∙ length-append (take o out) xs ∙ ap (λ (m : ℕ). m + length xs) (length-take-le o out (omega arith)) in
       let back : length new - n ≡ length out - n = sym (length-drop n new) ∙ ap length p.rest ∙ length-drop n out in
@@ -72,13 +72,13 @@ module _ {A : Type 0} where
       omega arith
 
   -- a run of stores appends what was stored
-  pub appended-sets : {o : ℕ} {xs out new : List A} → o + length xs ≤ length out → new ≡ sets out o xs → Appended o xs out new
-  appended-sets {o} {xs} {out} {new} h e =
+  pub appended_sets : {o : ℕ} {xs out new : List A} → o + length xs ≤ length out → new ≡ sets out o xs → Appended o xs out new
+  appended_sets {o} {xs} {out} {new} h e =
       let n = o + length xs in
       let long : length (take o out ++ xs) ≡ n = length-append (take o out) xs ∙ ap (λ (m : ℕ). m + length xs) (length-take-le o out (omega arith)) in
       record {
         content = ap (take n) (e ∙ sets-eq xs out o h) ∙ take_at (take o out ++ xs) (drop n out) n long;
-        rest = ap (drop n) e ∙ drop-sets out o xs n (omega arith);
+        rest = ap (drop n) e ∙ drop_sets out o xs n (omega arith);
       }
 
   -- what was appended behind p items that were appended is appended to them

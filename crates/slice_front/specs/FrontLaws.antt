@@ -3,13 +3,13 @@ use Rattle.std.specs.Prelude.{List, [], ◌∷◌, ◌++◌, ◌≡◌, refl, �
 use Rattle.std.proofs.Common.{sym, arith, length-take-le, take_all}
 
 module _ {A : Type 0} (n : ℕ) (s : List A) where
-  pub front-count : n ≤ length s → n ≡ length (take n s)
-  front-count h = sym (length-take-le n s h)
+  pub front_count : n ≤ length s → n ≡ length (take n s)
+  front_count h = sym (length-take-le n s h)
 
-  pub front-all : length s < n → s ≡ take n s
-  front-all h = sym (take_all n s (omega arith))
+  pub front_all : length s < n → s ≡ take n s
+  front_all h = sym (take_all n s (omega arith))
 
 -- a front of no elements that was lent and came back
-pub front-none : {A : Type 0} (front s : List A) → length front ≡ 0 → front ++ s ≡ s
-front-none [] s h = refl
-front-none (x ∷ front) s h = absurd (omega arith)
+pub front_none : {A : Type 0} (front s : List A) → length front ≡ 0 → front ++ s ≡ s
+front_none [] s h = refl
+front_none (x ∷ front) s h = absurd (omega arith)

@@ -5,8 +5,8 @@ ghost use Rattle.point_rules.specs.Rule.{names};
 ghost use Rattle.point_rules.specs.Points.{key};
 ghost use Rattle.body_rows.specs.Body.{rows_of, patches_of};
 ghost use Rattle.body_checks.specs.Accepted.{Passed};
-ghost use Rattle.stitch_definition.specs.Stitch.{stitchBody, stitchOf, stitchAccepted};
-ghost use Rattle.stitch_definition.specs.Answers.{slicesOf, leftStitch, stitchAnswered};
+ghost use Rattle.stitch_definition.specs.Stitch.{stitch_body, stitch_of, stitch_accepted};
+ghost use Rattle.stitch_definition.specs.Answers.{slices_of, left_stitch, stitch_answered};
 ghost use Rattle.stitch_result_checks.specs.Stitched.{StitchReady, BodyStitched};
 
 use stitch_accepted::{stitch_nothing, stitch_open};
@@ -28,7 +28,7 @@ fn stitch_rows(
     m: usize,
 ) -> Stitched
     requires { StitchReady rows.now positions.now normals.now indices.now w.old v m }
-    ensures { BodyStitched (stitchBody sag (names key positions.now)
+    ensures { BodyStitched (stitch_body sag (names key positions.now)
         (patches_of (rows_of rows.now) positions.now normals.now indices.now))
         out_rows.old out_rows.new out_positions.old out_positions.new out_normals.old
         out_normals.new
@@ -79,10 +79,10 @@ fn stitch_accepted(
     work: &mut [u64],
 ) -> Stitched
     requires { Passed rows.now positions.now normals.now indices.now (length work.old) }
-    ensures { leftStitch result (slicesOf out_rows.new out_positions.new out_normals.new out_indices.new
+    ensures { left_stitch result (slices_of out_rows.new out_positions.new out_normals.new out_indices.new
         work.new)
-        ≡ stitchAnswered (stitchAccepted rows.now positions.now normals.now indices.now sag
-        (slicesOf out_rows.old out_positions.old out_normals.old out_indices.old work.old)) }
+        ≡ stitch_answered (stitch_accepted rows.now positions.now normals.now indices.now sag
+        (slices_of out_rows.old out_positions.old out_normals.old out_indices.old work.old)) }
 {
     let v = body_rows::total_vertices(rows);
     let m = body_rows::row_count(rows);
@@ -118,10 +118,10 @@ pub fn stitch(
     out_indices: &mut [u32],
     work: &mut [u64],
 ) -> Stitched
-    ensures { leftStitch result (slicesOf out_rows.new out_positions.new out_normals.new out_indices.new
+    ensures { left_stitch result (slices_of out_rows.new out_positions.new out_normals.new out_indices.new
         work.new)
-        ≡ stitchAnswered (stitchOf key rows.now positions.now normals.now indices.now sag
-        (slicesOf out_rows.old out_positions.old out_normals.old out_indices.old work.old)) }
+        ≡ stitch_answered (stitch_of key rows.now positions.now normals.now indices.now sag
+        (slices_of out_rows.old out_positions.old out_normals.old out_indices.old work.old)) }
 {
     let refusal = body_checks::first_failing(rows, positions, normals, indices, work.len());
     if refusal == 0 {

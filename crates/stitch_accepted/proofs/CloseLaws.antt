@@ -9,58 +9,58 @@ use lib.ListN.{length, get_or}
 use lib.Ieee.{Float, nan, inf, fin, fits, binary32}
 use lib.Ieee.Scale as Scale
 use Rattle.float_steps.specs.Floats as Floats
-use Rattle.float_steps.specs.Patterns.{test-holds}
+use Rattle.float_steps.specs.Patterns.{test_holds}
 use Rattle.float_spans.specs.Small.{Single}
 use Rattle.lists.specs.Lists.{written}
 use Rattle.point_rules.specs.Rule.{names}
 use Rattle.point_rules.specs.Points.{key}
-use Rattle.body_rows.specs.Body.{rows_of, patches_of, firstFailing}
-use Rattle.body_checks.specs.Accepted.{passed-rows}
+use Rattle.body_rows.specs.Body.{rows_of, patches_of, first_failing}
+use Rattle.body_checks.specs.Accepted.{passed_rows}
 use Rattle.stitch_splits.specs.declared.finder.Finder.{Finder}
 use Rattle.stitch_definition.specs.declared.Stitched.TheVariants.{Done, Refused}
-use Rattle.stitch_definition.specs.StitchedBody.{stitchedBody}
-use Rattle.stitch_copy.specs.Copied.{BodyRoom, BodyCopied, flat_rows, flat-positions, flat-normals, flat-indices, flat-table}
+use Rattle.stitch_definition.specs.StitchedBody.{stitched_body}
+use Rattle.stitch_copy.specs.Copied.{BodyRoom, BodyCopied, flat_rows, flat_positions, flat_normals, flat_indices, flat_table}
 use Rattle.stitch_count.specs.Counting.{BodyCounted}
 use Rattle.stitch_count.specs.Prepared.{Preparable, Prepared}
-use Rattle.stitch_result_checks.specs.Results.{resultChecks, ResultFits, result_fits}
-use Rattle.stitch_result_checks.specs.Stitched.{StitchReady, BodyStitched, result-refused, result-written, words-needed}
+use Rattle.stitch_result_checks.specs.Results.{result_checks, ResultFits, result_fits}
+use Rattle.stitch_result_checks.specs.Stitched.{StitchReady, BodyStitched, result_refused, result_written, words_needed}
 use Rattle.stitch_write.specs.Writing.{BodyWritable, BodyWritten}
 use Rattle.stitch_copy.specs.Put.{Puttable}
 use Rattle.stitch_accepted.proofs.OpenLaws.{
-  vertices-are,
-  indices-many,
-  rows-many,
-  splits-is,
-  rows-there,
+  vertices_are,
+  indices_many,
+  rows_many,
+  splits_is,
+  rows_there,
   writable,
   table_is,
-  positions-is,
-  normals-is,
-  indices-is,
-  rest-written,
-  rest-counted,
-  kept-is,
+  positions_is,
+  normals_is,
+  indices_is,
+  rest_written,
+  rest_counted,
+  kept_is,
   kept_there,
-  failing-same,
+  failing_same,
 }
 
 -- a result that passed its checks fits
-pub sizes-fit : {vertices indices m r p n i refusal : ℕ} → refusal ≡ firstFailing (resultChecks vertices indices m r p n i) → refusal ≡ 0 → ResultFits vertices indices m r p n i
-sizes-fit {vertices} {indices} {m} {r} {p} {n} {i} e z = result_fits vertices indices m r p n i (sym e ∙ z)
+pub sizes_fit : {vertices indices m r p n i refusal : ℕ} → refusal ≡ first_failing (result_checks vertices indices m r p n i) → refusal ≡ 0 → ResultFits vertices indices m r p n i
+sizes_fit {vertices} {indices} {m} {r} {p} {n} {i} e z = result_fits vertices indices m r p n i (sym e ∙ z)
 
 -- the kit's test of a finite value says the same
-finite-is : (x : Float) → Floats.finite x ≡ true → T (Scale.finite x)
+finite_is : (x : Float) → Floats.finite x ≡ true → T (Scale.finite x)
 unfolding Floats.finite
-finite-is nan h = test-holds false h
-finite-is (inf s) h = test-holds false h
-finite-is (fin s m e) h = tt
+finite_is nan h = test_holds false h
+finite_is (inf s) h = test_holds false h
+finite_is (fin s m e) h = tt
 
 module _ {table : List ℕ} {ps ns : List Float} {is W : List ℕ} {v m : ℕ} (g : StitchReady table ps ns is W v m) where
-  all-positions : length ps ≡ 3 * v
-  all-positions = omega (arith, g.passed.all-positions, g.vertices)
+  all_positions : length ps ≡ 3 * v
+  all_positions = omega (arith, g.passed.all_positions, g.vertices)
 
-  pub all-normals : length ns ≡ 3 * v
-  all-normals = omega (arith, g.passed.all-normals, g.vertices)
+  pub all_normals : length ns ≡ 3 * v
+  all_normals = omega (arith, g.passed.all_normals, g.vertices)
 
   -- the rows are few
   pub rows_few : m ≤ 4096
@@ -68,7 +68,7 @@ module _ {table : List ℕ} {ps ns : List Float} {is W : List ℕ} {v m : ℕ} (
 
   -- a coordinate is finite by check 23
   coordinate : ((k : ℕ) → T (fits binary32 (get_or ps k nan))) → (k : ℕ) → k < 3 * v → Single (get_or ps k nan)
-  coordinate fit k l = record { fit = fit k; real = finite-is (get_or ps k nan) (g.passed.finite-positions k (omega (arith, all-positions))) }
+  coordinate fit k l = record { fit = fit k; real = finite_is (get_or ps k nan) (g.passed.finite_positions k (omega (arith, all_positions))) }
 
   -- the work area can be made ready: of a slice of f32 the language knows that each value is one
   pub preparable : ((k : ℕ) → T (fits binary32 (get_or ps k nan))) → Preparable table ps is W v m
@@ -78,18 +78,18 @@ module _ {table : List ℕ} {ps ns : List Float} {is W : List ℕ} {v m : ℕ} (
             record {
               body =
                   record {
-                    rows = passed-rows g.passed;
+                    rows = passed_rows g.passed;
                     count = sym g.rows;
                     vertices = sym g.vertices;
-                    few-vertices = omega (arith, g.vertices, g.passed.vertices);
-                    all-positions = all-positions;
-                    all-indices = g.passed.all-indices;
-                    few-indices = g.passed.indices;
+                    few_vertices = omega (arith, g.vertices, g.passed.vertices);
+                    all_positions = all_positions;
+                    all_indices_lem = g.passed.all_indices_lem;
+                    few_indices = g.passed.indices;
                     threes = g.passed.threes;
                     inside = g.passed.inside;
-                    room = omega (arith, words-needed g, g.passed.enough);
+                    room = omega (arith, words_needed g, g.passed.enough);
                   };
-              enough = omega (arith, words-needed g, g.passed.enough);
+              enough = omega (arith, words_needed g, g.passed.enough);
             };
         points = λ i l.
             record { x = coordinate fit (3 * i) (omega arith); y = coordinate fit (3 * i + 1) (omega arith); z = coordinate fit (3 * i + 2) (omega arith) };
@@ -97,98 +97,98 @@ module _ {table : List ℕ} {ps ns : List Float} {is W : List ℕ} {v m : ℕ} (
 
   module _ {sag : Float} {E X : List ℕ} {f : Finder} {found kept refusal : ℕ} (p : Prepared table ps is sag v m W E f)
       (c : BodyCounted table ps is f.sag f.v f.list f.count f.at f.ts f.flags E X found kept) (R : List ℕ) (P N : List Float) (I : List ℕ)
-      (e : refusal ≡ firstFailing (resultChecks (v + kept) (length is + 3 * kept) m (length R) (length P) (length N) (length I))) where
+      (e : refusal ≡ first_failing (result_checks (v + kept) (length is + 3 * kept) m (length R) (length P) (length N) (length I))) where
     -- the result is refused
-    pub open-refused : (refusal ≡ 0 → ⊥)
-        → BodyStitched (stitchedBody sag (names key ps) (patches_of (rows_of table) ps ns is)) R R P P N N I I (16 * length is + 16 * m + 4 * v) W X (Refused refusal)
-    open-refused n =
+    pub open_refused : (refusal ≡ 0 → ⊥)
+        → BodyStitched (stitched_body sag (names key ps) (patches_of (rows_of table) ps ns is)) R R P P N N I I (16 * length is + 16 * m + 4 * v) W X (Refused refusal)
+    open_refused n =
         record {
           same = λ work.
-              result-refused (stitchedBody sag (names key ps) (patches_of (rows_of table) ps ns is)) (rows-there ns p) R P N I work (vertices-are ns p) (indices-many ns p)
-              (g.rows ∙ rows-many ns p) (e ∙ failing-same ns p c m (length R) (length P) (length N) (length I)) n;
-          rest = rest-counted ns p c;
+              result_refused (stitched_body sag (names key ps) (patches_of (rows_of table) ps ns is)) (rows_there ns p) R P N I work (vertices_are ns p) (indices_many ns p)
+              (g.rows ∙ rows_many ns p) (e ∙ failing_same ns p c m (length R) (length P) (length N) (length I)) n;
+          rest = rest_counted ns p c;
         }
 
-    pub open-fits : refusal ≡ 0 → ResultFits (v + kept) (length is + 3 * kept) m (length R) (length P) (length N) (length I)
-    open-fits z = result_fits (v + kept) (length is + 3 * kept) m (length R) (length P) (length N) (length I) (sym e ∙ z)
+    pub open_fits : refusal ≡ 0 → ResultFits (v + kept) (length is + 3 * kept) m (length R) (length P) (length N) (length I)
+    open_fits z = result_fits (v + kept) (length is + 3 * kept) m (length R) (length P) (length N) (length I) (sym e ∙ z)
 
     -- the result can be written
-    pub open-writable : length X ≡ length E → refusal ≡ 0
+    pub open_writable : length X ≡ length E → refusal ≡ 0
         → BodyWritable table ps ns is f.sag f.beyond f.v f.list f.count f.at f.ts f.flags f.order f.boxes f.top X R P N I
-    open-writable l z =
-        let r = open-fits z in
-        writable ns p c l all-normals
+    open_writable l z =
+        let r = open_fits z in
+        writable ns p c l all_normals
         (record {
           vertices = r.vertices;
           indices = r.indices;
-          room-rows = omega
-              (arith, r.room-rows, g.rows);
-          room-positions = r.room-positions;
-          room-normals = r.room-normals;
-          room-indices = r.room-indices;
+          room_rows = omega
+              (arith, r.room_rows, g.rows);
+          room_positions = r.room_positions;
+          room_normals = r.room_normals;
+          room_indices = r.room_indices;
         })
 
     -- or copied, if there is no new vertex
-    pub open-puttable : length X ≡ length E → refusal ≡ 0
+    pub open_puttable : length X ≡ length E → refusal ≡ 0
         → Puttable table ps ns is f.sag f.beyond f.v f.list f.count f.at f.ts f.flags f.order f.boxes f.top kept X R P N I
-    open-puttable l z = let r = open-fits z in record { writable = open-writable l z; kept-is = sym (kept_there ns p c r.vertices r.indices) }
+    open_puttable l z = let r = open_fits z in record { writable = open_writable l z; kept_is = sym (kept_there ns p c r.vertices r.indices) }
 
     -- it was
     pub open_done : {F R' : List ℕ} {P' N' : List Float} {I' : List ℕ} → length X ≡ length E → refusal ≡ 0
         → BodyWritten table ps ns is f.sag f.v f.list f.count f.at f.ts f.flags X F R R' P P' N N' I I'
-        → BodyStitched (stitchedBody sag (names key ps) (patches_of (rows_of table) ps ns is)) R R' P P' N N' I I' (16 * length is + 16 * m + 4 * v) W F
+        → BodyStitched (stitched_body sag (names key ps) (patches_of (rows_of table) ps ns is)) R R' P P' N N' I I' (16 * length is + 16 * m + 4 * v) W F
         (Done (record { vertices = v + kept; indices = length is + 3 * kept; splits = found }))
     open_done {F} {R'} {P'} {N'} {I'} l z d =
-        let r = open-fits z in
-        let k = kept-is ns p c r.vertices r.indices in
+        let r = open_fits z in
+        let k = kept_is ns p c r.vertices r.indices in
         record {
           same = λ work.
-              result-written (stitchedBody sag (names key ps) (patches_of (rows_of table) ps ns is)) (rows-there ns p) R P N I work
-              (ap (λ (x : ℕ). v + x) k ∙ vertices-are ns p) (ap (λ (x : ℕ). length is + 3 * x) k ∙ indices-many ns p)
-              (g.rows ∙ rows-many ns p) e z (splits-is ns p c r.vertices r.indices)
-              (table_is ns p c l all-normals d) (positions-is ns p c l all-normals d) (normals-is ns p c l all-normals d) (indices-is ns p c l all-normals d);
-          rest = rest-written ns p c l all-normals d;
+              result_written (stitched_body sag (names key ps) (patches_of (rows_of table) ps ns is)) (rows_there ns p) R P N I work
+              (ap (λ (x : ℕ). v + x) k ∙ vertices_are ns p) (ap (λ (x : ℕ). length is + 3 * x) k ∙ indices_many ns p)
+              (g.rows ∙ rows_many ns p) e z (splits_is ns p c r.vertices r.indices)
+              (table_is ns p c l all_normals d) (positions_is ns p c l all_normals d) (normals_is ns p c l all_normals d) (indices_is ns p c l all_normals d);
+          rest = rest_written ns p c l all_normals d;
         }
 
   -- ---- a sag not above 0
 
-  module _ {refusal : ℕ} (R : List ℕ) (P N : List Float) (I : List ℕ) (e : refusal ≡ firstFailing (resultChecks v (length is) m (length R) (length P) (length N) (length I))) where
+  module _ {refusal : ℕ} (R : List ℕ) (P N : List Float) (I : List ℕ) (e : refusal ≡ first_failing (result_checks v (length is) m (length R) (length P) (length N) (length I))) where
     -- the copy is refused
-    pub nothing-refused : (refusal ≡ 0 → ⊥)
+    pub nothing_refused : (refusal ≡ 0 → ⊥)
         → BodyStitched (record { patches = patches_of (rows_of table) ps ns is; splits = 0 }) R R P P N N I I (16 * length is + 16 * m + 4 * v) W W (Refused refusal)
-    nothing-refused n =
+    nothing_refused n =
         record {
-          same = λ work. result-refused (record { patches = patches_of (rows_of table) ps ns is; splits = 0 }) (flat_rows (rows_of table) ps ns is) R P N I work g.vertices g.passed.all-indices
+          same = λ work. result_refused (record { patches = patches_of (rows_of table) ps ns is; splits = 0 }) (flat_rows (rows_of table) ps ns is) R P N I work g.vertices g.passed.all_indices_lem
               g.rows e n;
           rest = refl;
         }
 
-    pub nothing-fits : refusal ≡ 0 → ResultFits v (length is) m (length R) (length P) (length N) (length I)
-    nothing-fits z = result_fits v (length is) m (length R) (length P) (length N) (length I) (sym e ∙ z)
+    pub nothing_fits : refusal ≡ 0 → ResultFits v (length is) m (length R) (length P) (length N) (length I)
+    nothing_fits z = result_fits v (length is) m (length R) (length P) (length N) (length I) (sym e ∙ z)
 
     -- it can be made
-    pub copy-room : refusal ≡ 0 → BodyRoom table ps ns is R P N I
-    copy-room z =
-        let r = nothing-fits z in
+    pub copy_room : refusal ≡ 0 → BodyRoom table ps ns is R P N I
+    copy_room z =
+        let r = nothing_fits z in
         record {
-          rows = omega (arith, r.room-rows, g.passed.whole, g.rows);
-          positions = omega (arith, r.room-positions, all-positions);
-          normals = omega (arith, r.room-normals, all-normals);
-          indices = r.room-indices;
+          rows = omega (arith, r.room_rows, g.passed.whole, g.rows);
+          positions = omega (arith, r.room_positions, all_positions);
+          normals = omega (arith, r.room_normals, all_normals);
+          indices = r.room_indices;
         }
 
     -- it was
-    pub nothing-done : {R' : List ℕ} {P' N' : List Float} {I' : List ℕ} → refusal ≡ 0 → BodyCopied table ps ns is R P N I R' P' N' I'
+    pub nothing_done : {R' : List ℕ} {P' N' : List Float} {I' : List ℕ} → refusal ≡ 0 → BodyCopied table ps ns is R P N I R' P' N' I'
         → BodyStitched (record { patches = patches_of (rows_of table) ps ns is; splits = 0 }) R R' P P' N N' I I' (16 * length is + 16 * m + 4 * v) W W
         (Done (record { vertices = v; indices = length is; splits = 0 }))
-    nothing-done {R'} {P'} {N'} {I'} z d =
+    nothing_done {R'} {P'} {N'} {I'} z d =
         record {
           same = λ work.
-              result-written (record { patches = patches_of (rows_of table) ps ns is; splits = 0 }) (flat_rows (rows_of table) ps ns is) R P N I work g.vertices g.passed.all-indices
+              result_written (record { patches = patches_of (rows_of table) ps ns is; splits = 0 }) (flat_rows (rows_of table) ps ns is) R P N I work g.vertices g.passed.all_indices_lem
               g.rows e z refl
-              (d.rows ∙ ap (λ (xs : List ℕ). written xs R) (sym (flat-table table g.passed.whole)))
-              (d.positions ∙ ap (λ (xs : List Float). written xs P) (sym (flat-positions (rows_of table) ps ns is g.passed.all-positions)))
-              (d.normals ∙ ap (λ (xs : List Float). written xs N) (sym (flat-normals (rows_of table) ps ns is g.passed.all-normals)))
-              (d.indices ∙ ap (λ (xs : List ℕ). written xs I) (sym (flat-indices (rows_of table) ps ns is g.passed.all-indices)));
+              (d.rows ∙ ap (λ (xs : List ℕ). written xs R) (sym (flat_table table g.passed.whole)))
+              (d.positions ∙ ap (λ (xs : List Float). written xs P) (sym (flat_positions (rows_of table) ps ns is g.passed.all_positions)))
+              (d.normals ∙ ap (λ (xs : List Float). written xs N) (sym (flat_normals (rows_of table) ps ns is g.passed.all_normals)))
+              (d.indices ∙ ap (λ (xs : List ℕ). written xs I) (sym (flat_indices (rows_of table) ps ns is g.passed.all_indices_lem)));
           rest = refl;
         }

@@ -4,7 +4,7 @@ ghost use Rattle.std.specs.Prelude.{◌+◌, ◌*◌, length};
 ghost use Rattle.point_rules.specs.Rule.{names};
 ghost use Rattle.point_rules.specs.Points.{key};
 ghost use Rattle.body_rows.specs.Body.{rows_of, patches_of};
-ghost use Rattle.stitch_definition.specs.StitchedBody.{stitchedBody};
+ghost use Rattle.stitch_definition.specs.StitchedBody.{stitched_body};
 ghost use Rattle.stitch_result_checks.specs.Stitched.{StitchReady, BodyStitched};
 
 use stitch_copy::{copy_body, put_body};
@@ -30,7 +30,7 @@ pub fn stitch_open(
     m: usize,
 ) -> Stitched
     requires { StitchReady rows.now positions.now normals.now indices.now w.old v m }
-    ensures { BodyStitched (stitchedBody sag (names key positions.now)
+    ensures { BodyStitched (stitched_body sag (names key positions.now)
         (patches_of (rows_of rows.now) positions.now normals.now indices.now))
         out_rows.old out_rows.new out_positions.old out_positions.new out_normals.old
         out_normals.new

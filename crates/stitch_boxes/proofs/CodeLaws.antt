@@ -3,30 +3,30 @@ use mathlib.Core.Path.{◌≡◌, sym, ap, ◌∙◌}
 use mathlib.Core.Bool.{Bool, true, false, ◌||◌}
 use lib.Ieee.{Float, binary64, lt}
 use Rattle.float_spans.specs.declared.Span.{Span}
-use Rattle.float_spans.specs.Spans.{less, plus, minus, times, over, leastSquare}
+use Rattle.float_spans.specs.Spans.{less, plus, minus, times, over, least_square}
 use Rattle.patch_geometry.specs.declared.Vec3.{Vec3}
 use Rattle.patch_geometry.specs.Geometry.{add}
 use Rattle.stitch_projection.specs.declared.Edge.{Edge}
-use Rattle.stitch_projection.specs.Projection.{near-end, far-end}
+use Rattle.stitch_projection.specs.Projection.{near_end, far_end}
 use Rattle.stitch_boxes.specs.declared.Bounds.{Bounds}
 use Rattle.float_spans.specs.Hulls.{empty, one, hull}
-use Rattle.stitch_boxes.specs.Boxes.{emptyBox, pointBox, hullV, lessV, dotV, counting, start_of, end_of, inside, span_of, leastOff, far}
+use Rattle.stitch_boxes.specs.Boxes.{empty_box, point_box, hull_v, less_v, dot_v, counting, start_of, end_of, inside, span_of, least_off, far}
 
 -- a low end above 1e-6 stands
-pub start-yes : (l : Float) → lt near-end l ≡ true → l ≡ start_of l
-start-yes l h = rw h
+pub start_yes : (l : Float) → lt near_end l ≡ true → l ≡ start_of l
+start_yes l h = rw h
 
 -- any other, a NaN included, is 1e-6
-pub start-no : (l : Float) → lt near-end l ≡ false → near-end ≡ start_of l
-start-no l h = rw h
+pub start_no : (l : Float) → lt near_end l ≡ false → near_end ≡ start_of l
+start_no l h = rw h
 
 -- a high end below 1 − 1e-6 stands
-pub end-yes : (h : Float) → lt h far-end ≡ true → h ≡ end_of h
-end-yes h k = rw k
+pub end_yes : (h : Float) → lt h far_end ≡ true → h ≡ end_of h
+end_yes h k = rw k
 
 -- any other, a NaN included, is 1 − 1e-6
-pub end-no : (h : Float) → lt h far-end ≡ false → far-end ≡ end_of h
-end-no h k = rw k
+pub end_no : (h : Float) → lt h far_end ≡ false → far_end ≡ end_of h
+end_no h k = rw k
 
 abbrev made : Float → Float → Span
 made a b = record { low = a; high = b }
@@ -39,70 +39,70 @@ abbrev box : Span → Span → Span → Bounds
 box a b c = record { x = a; y = b; z = c }
 
 -- a box by its spans
-pub box-is : {a b c a' b' c' : Span} → a ≡ a' → b ≡ b' → c ≡ c' → box a b c ≡ box a' b' c'
-box-is {a} {b} {c} {a'} {b'} {c'} h k l = ap (λ (z : Span). box z b c) h ∙ ap (λ (z : Span). box a' z c) k ∙ ap (box a' b') l
+pub box_is : {a b c a' b' c' : Span} → a ≡ a' → b ≡ b' → c ≡ c' → box a b c ≡ box a' b' c'
+box_is {a} {b} {c} {a'} {b'} {c'} h k l = ap (λ (z : Span). box z b c) h ∙ ap (λ (z : Span). box a' z c) k ∙ ap (box a' b') l
 
 -- the box of nothing, by one empty span
-pub empty-is : {a : Span} → a ≡ empty → box a a a ≡ emptyBox
-empty-is h = box-is h h h
+pub empty_is : {a : Span} → a ≡ empty → box a a a ≡ empty_box
+empty_is h = box_is h h h
 
 -- the box of a point, by its spans
-pub point-is : (p : Vec3) {a b c : Span} → a ≡ one p.x → b ≡ one p.y → c ≡ one p.z → box a b c ≡ pointBox p
-point-is p h k l = box-is h k l
+pub point_is : (p : Vec3) {a b c : Span} → a ≡ one p.x → b ≡ one p.y → c ≡ one p.z → box a b c ≡ point_box p
+point_is p h k l = box_is h k l
 
 -- a hull, by its parts
-pub hull-is : (A B : Bounds) {a b c : Span} → a ≡ hull A.x B.x → b ≡ hull A.y B.y → c ≡ hull A.z B.z → box a b c ≡ hullV A B
-hull-is A B h k l = box-is h k l
+pub hull_is : (A B : Bounds) {a b c : Span} → a ≡ hull A.x B.x → b ≡ hull A.y B.y → c ≡ hull A.z B.z → box a b c ≡ hull_v A B
+hull_is A B h k l = box_is h k l
 
 -- the ways from p, by their spans
-pub less-is : (B : Bounds) (p : Vec3) {a b c : Span} → a ≡ less binary64 B.x p.x → b ≡ less binary64 B.y p.y → c ≡ less binary64 B.z p.z → box a b c ≡ lessV B p
-less-is B p h k l = box-is h k l
+pub less_is : (B : Bounds) (p : Vec3) {a b c : Span} → a ≡ less binary64 B.x p.x → b ≡ less binary64 B.y p.y → c ≡ less binary64 B.z p.z → box a b c ≡ less_v B p
+less_is B p h k l = box_is h k l
 
 -- the products with d, by their spans
-pub dot-is : (B : Bounds) (d : Vec3) {a b c e g : Span} → a ≡ times binary64 B.x d.x → b ≡ times binary64 B.y d.y → c ≡ times binary64 B.z d.z
-    → e ≡ plus binary64 a b → g ≡ plus binary64 e c → g ≡ dotV B d
-dot-is B d {a} {b} {c} {e} {g} h k l m n =
+pub dot_is : (B : Bounds) (d : Vec3) {a b c e g : Span} → a ≡ times binary64 B.x d.x → b ≡ times binary64 B.y d.y → c ≡ times binary64 B.z d.z
+    → e ≡ plus binary64 a b → g ≡ plus binary64 e c → g ≡ dot_v B d
+dot_is B d {a} {b} {c} {e} {g} h k l m n =
     n ∙ ap (λ (z : Span). plus binary64 z c) (m ∙ ap (λ (z : Span). plus binary64 z b) h ∙ ap (plus binary64 (times binary64 B.x d.x)) k)
     ∙ ap (plus binary64 (plus binary64 (times binary64 B.x d.x) (times binary64 B.y d.y))) l
 
 -- one axis, step by step
-pub way-is : (w u : Span) (c : Float) {a b : Span} {z : Float} → a ≡ times binary64 u c → b ≡ minus binary64 w a → z ≡ leastSquare binary64 b
-    → z ≡ leastSquare binary64 (minus binary64 w (times binary64 u c))
-way-is w u c h k l = l ∙ ap (leastSquare binary64) (k ∙ ap (minus binary64 w) h)
+pub way_is : (w u : Span) (c : Float) {a b : Span} {z : Float} → a ≡ times binary64 u c → b ≡ minus binary64 w a → z ≡ least_square binary64 b
+    → z ≡ least_square binary64 (minus binary64 w (times binary64 u c))
+way_is w u c h k l = l ∙ ap (least_square binary64) (k ∙ ap (minus binary64 w) h)
 
 -- on one axis
 abbrev way : Span → Span → Float → Float
-way w u c = leastSquare binary64 (minus binary64 w (times binary64 u c))
+way w u c = least_square binary64 (minus binary64 w (times binary64 u c))
 
 -- the least square of the distance, by its axes
-pub off-is : (w : Bounds) (d : Vec3) (u : Span) {a b c : Float} → a ≡ way w.x u d.x → b ≡ way w.y u d.y → c ≡ way w.z u d.z → add (add a b) c ≡ leastOff w d u
-unfolding leastOff
-off-is w d u {a} {b} {c} h k l = ap (λ (z : Float). add (add z b) c) h ∙ ap (λ (z : Float). add (add (way w.x u d.x) z) c) k ∙ ap (add (add (way w.x u d.x) (way w.y u d.y))) l
+pub off_is : (w : Bounds) (d : Vec3) (u : Span) {a b c : Float} → a ≡ way w.x u d.x → b ≡ way w.y u d.y → c ≡ way w.z u d.z → add (add a b) c ≡ least_off w d u
+unfolding least_off
+off_is w d u {a} {b} {c} h k l = ap (λ (z : Float). add (add z b) c) h ∙ ap (λ (z : Float). add (add (way w.x u d.x) z) c) k ∙ ap (add (add (way w.x u d.x) (way w.y u d.y))) l
 
-module _ (B : Bounds) (s : Edge) (b : Float) {w : Bounds} (e : w ≡ lessV B s.start) where
+module _ (B : Bounds) (s : Edge) (b : Float) {w : Bounds} (e : w ≡ less_v B s.start) where
   -- the rule by the ways
   abbrev by : Bounds → Span → Bool
-  by w u = lt b (leastOff w s.along counting) || lt u.high u.low || lt b (leastOff w s.along u)
+  by w u = lt b (least_off w s.along counting) || lt u.high u.low || lt b (least_off w s.along u)
 
-  by-is : by w (span_of w s) ≡ far B s b
+  by_is : by w (span_of w s) ≡ far B s b
   unfolding far
-  by-is = ap (λ (w : Bounds). by w (span_of w s)) e
+  by_is = ap (λ (w : Bounds). by w (span_of w s)) e
 
-  module _ {x : Float} (f : x ≡ leastOff w s.along counting) where
+  module _ {x : Float} (f : x ≡ least_off w s.along counting) where
     -- passed over by its extent
-    pub far-beside : lt b x ≡ true → true ≡ far B s b
-    far-beside h = let k : lt b (leastOff w s.along counting) ≡ true = ap (lt b) (sym f) ∙ h in (rw k) ∙ by-is
+    pub far_beside : lt b x ≡ true → true ≡ far B s b
+    far_beside h = let k : lt b (least_off w s.along counting) ≡ true = ap (lt b) (sym f) ∙ h in (rw k) ∙ by_is
 
-    module _ (h : lt b x ≡ false) {k t u : Span} (m : k ≡ dotV w s.along) (n : t ≡ over binary64 k s.squared) (o : u ≡ inside t) where
-      u-is : u ≡ span_of w s
-      u-is = o ∙ ap inside (n ∙ ap (λ (z : Span). over binary64 z s.squared) m)
+    module _ (h : lt b x ≡ false) {k t u : Span} (m : k ≡ dot_v w s.along) (n : t ≡ over binary64 k s.squared) (o : u ≡ inside t) where
+      u_is : u ≡ span_of w s
+      u_is = o ∙ ap inside (n ∙ ap (λ (z : Span). over binary64 z s.squared) m)
 
-      at-u : by w u ≡ far B s b
-      at-u = ap (by w) u-is ∙ by-is
+      at_u : by w u ≡ far B s b
+      at_u = ap (by w) u_is ∙ by_is
 
-      none : lt b (leastOff w s.along counting) ≡ false
+      none : lt b (least_off w s.along counting) ≡ false
       none = ap (lt b) (sym f) ∙ h
 
       -- passed over since nothing projects inside, or by the distance
-      pub far-last : {y : Float} → y ≡ leastOff w s.along u → (lt u.high u.low || lt b y) ≡ far B s b
-      far-last q = ap (λ (z : Float). lt u.high u.low || lt b z) q ∙ (rw none) ∙ at-u
+      pub far_last : {y : Float} → y ≡ least_off w s.along u → (lt u.high u.low || lt b y) ≡ far B s b
+      far_last q = ap (λ (z : Float). lt u.high u.low || lt b z) q ∙ (rw none) ∙ at_u

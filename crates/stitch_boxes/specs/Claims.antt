@@ -7,11 +7,11 @@ use Rattle.stitch_projection.specs.declared.Edge.{Edge}
 use Rattle.stitch_projection.specs.Projection.{edge_of}
 use Rattle.stitch_projection.specs.Evaluation as Projection
 use Rattle.stitch_boxes.specs.declared.Bounds.{Bounds}
-use Rattle.stitch_boxes.specs.Boxes.{leastOff, far}
+use Rattle.stitch_boxes.specs.Boxes.{least_off, far}
 
 -- every definition that computes
 unfoldable pub evaluation : ℕ
-unfolding Projection.evaluation leastOff far
+unfolding Projection.evaluation least_off far
 evaluation = 0
 
 abbrev span : ℕ → ℕ → Span
@@ -70,11 +70,11 @@ unfoldable pub point : Edge
 point = edge_of (vec 0 0 0) (vec 0 0 0)
 
 -- a box on it
-pub onPoint : T (not (far (box (span 0 0) (span 0 0) (span 0 0)) point (f64 0)))
+pub on_point : T (not (far (box (span 0 0) (span 0 0) (span 0 0)) point (f64 0)))
 unfolding evaluation point
-onPoint = tt
+on_point = tt
 
 -- a box beside it
-pub offPoint : T (far (box (span 0 0) (span 0x4000000000000000 0x4008000000000000) (span 0 0)) point (f64 0x3FF0000000000000))
+pub off_point : T (far (box (span 0 0) (span 0x4000000000000000 0x4008000000000000) (span 0 0)) point (f64 0x3FF0000000000000))
 unfolding evaluation point
-offPoint = tt
+off_point = tt

@@ -2,8 +2,8 @@
 
 ghost use Rattle.std.specs.Prelude.{◌≡◌};
 ghost use Rattle.std.specs.Float.{binary64};
-ghost use Rattle.float_spans.specs.Spans.{minus, times, leastSquare};
-ghost use Rattle.stitch_boxes.specs.Boxes.{emptyBox, pointBox, hullV, lessV, dotV, start_of, end_of, inside, leastOff, far};
+ghost use Rattle.float_spans.specs.Spans.{minus, times, least_square};
+ghost use Rattle.stitch_boxes.specs.Boxes.{empty_box, point_box, hull_v, less_v, dot_v, start_of, end_of, inside, least_off, far};
 
 use float_spans::Span;
 use patch_geometry::Vec3;
@@ -20,7 +20,7 @@ pub struct Bounds {
 impl Bounds {
     // The box of nothing.
     pub fn empty() -> Bounds
-        ensures { result ≡ emptyBox }
+        ensures { result ≡ empty_box }
     {
         let none = Span::empty();
         Bounds {
@@ -32,7 +32,7 @@ impl Bounds {
 
     // The box of one point.
     pub fn point(p: Vec3) -> Bounds
-        ensures { result ≡ pointBox p }
+        ensures { result ≡ point_box p }
     {
         Bounds {
             x: Span::one(p.x),
@@ -43,7 +43,7 @@ impl Bounds {
 
     // The least box that holds what this or the other holds.
     pub fn hull(self, o: Bounds) -> Bounds
-        ensures { result ≡ hullV self o }
+        ensures { result ≡ hull_v self o }
     {
         let x = self.x;
         let y = self.y;
@@ -57,7 +57,7 @@ impl Bounds {
 
     // The ways from p to the points of the box.
     pub fn less(self, p: Vec3) -> Bounds
-        ensures { result ≡ lessV self p }
+        ensures { result ≡ less_v self p }
     {
         let x = self.x;
         let y = self.y;
@@ -71,7 +71,7 @@ impl Bounds {
 
     // The products of the points of the box with d.
     pub fn dot(self, d: Vec3) -> Span
-        ensures { result ≡ dotV self d }
+        ensures { result ≡ dot_v self d }
     {
         let x = self.x;
         let y = self.y;
@@ -115,14 +115,14 @@ fn inside(u: Span) -> Span
 
 // The least square of the way from the projection, on one axis.
 fn least_way(w: Span, u: Span, c: f64) -> f64
-    ensures { result ≡ leastSquare binary64 (minus binary64 w (times binary64 u c)) }
+    ensures { result ≡ least_square binary64 (minus binary64 w (times binary64 u c)) }
 {
     w.minus(u.times(c)).least_square()
 }
 
 // The least square of the distance, for ways in w and parameters in u.
 fn least_off(w: Bounds, d: Vec3, u: Span) -> f64
-    ensures { result ≡ leastOff w d u }
+    ensures { result ≡ least_off w d u }
 {
     let x = w.x;
     let y = w.y;

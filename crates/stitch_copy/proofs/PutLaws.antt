@@ -8,61 +8,61 @@ use lib.Seq.{length-take-le}
 use lib.Ieee.{Float}
 use Rattle.lists.specs.Lists.{sum_of, written}
 use Rattle.body_rows.specs.Body.{Row, rows_of, table_of}
-use Rattle.body_rows.specs.Rows.{no_row, rowAt}
-use Rattle.stitch_count.specs.Views.{keptIn}
-use Rattle.stitch_count.specs.Counting.{viewsOf}
-use Rattle.stitch_write.specs.BodyLengths.{views-many}
+use Rattle.body_rows.specs.Rows.{no_row, row_at}
+use Rattle.stitch_count.specs.Views.{kept_in}
+use Rattle.stitch_count.specs.Counting.{views_of}
+use Rattle.stitch_write.specs.BodyLengths.{views_many}
 use Rattle.stitch_write.specs.Writing.{BodyWritten}
-use Rattle.stitch_copy.specs.Copied.{BodyRoom, BodyCopied, flat-table}
+use Rattle.stitch_copy.specs.Copied.{BodyRoom, BodyCopied, flat_table}
 use Rattle.stitch_copy.specs.Put.{Puttable}
-use Rattle.stitch_copy.proofs.UnsplitLaws.{positions-none, normals-none, indices-none, rows_none}
+use Rattle.stitch_copy.proofs.UnsplitLaws.{positions_none, normals_none, indices_none, rows_none}
 
 module _ {table : List ℕ} {ps ns : List Float} {is : List ℕ} {sag beyond : Float} {v list count at ts flags order boxes top kept : ℕ} {W R : List ℕ} {P N : List Float} {I : List ℕ}
     (g : Puttable table ps ns is sag beyond v list count at ts flags order boxes top kept W R P N I) where
   -- there is room for a copy
-  pub put-room : BodyRoom table ps ns is R P N I
-  put-room =
+  pub put_room : BodyRoom table ps ns is R P N I
+  put_room =
       record {
-        rows = omega (arith, g.writable.room-rows, g.writable.body.rows.whole);
-        positions = omega (arith, g.writable.room-positions, g.writable.body.stands.all);
-        normals = omega (arith, g.writable.room-normals, g.writable.all);
-        indices = omega (arith, g.writable.room-indices);
+        rows = omega (arith, g.writable.room_rows, g.writable.body.rows.whole);
+        positions = omega (arith, g.writable.room_positions, g.writable.body.stands.all);
+        normals = omega (arith, g.writable.room_normals, g.writable.all);
+        indices = omega (arith, g.writable.room_indices);
       }
 
   module _ (z : kept ≡ 0) where
-    none : sum_of keptIn (viewsOf table ps is sag v list count flags W) ≡ 0
-    none = sym g.kept-is ∙ z
+    none : sum_of kept_in (views_of table ps is sag v list count flags W) ≡ 0
+    none = sym g.kept_is ∙ z
 
     marked : length (take (length is) (drop flags W)) ≡ length is
     marked = length-take-le (length is) (drop flags W) (omega (arith, length-drop flags W, g.writable.body.stands.behind, g.writable.body.stands.apart, g.writable.body.stands.long))
 
     threes : (k : ℕ) → k < length (rows_of table) → (get_or (rows_of table) k no_row).indices % 3 ≡ 0
-    unfolding rowAt
+    unfolding row_at
     threes = g.writable.body.threes
 
-    many : length (viewsOf table ps is sag v list count flags W) ≡ length (rows_of table)
-    many = views-many sag ps (take v W) (take count (drop list W)) 0 (take (length is) (drop flags W)) (rows_of table) is
+    many : length (views_of table ps is sag v list count flags W) ≡ length (rows_of table)
+    many = views_many sag ps (take v W) (take count (drop list W)) 0 (take (length is) (drop flags W)) (rows_of table) is
 
     -- the copy is what is written
-    pub put-copied : {R' : List ℕ} {P' N' : List Float} {I' : List ℕ} → BodyCopied table ps ns is R P N I R' P' N' I' → BodyWritten table ps ns is sag v list count at ts flags W W R R' P P' N N' I I'
-    put-copied {R'} {P'} {N'} {I'} d =
+    pub put_copied : {R' : List ℕ} {P' N' : List Float} {I' : List ℕ} → BodyCopied table ps ns is R P N I R' P' N' I' → BodyWritten table ps ns is sag v list count at ts flags W W R R' P P' N N' I I'
+    put_copied {R'} {P'} {N'} {I'} d =
         record {
           rows_are =
               d.rows
-              ∙ ap (λ (xs : List ℕ). written xs R) (sym (flat-table table g.writable.body.rows.whole))
+              ∙ ap (λ (xs : List ℕ). written xs R) (sym (flat_table table g.writable.body.rows.whole))
               ∙ ap (λ (rs : List Row). written (table_of rs) R) (sym (rows_none sag ps (take v W) (take count (drop list W)) 0 (take (length is) (drop flags W)) (rows_of table) is
               g.writable.body.all marked threes none));
-          positions-are =
+          positions_are =
               d.positions
-              ∙ ap (λ (xs : List Float). written xs P) (sym (positions-none ps (rows_of table) ps (viewsOf table ps is sag v list count flags W) many
+              ∙ ap (λ (xs : List Float). written xs P) (sym (positions_none ps (rows_of table) ps (views_of table ps is sag v list count flags W) many
               (omega (arith, g.writable.body.stands.all, g.writable.body.vertices)) none));
-          normals-are =
+          normals_are =
               d.normals
-              ∙ ap (λ (xs : List Float). written xs N) (sym (normals-none ns 0 (rows_of table) ns (viewsOf table ps is sag v list count flags W) many
+              ∙ ap (λ (xs : List Float). written xs N) (sym (normals_none ns 0 (rows_of table) ns (views_of table ps is sag v list count flags W) many
               (omega (arith, g.writable.all, g.writable.body.vertices)) none));
-          indices-are =
+          indices_are =
               d.indices
-              ∙ ap (λ (xs : List ℕ). written xs I) (sym (indices-none sag ps (take v W) (take count (drop list W)) 0 (take (length is) (drop flags W)) (rows_of table) is
+              ∙ ap (λ (xs : List ℕ). written xs I) (sym (indices_none sag ps (take v W) (take count (drop list W)) 0 (take (length is) (drop flags W)) (rows_of table) is
               g.writable.body.all marked threes none));
           front = refl;
           rest = refl;

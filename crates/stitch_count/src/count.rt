@@ -1,12 +1,12 @@
 // The splits of the body's triangles counted, one triangle after another.
 
 ghost use Rattle.std.specs.Prelude.{◌≡◌, get_or};
-ghost use Rattle.patch_geometry.specs.Geometry.{pointAt};
+ghost use Rattle.patch_geometry.specs.Geometry.{point_at};
 ghost use Rattle.stitch_projection.specs.Projection.{edge_of};
 ghost use Rattle.stitch_count.specs.Counting.{
   EdgeReady,
   SidesReady,
-  sidesIn,
+  sides_in,
   TriangleReady,
   TriangleDone,
   TriangleCounted,
@@ -32,7 +32,7 @@ fn edge_between(
 ) -> TriangleEdge
     requires { EdgeReady positions.now v g h w.now }
     ensures { result ≡ record {
-      edge = edge_of (pointAt positions.now g) (pointAt positions.now h);
+      edge = edge_of (point_at positions.now g) (point_at positions.now h);
       start = get_or
           w.now g 0;
       end = get_or w.now h 0;
@@ -60,7 +60,7 @@ fn sides_at(
     k: usize,
 ) -> Sides
     requires { SidesReady positions.now indices.now v flags base k w.now }
-    ensures { result ≡ sidesIn positions.now indices.now v flags base k w.now }
+    ensures { result ≡ sides_in positions.now indices.now v flags base k w.now }
 {
     let o = w[flags + k] != 0;
     let p = w[flags + k + 1] != 0;

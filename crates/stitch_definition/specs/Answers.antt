@@ -10,17 +10,17 @@ pub record LeftStitch : Type 0 where
   pub slices : StitchSlices
 
 -- the slices
-abbrev pub slicesOf : List ℕ → List Float → List Float → List ℕ → List ℕ → StitchSlices
-slicesOf table ps ns is work = record { table = table; positions = ps; normals = ns; indices = is; work = work }
+abbrev pub slices_of : List ℕ → List Float → List Float → List ℕ → List ℕ → StitchSlices
+slices_of table ps ns is work = record { table = table; positions = ps; normals = ns; indices = is; work = work }
 
 -- the answer with the slices
-abbrev pub leftStitch : Stitched → StitchSlices → LeftStitch
-leftStitch a s = record { answer = a; slices = s }
+abbrev pub left_stitch : Stitched → StitchSlices → LeftStitch
+left_stitch a s = record { answer = a; slices = s }
 
 -- 01's number and values for each answer
-abbrev pub stitchAnswer : AfterStitch → Stitched
-stitchAnswer t = elim (eqb t.refusal 0) [ true ↦ Done (record { vertices = t.vertices; indices = t.indices; splits = t.splits }) | false ↦ Refused t.refusal ]
+abbrev pub stitch_answer : AfterStitch → Stitched
+stitch_answer t = elim (eqb t.refusal 0) [ true ↦ Done (record { vertices = t.vertices; indices = t.indices; splits = t.splits }) | false ↦ Refused t.refusal ]
 
 -- what the definition says of the call, with the answer as stitch gives it
-abbrev pub stitchAnswered : AfterStitch → LeftStitch
-stitchAnswered t = leftStitch (stitchAnswer t) t.slices
+abbrev pub stitch_answered : AfterStitch → LeftStitch
+stitch_answered t = left_stitch (stitch_answer t) t.slices

@@ -2,12 +2,12 @@
 use Rattle.std.specs.Prelude.{ℕ}
 use Rattle.body_refusals.specs.Evaluation as Refusals
 use Rattle.stitch_rings.specs.Evaluation as Rings
-use Rattle.stitch_definition.specs.StitchedBody.{newNormal, coordinates, ring, fanned, stitchedPatch, stitchedPatches, stitchedBodyOf, stitchedBody}
-use Rattle.stitch_definition.specs.Slices.{stitchChecks, writeBody, refuseStitch, clearedSlices, stitchOrRefuse}
-use Rattle.stitch_definition.specs.Stitch.{stitchBody, stitchOf}
+use Rattle.stitch_definition.specs.StitchedBody.{new_normal, coordinates, ring, fanned, stitched_patch, stitched_patches, stitched_body_of, stitched_body}
+use Rattle.stitch_definition.specs.Slices.{stitch_checks, write_body, refuse_stitch, cleared_slices, stitch_or_refuse}
+use Rattle.stitch_definition.specs.Stitch.{stitch_body, stitch_of}
 
 -- every definition that computes
 unfoldable pub evaluation : ℕ
-unfolding Refusals.evaluation Rings.evaluation newNormal coordinates ring fanned stitchedPatch stitchedPatches stitchedBodyOf stitchedBody stitchChecks writeBody refuseStitch clearedSlices
-    stitchOrRefuse stitchBody stitchOf
+unfolding Refusals.evaluation Rings.evaluation new_normal coordinates ring fanned stitched_patch stitched_patches stitched_body_of stitched_body stitch_checks write_body refuse_stitch cleared_slices
+    stitch_or_refuse stitch_body stitch_of
 evaluation = 0

@@ -2,8 +2,8 @@
 use Rattle.std.specs.Prelude.{true, false, ◌||◌, ℕ, ◌*◌, length, ltb, eqb, Float}
 use mathlib.Core.List.{List, [], ◌∷◌, map, flat_map}
 use Rattle.lists.specs.Lists.{written}
-use Rattle.body_rows.specs.Body.{rowWidth, Row, Check, check, table_of, firstFailing, allVertices, allIndices, cleared}
-use Rattle.body_refusals.specs.TableChecks.{tooLarge}
+use Rattle.body_rows.specs.Body.{row_width, Row, Check, check, table_of, first_failing, all_vertices, all_indices, cleared}
+use Rattle.body_refusals.specs.TableChecks.{too_large}
 use Rattle.stitch_definition.specs.StitchedBody.{StitchedBody}
 
 -- the slices that stitch is lent
@@ -23,21 +23,21 @@ pub record AfterStitch : Type 0 where
   pub slices : StitchSlices
 
 -- 33, then 32: the stitched V or I passes the limit of 13; an output slice is shorter than the stitched body needs
-unfoldable pub stitchChecks : List Row → StitchSlices → List Check
-stitchChecks rows out =
-    let v = allVertices rows in
-    let i = allIndices rows in
-    check 33 (tooLarge v i)
-    ∷ check 32 (ltb (length out.table) (rowWidth * length rows) || ltb (length out.positions) (3 * v) || ltb (length out.normals) (3 * v) || ltb (length out.indices) i)
+unfoldable pub stitch_checks : List Row → StitchSlices → List Check
+stitch_checks rows out =
+    let v = all_vertices rows in
+    let i = all_indices rows in
+    check 33 (too_large v i)
+    ∷ check 32 (ltb (length out.table) (row_width * length rows) || ltb (length out.positions) (3 * v) || ltb (length out.normals) (3 * v) || ltb (length out.indices) i)
     ∷ []
 
 -- the stitched body written to the slices, output beyond the written part unchanged
-unfoldable pub writeBody : List Row → StitchedBody → StitchSlices → AfterStitch
-writeBody rows s out =
+unfoldable pub write_body : List Row → StitchedBody → StitchSlices → AfterStitch
+write_body rows s out =
     record {
       refusal = 0;
-      vertices = allVertices rows;
-      indices = allIndices rows;
+      vertices = all_vertices rows;
+      indices = all_indices rows;
       splits = s.splits;
       slices = record {
         table = written (table_of rows) out.table;
@@ -49,17 +49,17 @@ writeBody rows s out =
     }
 
 -- A refusal is its number only; the slices are unchanged.
-unfoldable pub refuseStitch : ℕ → StitchSlices → AfterStitch
-refuseStitch n out = record { refusal = n; vertices = 0; indices = 0; splits = 0; slices = out }
+unfoldable pub refuse_stitch : ℕ → StitchSlices → AfterStitch
+refuse_stitch n out = record { refusal = n; vertices = 0; indices = 0; splits = 0; slices = out }
 
 -- the slices with the words of 31 cleared
-unfoldable pub clearedSlices : List Row → StitchSlices → StitchSlices
-clearedSlices rows out =
+unfoldable pub cleared_slices : List Row → StitchSlices → StitchSlices
+cleared_slices rows out =
     record { table = out.table; positions = out.positions; normals = out.normals; indices = out.indices; work = cleared rows out.work }
 
 -- the call for a body that passed the checks up to 31, its stitched body being s
-unfoldable pub stitchOrRefuse : StitchedBody → StitchSlices → AfterStitch
-stitchOrRefuse s out =
+unfoldable pub stitch_or_refuse : StitchedBody → StitchSlices → AfterStitch
+stitch_or_refuse s out =
     let rows = map (λ p. p.row) s.patches in
-    let n = firstFailing (stitchChecks rows out) in
-    elim (eqb n 0) [ true ↦ writeBody rows s out | false ↦ refuseStitch n out ]
+    let n = first_failing (stitch_checks rows out) in
+    elim (eqb n 0) [ true ↦ write_body rows s out | false ↦ refuse_stitch n out ]

@@ -4,15 +4,15 @@ use Rattle.std.specs.Prelude.{ℕ, ◌+◌, length, Float}
 use Rattle.lists.specs.Lists.{sum_of}
 use Rattle.body_rows.specs.Body.{Patch}
 use Rattle.patch_geometry.specs.declared.Vec3.{Vec3}
-use Rattle.patch_geometry.specs.Geometry.{pointAt}
+use Rattle.patch_geometry.specs.Geometry.{point_at}
 use Rattle.stitch_projection.specs.Projection.{mixed}
-use Rattle.stitch_loose_points.specs.Loose.{Facet, facetsIn, looseIn}
-use Rattle.stitch_splits.specs.Splits.{Placed, SplitTriangle, splitTriangle}
-use Rattle.stitch_rings.specs.Rings.{fan, numbersOf}
+use Rattle.stitch_loose_points.specs.Loose.{Facet, facets_in, loose_in}
+use Rattle.stitch_splits.specs.Splits.{Placed, SplitTriangle, split_triangle}
+use Rattle.stitch_rings.specs.Rings.{fan, numbers_of}
 
 -- the normal of a new vertex
-unfoldable pub newNormal : List Float → Placed → List Float
-newNormal ns p = mixed (pointAt ns p.side.start.index) (pointAt ns p.side.end.index) p.t
+unfoldable pub new_normal : List Float → Placed → List Float
+new_normal ns p = mixed (point_at ns p.side.start.index) (point_at ns p.side.end.index) p.t
 
 -- a point's coordinates
 unfoldable pub coordinates : Vec3 → List Float
@@ -22,7 +22,7 @@ coordinates p = p.x ∷ p.y ∷ p.z ∷ []
 unfoldable pub ring : Facet → List Placed → ℕ → List ℕ
 ring f kept next =
     let es = map (λ p. p.e) kept in
-    (f.c₀.index ∷ numbersOf 0 next es) ++ (f.c₁.index ∷ numbersOf 1 next es) ++ (f.c₂.index ∷ numbersOf 2 next es)
+    (f.c₀.index ∷ numbers_of 0 next es) ++ (f.c₁.index ∷ numbers_of 1 next es) ++ (f.c₂.index ∷ numbers_of 2 next es)
 
 -- the indices of the triangles of a patch, the first new vertex being `next`
 unfoldable pub fanned : ℕ → List SplitTriangle → List ℕ
@@ -30,8 +30,8 @@ fanned next [] = []
 fanned next (c ∷ cs) = fan (ring c.facet c.kept next) ++ fanned (next + length c.kept) cs
 
 -- New vertices follow the patch's own, edge by edge.
-unfoldable pub stitchedPatch : Patch → List SplitTriangle → Patch
-stitchedPatch p cs =
+unfoldable pub stitched_patch : Patch → List SplitTriangle → Patch
+stitched_patch p cs =
     let indices = fanned p.row.vertices cs in
     record {
       row = record {
@@ -43,15 +43,15 @@ stitchedPatch p cs =
         bin = p.row.bin;
       };
       positions = p.positions ++ flat_map (λ c. flat_map (λ k. coordinates k.point) c.kept) cs;
-      normals = p.normals ++ flat_map (λ c. flat_map (newNormal p.normals) c.kept) cs;
+      normals = p.normals ++ flat_map (λ c. flat_map (new_normal p.normals) c.kept) cs;
       indices = indices;
     }
 
 -- each patch with its triangles' splits
-unfoldable pub stitchedPatches : List Patch → List (List SplitTriangle) → List Patch
-stitchedPatches [] css = []
-stitchedPatches (p ∷ ps) [] = p ∷ ps
-stitchedPatches (p ∷ ps) (cs ∷ css) = stitchedPatch p cs ∷ stitchedPatches ps css
+unfoldable pub stitched_patches : List Patch → List (List SplitTriangle) → List Patch
+stitched_patches [] css = []
+stitched_patches (p ∷ ps) [] = p ∷ ps
+stitched_patches (p ∷ ps) (cs ∷ css) = stitched_patch p cs ∷ stitched_patches ps css
 
 -- a stitched body, and its splits
 pub record StitchedBody : Type 0 where
@@ -59,12 +59,12 @@ pub record StitchedBody : Type 0 where
   pub splits : ℕ
 
 -- Each such point adds 1 to the splits.
-unfoldable pub stitchedBodyOf : List Patch → List (List SplitTriangle) → StitchedBody
-stitchedBodyOf patches css = record { patches = stitchedPatches patches css; splits = sum_of (λ cs. sum_of (λ c. c.found) cs) css }
+unfoldable pub stitched_body_of : List Patch → List (List SplitTriangle) → StitchedBody
+stitched_body_of patches css = record { patches = stitched_patches patches css; splits = sum_of (λ cs. sum_of (λ c. c.found) cs) css }
 
 -- the body with every triangle's splits
-unfoldable pub stitchedBody : Float → List ℕ → List Patch → StitchedBody
-stitchedBody sag ns patches =
-    let fss = facetsIn ns patches in
-    let ls = looseIn fss in
-    stitchedBodyOf patches (map (λ fs. map (splitTriangle sag ls) fs) fss)
+unfoldable pub stitched_body : Float → List ℕ → List Patch → StitchedBody
+stitched_body sag ns patches =
+    let fss = facets_in ns patches in
+    let ls = loose_in fss in
+    stitched_body_of patches (map (λ fs. map (split_triangle sag ls) fs) fss)

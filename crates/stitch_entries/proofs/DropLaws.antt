@@ -7,21 +7,21 @@ use native.Mathlib.Numerals.{add-one}
 use native.Mathlib.Omega.{arith}
 use lib.ListN.{length, get_or, take, drop, set, length-set}
 use lib.Seq.{drop-cons, get_or-set_same, get_or-set_other, take-set-le, drop-set-lt}
-use Rattle.lists.specs.Stretches.{stretch-kept}
-use Rattle.slice_pairs.specs.Pairs.{pairsOf, pairsIn, pair_at, PairsHeld}
-use Rattle.stitch_splits.specs.Entries.{Entry, dropAfter, entriesIn, entriesOf, entry_at, entry_of, keptEntries, entries-more}
-use Rattle.stitch_pairs.specs.FoundPairs.{entryOfPair}
+use Rattle.lists.specs.Stretches.{stretch_kept}
+use Rattle.slice_pairs.specs.Pairs.{pairs_of, pairs_in, pair_at, PairsHeld}
+use Rattle.stitch_splits.specs.Entries.{Entry, drop_after, entries_in, entries_of, entry_at, entry_of, kept_entries, entries_more}
+use Rattle.stitch_pairs.specs.FoundPairs.{entry_of_pair}
 use Rattle.stitch_pairs.specs.Words.{KeptOfPairs}
-use Rattle.stitch_entries.specs.PairEntries.{entryOfWords, pairEntryAt, entryWritten, closeToLast}
-use Rattle.stitch_entries.proofs.EntryLaws.{words-pair, words-entry}
+use Rattle.stitch_entries.specs.PairEntries.{entry_of_words, pair_entry_at, entry_written, close_to_last}
+use Rattle.stitch_entries.proofs.EntryLaws.{words_pair, words_entry}
 
 -- the entries of the pairs from place j up to `count`
-abbrev entriesFrom : List ℕ → ℕ → ℕ → ℕ → ℕ → List Entry
-entriesFrom W at ts j count = map entryOfPair (pairsOf (take (count - j) (drop (ts + j) W)) (take (count - j) (drop (at + j) W)))
+abbrev entries_from : List ℕ → ℕ → ℕ → ℕ → ℕ → List Entry
+entries_from W at ts j count = map entry_of_pair (pairs_of (take (count - j) (drop (ts + j) W)) (take (count - j) (drop (at + j) W)))
 
 -- a stretch begins with its first word
-words-cons : (W : List ℕ) (at j count : ℕ) → j < count → at + count ≤ length W → take (count - j) (drop (at + j) W) ≡ get_or W (at + j) 0 ∷ take (count - (j + 1)) (drop (at + (j + 1)) W)
-words-cons W at j count l h =
+words_cons : (W : List ℕ) (at j count : ℕ) → j < count → at + count ≤ length W → take (count - j) (drop (at + j) W) ≡ get_or W (at + j) 0 ∷ take (count - (j + 1)) (drop (at + (j + 1)) W)
+words_cons W at j count l h =
     let e : count - j ≡ suc (count - (j + 1)) = omega arith in
     let f : suc (at + j) ≡ at + (j + 1) = omega arith in
     ap (λ (n : ℕ). take n (drop (at + j) W)) e
@@ -30,44 +30,44 @@ words-cons W at j count l h =
 
 module _ {at ts count : ℕ} {W : List ℕ} (h : PairsHeld at ts count W) where
   -- the entries from place j begin with that at j
-  entries-cons : (j : ℕ) → j < count → entriesFrom W at ts j count ≡ entryOfPair (pair_at W at ts j) ∷ entriesFrom W at ts (j + 1) count
-  unfolding pairsOf
-  entries-cons j l =
-      ap (λ (v : List ℕ). map entryOfPair (pairsOf v (take (count - j) (drop (at + j) W)))) (words-cons W ts j count l h.room)
-      ∙ ap (λ (v : List ℕ). map entryOfPair (pairsOf (get_or W (ts + j) 0 ∷ take (count - (j + 1)) (drop (ts + (j + 1)) W)) v)) (words-cons W at j count l (omega (arith, h.apart, h.room)))
+  entries_cons : (j : ℕ) → j < count → entries_from W at ts j count ≡ entry_of_pair (pair_at W at ts j) ∷ entries_from W at ts (j + 1) count
+  unfolding pairs_of
+  entries_cons j l =
+      ap (λ (v : List ℕ). map entry_of_pair (pairs_of v (take (count - j) (drop (at + j) W)))) (words_cons W ts j count l h.room)
+      ∙ ap (λ (v : List ℕ). map entry_of_pair (pairs_of (get_or W (ts + j) 0 ∷ take (count - (j + 1)) (drop (ts + (j + 1)) W)) v)) (words_cons W at j count l (omega (arith, h.apart, h.room)))
 
   -- none are left from `count` on
-  entries_none : (j : ℕ) → count ≤ j → entriesFrom W at ts j count ≡ []
-  unfolding pairsOf
+  entries_none : (j : ℕ) → count ≤ j → entries_from W at ts j count ≡ []
+  unfolding pairs_of
   entries_none j l =
       let e : count - j ≡ 0 = omega arith in
-      ap (λ (n : ℕ). map entryOfPair (pairsOf (take n (drop (ts + j) W)) (take n (drop (at + j) W)))) e
+      ap (λ (n : ℕ). map entry_of_pair (pairs_of (take n (drop (ts + j) W)) (take n (drop (at + j) W)))) e
 
 -- ---- the definition
 
 -- what is kept of entries behind the `kept` kept before
-unfoldable pub keptBehind : List ℕ → ℕ → ℕ → ℕ → List Entry → List Entry
-keptBehind W at ts zero ys = keptEntries ys
-keptBehind W at ts (suc k) ys = dropAfter (entry_at W at ts k) ys
+unfoldable pub kept_behind : List ℕ → ℕ → ℕ → ℕ → List Entry → List Entry
+kept_behind W at ts zero ys = kept_entries ys
+kept_behind W at ts (suc k) ys = drop_after (entry_at W at ts k) ys
 
 module _ (W : List ℕ) (at ts : ℕ) where
   -- a close entry is dropped
-  behind-close : (kept : ℕ) (y : Entry) (ys : List Entry) → closeToLast W at ts kept y ≡ true → keptBehind W at ts kept (y ∷ ys) ≡ keptBehind W at ts kept ys
-  unfolding keptBehind closeToLast dropAfter
-  behind-close zero y ys e = absurd (true≢false (sym e))
-  behind-close (suc k) y ys e = rw (e, dropAfter)
+  behind_close : (kept : ℕ) (y : Entry) (ys : List Entry) → close_to_last W at ts kept y ≡ true → kept_behind W at ts kept (y ∷ ys) ≡ kept_behind W at ts kept ys
+  unfolding kept_behind close_to_last drop_after
+  behind_close zero y ys e = absurd (true≢false (sym e))
+  behind_close (suc k) y ys e = rw (e, drop_after)
 
   -- another is the last kept
-  behind-far : (kept : ℕ) (y : Entry) (ys : List Entry) → closeToLast W at ts kept y ≡ false → keptBehind W at ts kept (y ∷ ys) ≡ y ∷ dropAfter y ys
-  unfolding keptBehind closeToLast dropAfter keptEntries
-  behind-far zero y ys e = refl
-  behind-far (suc k) y ys e = rw (e, dropAfter)
+  behind_far : (kept : ℕ) (y : Entry) (ys : List Entry) → close_to_last W at ts kept y ≡ false → kept_behind W at ts kept (y ∷ ys) ≡ y ∷ drop_after y ys
+  unfolding kept_behind close_to_last drop_after kept_entries
+  behind_far zero y ys e = refl
+  behind_far (suc k) y ys e = rw (e, drop_after)
 
   -- nothing is kept of nothing
-  behind-none : (kept : ℕ) → keptBehind W at ts kept [] ≡ []
-  unfolding keptBehind dropAfter keptEntries
-  behind-none zero = refl
-  behind-none (suc k) = refl
+  behind_none : (kept : ℕ) → kept_behind W at ts kept [] ≡ []
+  unfolding kept_behind drop_after kept_entries
+  behind_none zero = refl
+  behind_none (suc k) = refl
 
 -- ---- one entry more
 
@@ -80,17 +80,17 @@ pub record Unread (at ts count : ℕ) (W : List ℕ) (j : ℕ) (E : List ℕ) : 
   pub long : length E ≡ length W
 
 -- one pair more is read
-unread-less : {at ts count j : ℕ} {W E : List ℕ} → Unread at ts count W j E → Unread at ts count W (j + 1) E
-unread-less u = record { lower = λ i a b. u.lower i (omega arith) b; higher = λ i a b. u.higher i (omega arith) b; front = u.front; rest = u.rest; long = u.long }
+unread_less : {at ts count j : ℕ} {W E : List ℕ} → Unread at ts count W j E → Unread at ts count W (j + 1) E
+unread_less u = record { lower = λ i a b. u.lower i (omega arith) b; higher = λ i a b. u.higher i (omega arith) b; front = u.front; rest = u.rest; long = u.long }
 
 module _ {at ts count : ℕ} {W : List ℕ} (h : PairsHeld at ts count W) (g : (i : ℕ) → get_or W i 0 < 18446744073709551616) {kept j : ℕ} {E : List ℕ} (low : kept ≤ j) (l : j < count)
     (u : Unread at ts count W j E) where
   -- the entry of the pair at place j is that of its words
-  pair_is : pairEntryAt E at ts j ≡ entryOfPair (pair_at W at ts j)
+  pair_is : pair_entry_at E at ts j ≡ entry_of_pair (pair_at W at ts j)
   pair_is =
-      ap (λ (a : ℕ). entryOfWords a (get_or E (at + j) 0)) (u.higher j (omega arith) l)
-      ∙ ap (λ (a : ℕ). entryOfWords (get_or W (ts + j) 0) a) (u.lower j (omega arith) l)
-      ∙ sym (words-pair (get_or W (ts + j) 0) (get_or W (at + j) 0) (g (at + j)))
+      ap (λ (a : ℕ). entry_of_words a (get_or E (at + j) 0)) (u.higher j (omega arith) l)
+      ∙ ap (λ (a : ℕ). entry_of_words (get_or W (ts + j) 0) a) (u.lower j (omega arith) l)
+      ∙ sym (words_pair (get_or W (ts + j) 0) (get_or W (at + j) 0) (g (at + j)))
 
   -- the work area after the two stores
   abbrev x : ℕ
@@ -103,44 +103,44 @@ module _ {at ts count : ℕ} {W : List ℕ} (h : PairsHeld at ts count W) (g : (
   A = set E (at + kept) x
 
   abbrev F : List ℕ
-  F = entryWritten E at ts j kept
+  F = entry_written E at ts j kept
 
-  a-long : length A ≡ length W
-  a-long = length-set E (at + kept) x ∙ u.long
+  a_long : length A ≡ length W
+  a_long = length-set E (at + kept) x ∙ u.long
 
-  f-long : length F ≡ length W
-  f-long = length-set A (ts + kept) y ∙ a-long
+  f_long : length F ≡ length W
+  f_long = length-set A (ts + kept) y ∙ a_long
 
   -- the entries kept before are as they were
-  before : entriesIn F at ts kept ≡ entriesIn E at ts kept
+  before : entries_in F at ts kept ≡ entries_in E at ts kept
   before =
-      ap (λ (v : List ℕ). entriesOf v (take kept (drop ts F)))
-      (stretch-kept at kept (at + kept) E F (take-set-le (at + kept) A (ts + kept) y (omega (arith, h.apart)) ∙ take-set-le (at + kept) E (at + kept) x (omega arith)) (omega arith))
-      ∙ ap (entriesOf (take kept (drop at E)))
-      (stretch-kept ts kept (ts + kept) A F (take-set-le (ts + kept) A (ts + kept) y (omega arith)) (omega arith) ∙ ap (take kept) (drop-set-lt ts E (at + kept) x (omega (arith, h.apart))))
+      ap (λ (v : List ℕ). entries_of v (take kept (drop ts F)))
+      (stretch_kept at kept (at + kept) E F (take-set-le (at + kept) A (ts + kept) y (omega (arith, h.apart)) ∙ take-set-le (at + kept) E (at + kept) x (omega arith)) (omega arith))
+      ∙ ap (entries_of (take kept (drop at E)))
+      (stretch_kept ts kept (ts + kept) A F (take-set-le (ts + kept) A (ts + kept) y (omega arith)) (omega arith) ∙ ap (take kept) (drop-set-lt ts E (at + kept) x (omega (arith, h.apart))))
 
   -- the new one is that of the pair at place j
-  new : entry_at F at ts kept ≡ entryOfPair (pair_at W at ts j)
+  new : entry_at F at ts kept ≡ entry_of_pair (pair_at W at ts j)
   new =
       ap (λ (a : ℕ). entry_of a (get_or F (ts + kept) 0))
       (get_or-set_other A (ts + kept) (at + kept) y 0 (λ z. omega (arith, h.apart)) ∙ get_or-set_same E (at + kept) x 0 (omega (arith, h.apart, h.room, u.long)))
-      ∙ ap (entry_of x) (get_or-set_same A (ts + kept) y 0 (omega (arith, h.room, a-long)))
-      ∙ words-entry (get_or E (ts + j) 0) (get_or E (at + j) 0)
+      ∙ ap (entry_of x) (get_or-set_same A (ts + kept) y 0 (omega (arith, h.room, a_long)))
+      ∙ words_entry (get_or E (ts + j) 0) (get_or E (at + j) 0)
       ∙ pair_is
 
-  pub written-more : entriesIn F at ts (kept + 1) ≡ entriesIn E at ts kept ++ entryOfPair (pair_at W at ts j) ∷ []
-  written-more =
-      entries-more F at ts kept (omega (arith, h.apart, h.room, f-long)) (omega (arith, h.room, f-long))
+  pub written_more : entries_in F at ts (kept + 1) ≡ entries_in E at ts kept ++ entry_of_pair (pair_at W at ts j) ∷ []
+  written_more =
+      entries_more F at ts kept (omega (arith, h.apart, h.room, f_long)) (omega (arith, h.room, f_long))
       ∙ ap (λ (v : List Entry). v ++ entry_at F at ts kept ∷ []) before
-      ∙ ap (λ (v : Entry). entriesIn E at ts kept ++ v ∷ []) new
+      ∙ ap (λ (v : Entry). entries_in E at ts kept ++ v ∷ []) new
 
   -- so it is the last kept
-  written_last : (ys : List Entry) → keptBehind F at ts (kept + 1) ys ≡ dropAfter (entryOfPair (pair_at W at ts j)) ys
-  unfolding keptBehind
-  written_last ys = ap (λ (k : ℕ). keptBehind F at ts k ys) (add-one kept) ∙ ap (λ (v : Entry). dropAfter v ys) new
+  written_last : (ys : List Entry) → kept_behind F at ts (kept + 1) ys ≡ drop_after (entry_of_pair (pair_at W at ts j)) ys
+  unfolding kept_behind
+  written_last ys = ap (λ (k : ℕ). kept_behind F at ts k ys) (add-one kept) ∙ ap (λ (v : Entry). drop_after v ys) new
 
-  pub written-unread : Unread at ts count W (j + 1) F
-  written-unread =
+  pub written_unread : Unread at ts count W (j + 1) F
+  written_unread =
       record {
         lower = λ i a b.
             get_or-set_other A (ts + kept) (at + i) y 0 (λ z. omega (arith, h.apart))
@@ -152,7 +152,7 @@ module _ {at ts count : ℕ} {W : List ℕ} (h : PairsHeld at ts count W) (g : (
             ∙ u.higher i (omega arith) b;
         front = take-set-le at A (ts + kept) y (omega (arith, h.apart)) ∙ take-set-le at E (at + kept) x (omega arith) ∙ u.front;
         rest = drop-set-lt (ts + count) A (ts + kept) y (omega arith) ∙ drop-set-lt (ts + count) E (at + kept) x (omega (arith, h.apart)) ∙ u.rest;
-        long = f-long;
+        long = f_long;
       }
 
 -- ---- the entries kept so far
@@ -161,26 +161,26 @@ module _ {at ts count : ℕ} {W : List ℕ} (h : PairsHeld at ts count W) (g : (
 pub record Keeping (at ts count : ℕ) (W : List ℕ) (kept j : ℕ) (E : List ℕ) : Type 0 where
   pub low : kept ≤ j
   pub high : j ≤ count
-  pub entries : entriesIn E at ts kept ++ keptBehind E at ts kept (entriesFrom W at ts j count) ≡ keptEntries (map entryOfPair (pairsIn W at ts count))
+  pub entries : entries_in E at ts kept ++ kept_behind E at ts kept (entries_from W at ts j count) ≡ kept_entries (map entry_of_pair (pairs_in W at ts count))
   pub unread : Unread at ts count W j E
 
 -- none is read yet
 pub keeping_none : (at ts count : ℕ) (W : List ℕ) → Keeping at ts count W 0 0 W
-unfolding keptBehind entriesOf
+unfolding kept_behind entries_of
 keeping_none at ts count W =
     record {
       low = omega arith;
       high = omega arith;
-      entries = ap keptEntries all;
+      entries = ap kept_entries all;
       unread = record { lower = λ i a b. refl; higher = λ i a b. refl; front = refl; rest = refl; long = refl };
     }
   where
-    all : entriesFrom W at ts 0 count ≡ map entryOfPair (pairsIn W at ts count)
+    all : entries_from W at ts 0 count ≡ map entry_of_pair (pairs_in W at ts count)
     all =
         let a : at + 0 ≡ at = omega arith in
         let b : ts + 0 ≡ ts = omega arith in
         let c : count - 0 ≡ count = omega arith in
-        λ i. map entryOfPair (pairsOf (take (c i) (drop (b i) W)) (take (c i) (drop (a i) W)))
+        λ i. map entry_of_pair (pairs_of (take (c i) (drop (b i) W)) (take (c i) (drop (a i) W)))
 
 module _ {at ts count : ℕ} {W : List ℕ} (h : PairsHeld at ts count W) {kept j : ℕ} {E : List ℕ} (s : Keeping at ts count W kept j E) where
   -- all are read
@@ -188,49 +188,49 @@ module _ {at ts count : ℕ} {W : List ℕ} (h : PairsHeld at ts count W) {kept 
   keeping_all l =
       record {
         entries =
-            sym (append-nil (entriesIn E at ts kept))
-            ∙ ap (λ (v : List Entry). entriesIn E at ts kept ++ v) (sym (ap (keptBehind E at ts kept) (entries_none h j l) ∙ behind-none E at ts kept))
+            sym (append-nil (entries_in E at ts kept))
+            ∙ ap (λ (v : List Entry). entries_in E at ts kept ++ v) (sym (ap (kept_behind E at ts kept) (entries_none h j l) ∙ behind_none E at ts kept))
             ∙ s.entries;
         few = omega (arith, s.low, s.high);
         front = s.unread.front;
         rest = s.unread.rest;
       }
 
-  module _ (g : (i : ℕ) → get_or W i 0 < 18446744073709551616) (l : j < count) {r : Bool} (k : r ≡ closeToLast E at ts kept (pairEntryAt E at ts j)) where
+  module _ (g : (i : ℕ) → get_or W i 0 < 18446744073709551616) (l : j < count) {r : Bool} (k : r ≡ close_to_last E at ts kept (pair_entry_at E at ts j)) where
     -- the entry of the pair at place j, and those behind it
     abbrev next : Entry
-    next = entryOfPair (pair_at W at ts j)
+    next = entry_of_pair (pair_at W at ts j)
 
     abbrev others : List Entry
-    others = entriesFrom W at ts (j + 1) count
+    others = entries_from W at ts (j + 1) count
 
-    close-is : closeToLast E at ts kept next ≡ r
-    close-is = ap (closeToLast E at ts kept) (sym (pair_is h g s.low l s.unread)) ∙ sym k
+    close_is : close_to_last E at ts kept next ≡ r
+    close_is = ap (close_to_last E at ts kept) (sym (pair_is h g s.low l s.unread)) ∙ sym k
 
     -- it is close to the last kept
-    pub keeping-less : r ≡ true → Keeping at ts count W kept (j + 1) E
-    keeping-less y =
+    pub keeping_less : r ≡ true → Keeping at ts count W kept (j + 1) E
+    keeping_less y =
         record {
           low = omega (arith, s.low);
           high = omega arith;
           entries =
-              ap (λ (v : List Entry). entriesIn E at ts kept ++ v) (sym (ap (keptBehind E at ts kept) (entries-cons h j l) ∙ behind-close E at ts kept next others (close-is ∙ y)))
+              ap (λ (v : List Entry). entries_in E at ts kept ++ v) (sym (ap (kept_behind E at ts kept) (entries_cons h j l) ∙ behind_close E at ts kept next others (close_is ∙ y)))
               ∙ s.entries;
-          unread = unread-less s.unread;
+          unread = unread_less s.unread;
         }
 
     -- it is kept
-    pub keeping-more : {F : List ℕ} → r ≡ false → F ≡ entryWritten E at ts j kept → Keeping at ts count W (kept + 1) (j + 1) F
-    keeping-more {F} n e =
+    pub keeping_more : {F : List ℕ} → r ≡ false → F ≡ entry_written E at ts j kept → Keeping at ts count W (kept + 1) (j + 1) F
+    keeping_more {F} n e =
         subst (Keeping at ts count W (kept + 1) (j + 1)) (sym e)
         (record {
           low = omega (arith, s.low);
           high = omega arith;
           entries =
-              ap (λ (v : List Entry). v ++ keptBehind (entryWritten E at ts j kept) at ts (kept + 1) others) (written-more h g s.low l s.unread)
-              ∙ ap (λ (v : List Entry). (entriesIn E at ts kept ++ next ∷ []) ++ v) (written_last h g s.low l s.unread others)
-              ∙ append_assoc (entriesIn E at ts kept) (next ∷ []) (dropAfter next others)
-              ∙ ap (λ (v : List Entry). entriesIn E at ts kept ++ v) (sym (ap (keptBehind E at ts kept) (entries-cons h j l) ∙ behind-far E at ts kept next others (close-is ∙ n)))
+              ap (λ (v : List Entry). v ++ kept_behind (entry_written E at ts j kept) at ts (kept + 1) others) (written_more h g s.low l s.unread)
+              ∙ ap (λ (v : List Entry). (entries_in E at ts kept ++ next ∷ []) ++ v) (written_last h g s.low l s.unread others)
+              ∙ append_assoc (entries_in E at ts kept) (next ∷ []) (drop_after next others)
+              ∙ ap (λ (v : List Entry). entries_in E at ts kept ++ v) (sym (ap (kept_behind E at ts kept) (entries_cons h j l) ∙ behind_far E at ts kept next others (close_is ∙ n)))
               ∙ s.entries;
-          unread = written-unread h g s.low l s.unread;
+          unread = written_unread h g s.low l s.unread;
         })

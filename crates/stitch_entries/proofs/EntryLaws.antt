@@ -11,47 +11,47 @@ use Rattle.float_steps.specs.Floats.{f64, absolute}
 use Rattle.patch_geometry.specs.Geometry.{sub}
 use Rattle.slice_pairs.specs.Pairs.{pair_of}
 use Rattle.stitch_splits.specs.Splits.{near_last}
-use Rattle.stitch_splits.specs.Entries.{Entry, entry_of, entry_at, closeTo}
-use Rattle.stitch_pairs.specs.FoundPairs.{entryOfPair}
-use Rattle.stitch_entries.specs.PairEntries.{entryOfWords, pairEntryAt, closeKeys, closeToLast}
+use Rattle.stitch_splits.specs.Entries.{Entry, entry_of, entry_at, close_to}
+use Rattle.stitch_pairs.specs.FoundPairs.{entry_of_pair}
+use Rattle.stitch_entries.specs.PairEntries.{entry_of_words, pair_entry_at, close_keys, close_to_last}
 
 -- ---- whether a pair is close to an entry
 
 module _ (W : List ℕ) (at ts j k : ℕ) {a b : ℕ} (f : a ≡ get_or W (ts + j) 0 / 4611686018427387904) (g : b ≡ get_or W (at + k) 0 / 262144) where
   -- they are on one edge
-  pub close-same : {p q : Float} {r : Bool} → a ≡ b → p ≡ f64 (get_or W (ts + j) 0 % 4611686018427387904) → q ≡ f64 (get_or W (ts + k) 0) → r ≡ lt (absolute (sub p q)) near_last
-      → r ≡ closeTo (entry_at W at ts k) (pairEntryAt W at ts j)
-  close-same {p} {q} {r} e u v h =
+  pub close_same : {p q : Float} {r : Bool} → a ≡ b → p ≡ f64 (get_or W (ts + j) 0 % 4611686018427387904) → q ≡ f64 (get_or W (ts + k) 0) → r ≡ lt (absolute (sub p q)) near_last
+      → r ≡ close_to (entry_at W at ts k) (pair_entry_at W at ts j)
+  close_same {p} {q} {r} e u v h =
       h ∙ rw (eq-eqb (get_or W (ts + j) 0 / 4611686018427387904) (get_or W (at + k) 0 / 262144) (sym f ∙ e ∙ g)) (λ i. lt (absolute (sub (u i) (v i))) near_last)
 
   -- they are on two
-  pub close_other : (a ≡ b → ⊥) → false ≡ closeTo (entry_at W at ts k) (pairEntryAt W at ts j)
+  pub close_other : (a ≡ b → ⊥) → false ≡ close_to (entry_at W at ts k) (pair_entry_at W at ts j)
   close_other n = rw (ne_eqb (get_or W (ts + j) 0 / 4611686018427387904) (get_or W (at + k) 0 / 262144) (λ z. n (f ∙ z ∙ sym g)))
 
 -- ---- whether two pairs are close
 
 module _ (x y : ℕ) {a b : ℕ} (f : a ≡ y / 4611686018427387904) (g : b ≡ x / 4611686018427387904) where
   -- they are on one edge
-  pub keys-same : {p q : Float} {r : Bool} → a ≡ b → p ≡ f64 (y % 4611686018427387904) → q ≡ f64 (x % 4611686018427387904) → r ≡ lt (absolute (sub p q)) near_last → r ≡ closeKeys x y
-  keys-same e u v h = h ∙ rw (eq-eqb (y / 4611686018427387904) (x / 4611686018427387904) (sym f ∙ e ∙ g)) (λ i. lt (absolute (sub (u i) (v i))) near_last)
+  pub keys_same : {p q : Float} {r : Bool} → a ≡ b → p ≡ f64 (y % 4611686018427387904) → q ≡ f64 (x % 4611686018427387904) → r ≡ lt (absolute (sub p q)) near_last → r ≡ close_keys x y
+  keys_same e u v h = h ∙ rw (eq-eqb (y / 4611686018427387904) (x / 4611686018427387904) (sym f ∙ e ∙ g)) (λ i. lt (absolute (sub (u i) (v i))) near_last)
 
   -- they are on two
-  pub keys-other : (a ≡ b → ⊥) → false ≡ closeKeys x y
-  keys-other n = rw (ne_eqb (y / 4611686018427387904) (x / 4611686018427387904) (λ z. n (f ∙ z ∙ sym g)))
+  pub keys_other : (a ≡ b → ⊥) → false ≡ close_keys x y
+  keys_other n = rw (ne_eqb (y / 4611686018427387904) (x / 4611686018427387904) (λ z. n (f ∙ z ∙ sym g)))
 
 -- ---- the last kept
 
 -- none is kept
-pub last_none : (W : List ℕ) (at ts kept : ℕ) (y : Entry) → kept ≡ 0 → false ≡ closeToLast W at ts kept y
-unfolding closeToLast
-last_none W at ts kept y e = ap (λ (k : ℕ). closeToLast W at ts k y) (sym e)
+pub last_none : (W : List ℕ) (at ts kept : ℕ) (y : Entry) → kept ≡ 0 → false ≡ close_to_last W at ts kept y
+unfolding close_to_last
+last_none W at ts kept y e = ap (λ (k : ℕ). close_to_last W at ts k y) (sym e)
 
 -- the last kept is in front of place `kept`
-pub last-is : (W : List ℕ) (at ts kept : ℕ) (y : Entry) {r : Bool} → (kept ≡ 0 → ⊥) → r ≡ closeTo (entry_at W at ts (kept - 1)) y → r ≡ closeToLast W at ts kept y
-unfolding closeToLast
-last-is W at ts kept y n k =
+pub last_is : (W : List ℕ) (at ts kept : ℕ) (y : Entry) {r : Bool} → (kept ≡ 0 → ⊥) → r ≡ close_to (entry_at W at ts (kept - 1)) y → r ≡ close_to_last W at ts kept y
+unfolding close_to_last
+last_is W at ts kept y n k =
     let e : suc (kept - 1) ≡ kept = omega arith in
-    k ∙ ap (λ (i : ℕ). closeToLast W at ts i y) e
+    k ∙ ap (λ (i : ℕ). close_to_last W at ts i y) e
 
 -- ---- the entry of a pair
 
@@ -60,17 +60,17 @@ make : ℕ → Float → ℕ → Entry
 make e t g = record { e = e; t = t; vertex = g }
 
 -- the entry of a number is that of its two words
-pub words-pair : (x y : ℕ) → y < 18446744073709551616 → entryOfPair (pair_of x y) ≡ entryOfWords x y
+pub words_pair : (x y : ℕ) → y < 18446744073709551616 → entry_of_pair (pair_of x y) ≡ entry_of_words x y
 unfolding make
-words-pair x y l =
+words_pair x y l =
     let h : (18446744073709551616 * x + y) / 18446744073709551616 ≡ x = omega arith in
     let v : (18446744073709551616 * x + y) % 262144 ≡ y % 262144 = omega arith in
     ap (λ (a : ℕ). make (a / 4611686018427387904) (f64 (a % 4611686018427387904)) (pair_of x y % 262144)) h ∙ ap (make (x / 4611686018427387904) (f64 (x % 4611686018427387904))) v
 
 -- it is written as edge and vertex in one word and the parameter's bits in another
-pub words-entry : (x y : ℕ) → entry_of (x / 4611686018427387904 * 262144 + y % 262144) (x % 4611686018427387904) ≡ entryOfWords x y
+pub words_entry : (x y : ℕ) → entry_of (x / 4611686018427387904 * 262144 + y % 262144) (x % 4611686018427387904) ≡ entry_of_words x y
 unfolding make
-words-entry x y =
+words_entry x y =
     let e : (x / 4611686018427387904 * 262144 + y % 262144) / 262144 ≡ x / 4611686018427387904 = omega arith in
     let v : (x / 4611686018427387904 * 262144 + y % 262144) % 262144 ≡ y % 262144 = omega arith in
     ap (λ (a : ℕ). make a (f64 (x % 4611686018427387904)) ((x / 4611686018427387904 * 262144 + y % 262144) % 262144)) e

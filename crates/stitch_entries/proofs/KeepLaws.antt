@@ -9,17 +9,17 @@ use native.Mathlib.Omega.{arith}
 use borrow.Author.Tests.{le-leb, leb-true, ltb-true, ltb-false}
 use lib.Dec.{leb, ltb}
 use lib.ListN.{length, get_or}
-use Rattle.slice_pairs.specs.Rearranged.{Rearranged, same_then, same-turned, same_length, same-each}
-use Rattle.slice_pairs.specs.Rising.{Rises, rises-least, rises-only}
-use Rattle.slice_pairs.specs.Pairs.{pairsOf, pairsIn, pair_at, PairsHeld, PairsSorted, pairs-length, pairs-at}
-use Rattle.stitch_splits.specs.Entries.{Entry, closeTo, dropAfter, entriesOf, keptEntries}
-use Rattle.stitch_pairs.specs.FoundPairs.{entryOfPair}
-use Rattle.stitch_pairs.specs.Inserted.{insertNumbers, inserted-rises, inserted_same}
+use Rattle.slice_pairs.specs.Rearranged.{Rearranged, same_then, same_turned, same_length, same_each}
+use Rattle.slice_pairs.specs.Rising.{Rises, rises_least, rises_only}
+use Rattle.slice_pairs.specs.Pairs.{pairs_of, pairs_in, pair_at, PairsHeld, PairsSorted, pairs_length, pairs_at}
+use Rattle.stitch_splits.specs.Entries.{Entry, close_to, drop_after, entries_of, kept_entries}
+use Rattle.stitch_pairs.specs.FoundPairs.{entry_of_pair}
+use Rattle.stitch_pairs.specs.Inserted.{insert_numbers, inserted_rises, inserted_same}
 use Rattle.stitch_pairs.specs.Words.{KeptOfPairs, KeptInOrder}
-use Rattle.stitch_entries.specs.PairEntries.{entryOfWords, entryWritten, closeKeys}
+use Rattle.stitch_entries.specs.PairEntries.{entry_of_words, entry_written, close_keys}
 use Rattle.stitch_entries.specs.LeastPairs.{SomePairs, LeastPair, CloseReady, AllClose}
-use Rattle.stitch_entries.proofs.EntryLaws.{words-pair}
-use Rattle.stitch_entries.proofs.DropLaws.{Unread, written-more, written-unread}
+use Rattle.stitch_entries.proofs.EntryLaws.{words_pair}
+use Rattle.stitch_entries.proofs.DropLaws.{Unread, written_more, written_unread}
 
 -- ---- the least pair
 
@@ -30,8 +30,8 @@ pub record Lowest (at ts n : ℕ) (W : List ℕ) (k j : ℕ) : Type 0 where
   pub least : (i : ℕ) → i < j → pair_at W at ts k ≤ pair_at W at ts i
 
 -- of the first
-pub lowest-none : {at ts n : ℕ} {W : List ℕ} → SomePairs at ts n W → Lowest at ts n W 0 1
-lowest-none {at} {ts} {n} {W} s = record { inside = s.some; some = omega arith; least = λ i l. only i l }
+pub lowest_none : {at ts n : ℕ} {W : List ℕ} → SomePairs at ts n W → Lowest at ts n W 0 1
+lowest_none {at} {ts} {n} {W} s = record { inside = s.some; some = omega arith; least = λ i l. only i l }
   where
     only : (i : ℕ) → i < 1 → pair_at W at ts 0 ≤ pair_at W at ts i
     only zero l = omega arith
@@ -44,8 +44,8 @@ below_next i j l (no n) P p f = f i (omega arith)
 
 module _ {at ts n : ℕ} {W : List ℕ} {k j : ℕ} (s : Lowest at ts n W k j) (l : j < n) {r : Bool} (c : r ≡ ltb (pair_at W at ts j) (pair_at W at ts k)) where
   -- the next is lower
-  pub lowest-next : r ≡ true → Lowest at ts n W j (j + 1)
-  lowest-next y =
+  pub lowest_next : r ≡ true → Lowest at ts n W j (j + 1)
+  lowest_next y =
       let h : pair_at W at ts j < pair_at W at ts k = ltb-true (pair_at W at ts j) (pair_at W at ts k) (sym c ∙ y) in
       record {
         inside = l;
@@ -54,8 +54,8 @@ module _ {at ts n : ℕ} {W : List ℕ} {k j : ℕ} (s : Lowest at ts n W k j) (
       }
 
   -- it is not
-  pub lowest-same : r ≡ false → Lowest at ts n W k (j + 1)
-  lowest-same y =
+  pub lowest_same : r ≡ false → Lowest at ts n W k (j + 1)
+  lowest_same y =
       let h : pair_at W at ts k ≤ pair_at W at ts j = ltb-false (pair_at W at ts j) (pair_at W at ts k) (sym c ∙ y) in
       record {
         inside = s.inside;
@@ -64,49 +64,49 @@ module _ {at ts n : ℕ} {W : List ℕ} {k j : ℕ} (s : Lowest at ts n W k j) (
       }
 
 -- of all
-pub lowest-all : {at ts n : ℕ} {W : List ℕ} {k j : ℕ} → Lowest at ts n W k j → n ≤ j → LeastPair at ts n W k
-lowest-all s l = record { inside = s.inside; least = λ i b. s.least i (omega arith) }
+pub lowest_all : {at ts n : ℕ} {W : List ℕ} {k j : ℕ} → Lowest at ts n W k j → n ≤ j → LeastPair at ts n W k
+lowest_all s l = record { inside = s.inside; least = λ i b. s.least i (omega arith) }
 
 -- ---- all are close
 
 -- the first j pairs are close to the one at place k
 pub record CloseSoFar (ts k : ℕ) (W : List ℕ) (j : ℕ) : Type 0 where
-  pub close : (i : ℕ) → i < j → closeKeys (get_or W (ts + k) 0) (get_or W (ts + i) 0) ≡ true
+  pub close : (i : ℕ) → i < j → close_keys (get_or W (ts + k) 0) (get_or W (ts + i) 0) ≡ true
 
-pub close-none : (ts k : ℕ) (W : List ℕ) → CloseSoFar ts k W 0
-close-none ts k W = record { close = λ i l. absurd (omega arith) }
+pub close_none : (ts k : ℕ) (W : List ℕ) → CloseSoFar ts k W 0
+close_none ts k W = record { close = λ i l. absurd (omega arith) }
 
 -- one more is
-pub close_more : {ts k : ℕ} {W : List ℕ} {j : ℕ} → CloseSoFar ts k W j → {r : Bool} → r ≡ closeKeys (get_or W (ts + k) 0) (get_or W (ts + j) 0) → r ≡ true → CloseSoFar ts k W (j + 1)
+pub close_more : {ts k : ℕ} {W : List ℕ} {j : ℕ} → CloseSoFar ts k W j → {r : Bool} → r ≡ close_keys (get_or W (ts + k) 0) (get_or W (ts + j) 0) → r ≡ true → CloseSoFar ts k W (j + 1)
 close_more {ts} {k} {W} {j} s c y =
-    record { close = λ i b. below_next i j b (ℕ_discrete i j) (λ z. closeKeys (get_or W (ts + k) 0) (get_or W (ts + z) 0) ≡ true) (sym c ∙ y) s.close }
+    record { close = λ i b. below_next i j b (ℕ_discrete i j) (λ z. close_keys (get_or W (ts + k) 0) (get_or W (ts + z) 0) ≡ true) (sym c ∙ y) s.close }
 
 -- all are
-pub close-all : {ts n k : ℕ} {W : List ℕ} {j : ℕ} → CloseSoFar ts k W j → n ≤ j → AllClose ts n k W true
-close-all s l = record { close = λ y i b. s.close i (omega arith) }
+pub close_all : {ts n k : ℕ} {W : List ℕ} {j : ℕ} → CloseSoFar ts k W j → n ≤ j → AllClose ts n k W true
+close_all s l = record { close = λ y i b. s.close i (omega arith) }
 
 -- one is not
-pub close-not : (ts n k : ℕ) (W : List ℕ) → AllClose ts n k W false
-close-not ts n k W = record { close = λ y. absurd (true≢false (sym y)) }
+pub close_not : (ts n k : ℕ) (W : List ℕ) → AllClose ts n k W false
+close_not ts n k W = record { close = λ y. absurd (true≢false (sym y)) }
 
 -- ---- what is kept of pairs that are all close to the least
 
 -- of entries that are all close to the last kept none is
-drop_all : (x : Entry) (ys : List ℕ) → ((j : ℕ) → j < length ys → closeTo x (entryOfPair (get_or ys j 0)) ≡ true) → dropAfter x (map entryOfPair ys) ≡ []
-unfolding dropAfter
+drop_all : (x : Entry) (ys : List ℕ) → ((j : ℕ) → j < length ys → close_to x (entry_of_pair (get_or ys j 0)) ≡ true) → drop_after x (map entry_of_pair ys) ≡ []
+unfolding drop_after
 drop_all x [] f = refl
-drop_all x (y ∷ ys) f = dropped (entryOfPair y) (map entryOfPair ys) (f 0 (omega arith)) ∙ drop_all x ys (λ j l. f (suc j) (omega arith))
+drop_all x (y ∷ ys) f = dropped (entry_of_pair y) (map entry_of_pair ys) (f 0 (omega arith)) ∙ drop_all x ys (λ j l. f (suc j) (omega arith))
   where
-    dropped : (z : Entry) (zs : List Entry) → closeTo x z ≡ true → dropAfter x (z ∷ zs) ≡ dropAfter x zs
-    dropped z zs e = rw (e, dropAfter)
+    dropped : (z : Entry) (zs : List Entry) → close_to x z ≡ true → drop_after x (z ∷ zs) ≡ drop_after x zs
+    dropped z zs e = rw (e, drop_after)
 
 -- Of rising numbers that are those of a list, all close to the least of it, the least is kept alone.
-least-only : (xs ys : List ℕ) (k : ℕ) → Rises xs → Rearranged xs ys → k < length ys → ((j : ℕ) → j < length ys → get_or ys k 0 ≤ get_or ys j 0)
-    → ((j : ℕ) → j < length ys → closeTo (entryOfPair (get_or ys k 0)) (entryOfPair (get_or ys j 0)) ≡ true)
-    → keptEntries (map entryOfPair xs) ≡ entryOfPair (get_or ys k 0) ∷ []
-unfolding keptEntries
-least-only [] ys k u r l h f = absurd (omega (arith, same_length r))
-least-only (x ∷ xs) ys k u r l h f = ap (λ (e : Entry). e ∷ dropAfter e (map entryOfPair xs)) (ap entryOfPair first) ∙ ap (λ (v : List Entry). entryOfPair m ∷ v) (drop_all (entryOfPair m) xs others)
+least_only : (xs ys : List ℕ) (k : ℕ) → Rises xs → Rearranged xs ys → k < length ys → ((j : ℕ) → j < length ys → get_or ys k 0 ≤ get_or ys j 0)
+    → ((j : ℕ) → j < length ys → close_to (entry_of_pair (get_or ys k 0)) (entry_of_pair (get_or ys j 0)) ≡ true)
+    → kept_entries (map entry_of_pair xs) ≡ entry_of_pair (get_or ys k 0) ∷ []
+unfolding kept_entries
+least_only [] ys k u r l h f = absurd (omega (arith, same_length r))
+least_only (x ∷ xs) ys k u r l h f = ap (λ (e : Entry). e ∷ drop_after e (map entry_of_pair xs)) (ap entry_of_pair first) ∙ ap (λ (v : List Entry). entry_of_pair m ∷ v) (drop_all (entry_of_pair m) xs others)
   where
     m : ℕ
     m = get_or ys k 0
@@ -114,53 +114,53 @@ least-only (x ∷ xs) ys k u r l h f = ap (λ (e : Entry). e ∷ dropAfter e (ma
     first : x ≡ m
     first =
         le_antisymm
-        (leb-true x m (same-each (leb x) 0 (same-turned r) (λ j b. le-leb x (get_or (x ∷ xs) j 0) (rises-least x xs u j b)) k l))
-        (leb-true m x (same-each (leb m) 0 r (λ j b. le-leb m (get_or ys j 0) (h j b)) 0 (omega arith)))
+        (leb-true x m (same_each (leb x) 0 (same_turned r) (λ j b. le-leb x (get_or (x ∷ xs) j 0) (rises_least x xs u j b)) k l))
+        (leb-true m x (same_each (leb m) 0 r (λ j b. le-leb m (get_or ys j 0) (h j b)) 0 (omega arith)))
 
-    others : (j : ℕ) → j < length xs → closeTo (entryOfPair m) (entryOfPair (get_or xs j 0)) ≡ true
-    others j b = same-each (λ z. closeTo (entryOfPair m) (entryOfPair z)) 0 r f (suc j) (omega arith)
+    others : (j : ℕ) → j < length xs → close_to (entry_of_pair m) (entry_of_pair (get_or xs j 0)) ≡ true
+    others j b = same_each (λ z. close_to (entry_of_pair m) (entry_of_pair z)) 0 r f (suc j) (omega arith)
 
 module _ {at ts n : ℕ} {W : List ℕ} (h : PairsHeld at ts n W) (g : (i : ℕ) → get_or W i 0 < 18446744073709551616) {k : ℕ} (l : LeastPair at ts n W k) {r : Bool} (c : AllClose ts n k W r)
     (y : r ≡ true) where
   abbrev ys : List ℕ
-  ys = pairsIn W at ts n
+  ys = pairs_in W at ts n
 
   low : at + n ≤ length W
   low = omega (arith, h.apart, h.room)
 
-  ys-long : length ys ≡ n
-  ys-long = pairs-length W at ts n low h.room
+  ys_long : length ys ≡ n
+  ys_long = pairs_length W at ts n low h.room
 
-  ys-at : (j : ℕ) → j < n → get_or ys j 0 ≡ pair_at W at ts j
-  ys-at = pairs-at W at ts n low h.room
+  ys_at : (j : ℕ) → j < n → get_or ys j 0 ≡ pair_at W at ts j
+  ys_at = pairs_at W at ts n low h.room
 
   -- a pair is an entry of its words
-  words : (j : ℕ) → entryOfPair (pair_at W at ts j) ≡ entryOfWords (get_or W (ts + j) 0) (get_or W (at + j) 0)
-  words j = words-pair (get_or W (ts + j) 0) (get_or W (at + j) 0) (g (at + j))
+  words : (j : ℕ) → entry_of_pair (pair_at W at ts j) ≡ entry_of_words (get_or W (ts + j) 0) (get_or W (at + j) 0)
+  words j = words_pair (get_or W (ts + j) 0) (get_or W (at + j) 0) (g (at + j))
 
-  all-close : (j : ℕ) → j < n → closeTo (entryOfPair (pair_at W at ts k)) (entryOfPair (pair_at W at ts j)) ≡ true
-  all-close j b = (λ i. closeTo (words k i) (words j i)) ∙ c.close y j b
+  all_close : (j : ℕ) → j < n → close_to (entry_of_pair (pair_at W at ts k)) (entry_of_pair (pair_at W at ts j)) ≡ true
+  all_close j b = (λ i. close_to (words k i) (words j i)) ∙ c.close y j b
 
-  kept-one : keptEntries (map entryOfPair (insertNumbers [] ys)) ≡ entryOfPair (pair_at W at ts k) ∷ []
-  kept-one =
-      least-only (insertNumbers [] ys) ys k (inserted-rises ys) (inserted_same ys) (omega (arith, ys-long, l.inside))
-      (λ j b. subst (λ (a : ℕ). a ≤ get_or ys j 0) (sym (ys-at k l.inside))
-      (subst (λ (a : ℕ). pair_at W at ts k ≤ a) (sym (ys-at j (omega (arith, ys-long)))) (l.least j (omega (arith, ys-long)))))
-      (λ j b. (λ i. closeTo (entryOfPair (ys-at k l.inside i)) (entryOfPair (ys-at j (omega (arith, ys-long)) i))) ∙ all-close j (omega (arith, ys-long)))
-      ∙ ap (λ (a : ℕ). entryOfPair a ∷ []) (ys-at k l.inside)
+  kept_one : kept_entries (map entry_of_pair (insert_numbers [] ys)) ≡ entry_of_pair (pair_at W at ts k) ∷ []
+  kept_one =
+      least_only (insert_numbers [] ys) ys k (inserted_rises ys) (inserted_same ys) (omega (arith, ys_long, l.inside))
+      (λ j b. subst (λ (a : ℕ). a ≤ get_or ys j 0) (sym (ys_at k l.inside))
+      (subst (λ (a : ℕ). pair_at W at ts k ≤ a) (sym (ys_at j (omega (arith, ys_long)))) (l.least j (omega (arith, ys_long)))))
+      (λ j b. (λ i. close_to (entry_of_pair (ys_at k l.inside i)) (entry_of_pair (ys_at j (omega (arith, ys_long)) i))) ∙ all_close j (omega (arith, ys_long)))
+      ∙ ap (λ (a : ℕ). entry_of_pair a ∷ []) (ys_at k l.inside)
 
   none_read : Unread at ts n W k W
   none_read = record { lower = λ i a b. refl; higher = λ i a b. refl; front = refl; rest = refl; long = refl }
 
   -- The least alone is kept.
-  pub kept-least : {E : List ℕ} → E ≡ entryWritten W at ts k 0 → KeptInOrder at ts n W E 1
-  unfolding entriesOf
-  kept-least {E} e =
+  pub kept_least : {E : List ℕ} → E ≡ entry_written W at ts k 0 → KeptInOrder at ts n W E 1
+  unfolding entries_of
+  kept_least {E} e =
       let first : 0 ≤ k = omega arith in
-      let after : Unread at ts n W (k + 1) (entryWritten W at ts k 0) = written-unread h g first l.inside none_read in
+      let after : Unread at ts n W (k + 1) (entry_written W at ts k 0) = written_unread h g first l.inside none_read in
       subst (λ (X : List ℕ). KeptInOrder at ts n W X 1) (sym e)
       (record {
-        entries = written-more h g first l.inside none_read ∙ sym kept-one;
+        entries = written_more h g first l.inside none_read ∙ sym kept_one;
         few = omega (arith, l.inside);
         front = after.front;
         rest = after.rest;
@@ -169,31 +169,31 @@ module _ {at ts n : ℕ} {W : List ℕ} (h : PairsHeld at ts n W) (g : (i : ℕ)
 -- ---- no pair, and pairs that are sorted
 
 -- of no pair none is kept
-pub kept-none : (at ts n : ℕ) (W : List ℕ) → n ≡ 0 → KeptInOrder at ts n W W 0
-unfolding pairsOf insertNumbers keptEntries entriesOf
-kept-none at ts n W e =
+pub kept_none : (at ts n : ℕ) (W : List ℕ) → n ≡ 0 → KeptInOrder at ts n W W 0
+unfolding pairs_of insert_numbers kept_entries entries_of
+kept_none at ts n W e =
     record {
-      entries = sym (ap (λ (m : ℕ). keptEntries (map entryOfPair (insertNumbers [] (pairsIn W at ts m)))) e);
+      entries = sym (ap (λ (m : ℕ). kept_entries (map entry_of_pair (insert_numbers [] (pairs_in W at ts m)))) e);
       few = omega arith;
       front = refl;
       rest = refl;
     }
 
 -- What is kept of the sorted pairs is kept of the pairs.
-pub kept-sorted : {at ts n : ℕ} {W S E : List ℕ} {r : ℕ} → PairsSorted at ts n W S → KeptOfPairs at ts n S E r → KeptInOrder at ts n W E r
-kept-sorted {at} {ts} {n} {W} {S} {E} {r} o d =
+pub kept_sorted : {at ts n : ℕ} {W S E : List ℕ} {r : ℕ} → PairsSorted at ts n W S → KeptOfPairs at ts n S E r → KeptInOrder at ts n W E r
+kept_sorted {at} {ts} {n} {W} {S} {E} {r} o d =
     record {
-      entries = d.entries ∙ ap (λ (xs : List ℕ). keptEntries (map entryOfPair xs)) same;
+      entries = d.entries ∙ ap (λ (xs : List ℕ). kept_entries (map entry_of_pair xs)) same;
       few = d.few;
       front = d.front ∙ o.front;
       rest = d.rest ∙ o.rest;
     }
   where
-    same : pairsIn S at ts n ≡ insertNumbers [] (pairsIn W at ts n)
+    same : pairs_in S at ts n ≡ insert_numbers [] (pairs_in W at ts n)
     same =
-        rises-only (pairsIn S at ts n) (insertNumbers [] (pairsIn W at ts n)) o.rises (inserted-rises (pairsIn W at ts n))
-        (same_then o.same (same-turned (inserted_same (pairsIn W at ts n))))
+        rises_only (pairs_in S at ts n) (insert_numbers [] (pairs_in W at ts n)) o.rises (inserted_rises (pairs_in W at ts n))
+        (same_then o.same (same_turned (inserted_same (pairs_in W at ts n))))
 
 -- the sorted pairs are held
-pub sorted-held : {at ts n : ℕ} {W S : List ℕ} → PairsHeld at ts n W → length S ≡ length W → PairsHeld at ts n S
-sorted-held h e = record { apart = h.apart; room = omega (arith, h.room) }
+pub sorted_held : {at ts n : ℕ} {W S : List ℕ} → PairsHeld at ts n W → length S ≡ length W → PairsHeld at ts n S
+sorted_held h e = record { apart = h.apart; room = omega (arith, h.room) }

@@ -1,7 +1,7 @@
 -- The least of some pairs, and whether all pairs are close to one. Assumes nothing.
 use Rattle.std.specs.Prelude.{◌≡◌, Bool, true, List, ℕ, ◌+◌, ◌≤◌, ◌<◌, length, get_or}
 use Rattle.slice_pairs.specs.Pairs.{PairsHeld, pair_at}
-use Rattle.stitch_entries.specs.PairEntries.{closeKeys}
+use Rattle.stitch_entries.specs.PairEntries.{close_keys}
 
 -- n pairs, at least one
 pub record SomePairs (at ts n : ℕ) (W : List ℕ) : Type 0 where
@@ -20,4 +20,4 @@ pub record CloseReady (ts n k : ℕ) (W : List ℕ) : Type 0 where
 
 -- what it answers: if yes, all are on its edge and closer than 1e-9 to it
 pub record AllClose (ts n k : ℕ) (W : List ℕ) (r : Bool) : Type 0 where
-  pub close : r ≡ true → (j : ℕ) → j < n → closeKeys (get_or W (ts + k) 0) (get_or W (ts + j) 0) ≡ true
+  pub close : r ≡ true → (j : ℕ) → j < n → close_keys (get_or W (ts + k) 0) (get_or W (ts + j) 0) ≡ true

@@ -6,9 +6,9 @@ ghost use Rattle.float_steps.specs.Floats.{f64, absolute};
 ghost use Rattle.patch_geometry.specs.Geometry.{sub};
 ghost use Rattle.slice_pairs.specs.Pairs.{PairsHeld};
 ghost use Rattle.stitch_splits.specs.Splits.{near_last};
-ghost use Rattle.stitch_splits.specs.Entries.{closeTo, entry_at, EntryPlaces};
+ghost use Rattle.stitch_splits.specs.Entries.{close_to, entry_at, EntryPlaces};
 ghost use Rattle.stitch_pairs.specs.Words.{PairRoom, PairAppended, KeptOfPairs};
-ghost use Rattle.stitch_entries.specs.PairEntries.{pairEntryAt, entryWritten, closeKeys, closeToLast, KeyPlaces, PairPlace};
+ghost use Rattle.stitch_entries.specs.PairEntries.{pair_entry_at, entry_written, close_keys, close_to_last, KeyPlaces, PairPlace};
 
 use float_steps::{absolute_f64, bits_of_f64, f64_of_bits};
 use stitch_splits::EDGE_STEP;
@@ -69,7 +69,7 @@ fn is_near(x: f64, y: f64) -> bool
 // Whether the pair at place j is on the edge of the entry at place k and closer than 1e-9 to it.
 fn is_close(w: &[u64], at: usize, ts: usize, j: usize, k: usize) -> bool
     requires { EntryPlaces at ts j k w.now }
-    ensures { result ≡ closeTo (entry_at w.now at ts k) (pairEntryAt w.now at ts j) }
+    ensures { result ≡ close_to (entry_at w.now at ts k) (pair_entry_at w.now at ts j) }
 {
     if pair_edge(w, ts, j) == entry_edge(w, at, k) {
         return is_near(pair_parameter(w, ts, j), entry_parameter(w, ts, k));
@@ -80,7 +80,7 @@ fn is_close(w: &[u64], at: usize, ts: usize, j: usize, k: usize) -> bool
 // Whether the pairs at places j and k are on one edge and closer than 1e-9.
 pub fn are_close(w: &[u64], ts: usize, j: usize, k: usize) -> bool
     requires { KeyPlaces ts j k w.now }
-    ensures { result ≡ closeKeys (get_or w.now (ts + k) 0) (get_or w.now (ts + j) 0) }
+    ensures { result ≡ close_keys (get_or w.now (ts + k) 0) (get_or w.now (ts + j) 0) }
 {
     if pair_edge(w, ts, j) == pair_edge(w, ts, k) {
         return is_near(pair_parameter(w, ts, j), pair_parameter(w, ts, k));
@@ -91,7 +91,7 @@ pub fn are_close(w: &[u64], ts: usize, j: usize, k: usize) -> bool
 // The entry of the pair at place j is written to place k.
 pub fn keep_pair(w: &mut [u64], at: usize, ts: usize, j: usize, k: usize)
     requires { EntryPlaces at ts j k w.old }
-    ensures { w.new ≡ entryWritten w.old at ts j k }
+    ensures { w.new ≡ entry_written w.old at ts j k }
 {
     let key = w[ts + j];
     let vertex = w[at + j] % EDGE_STEP;
@@ -102,7 +102,7 @@ pub fn keep_pair(w: &mut [u64], at: usize, ts: usize, j: usize, k: usize)
 // Whether the pair at place j is that close to the last of the `kept` entries.
 fn close_to_last(w: &[u64], at: usize, ts: usize, j: usize, kept: usize) -> bool
     requires { PairPlace at ts j kept w.now }
-    ensures { result ≡ closeToLast w.now at ts kept (pairEntryAt w.now at ts j) }
+    ensures { result ≡ close_to_last w.now at ts kept (pair_entry_at w.now at ts j) }
 {
     if kept == 0 {
         return false;

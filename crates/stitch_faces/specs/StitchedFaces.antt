@@ -12,65 +12,65 @@ use Rattle.std.specs.Float.Ieee.{lt}
 use Rattle.lists.specs.Lists.{sum_of, written}
 use Rattle.point_rules.specs.Rule.{Rule, names}
 use Rattle.join_definition.specs.Join.{joined}
-use Rattle.body_rows.specs.Body.{Row, Patch, rows_of, table_of, patches_of, allIndices, firstFailing}
-use Rattle.body_rows.specs.Rows.{no_row, rowAt, indicesBefore}
-use Rattle.body_rows.specs.Patches.{noPatch, patch-at, length-patches, indices-room}
-use Rattle.body_refusals.specs.BodyChecks.{bodyChecks}
+use Rattle.body_rows.specs.Body.{Row, Patch, rows_of, table_of, patches_of, all_indices, first_failing}
+use Rattle.body_rows.specs.Rows.{no_row, row_at, indices_before}
+use Rattle.body_rows.specs.Patches.{no_patch, patch_at_lem, length_patches, indices_room}
+use Rattle.body_refusals.specs.BodyChecks.{body_checks}
 use Rattle.body_checks.specs.Accepted.{Passed, passed}
 use Rattle.patch_geometry.specs.Geometry.{zero64}
-use Rattle.edge_uses.specs.Edges.{Use, usesFrom, isOpen}
-use Rattle.stitch_loose_points.specs.Loose.{Facet, facetsIn, looseIn}
-use Rattle.stitch_splits.specs.Splits.{splitTriangle}
-use Rattle.stitch_definition.specs.StitchedBody.{StitchedBody, stitchedBodyOf, stitchedBody}
-use Rattle.stitch_definition.specs.Slices.{StitchSlices, AfterStitch, stitchChecks, writeBody, refuseStitch, clearedSlices, stitchOrRefuse}
-use Rattle.stitch_definition.specs.Stitch.{stitchBody, stitchOf}
-use Rattle.stitch_faces.specs.Faces.{rowIndices, isStitched, faceIndices}
-use Rattle.stitch_faces.specs.Unsplit.{Threes, uses-many, split-many, split-sized, split-none}
+use Rattle.edge_uses.specs.Edges.{Use, uses_from, is_open}
+use Rattle.stitch_loose_points.specs.Loose.{Facet, facets_in, loose_in}
+use Rattle.stitch_splits.specs.Splits.{split_triangle}
+use Rattle.stitch_definition.specs.StitchedBody.{StitchedBody, stitched_body_of, stitched_body}
+use Rattle.stitch_definition.specs.Slices.{StitchSlices, AfterStitch, stitch_checks, write_body, refuse_stitch, cleared_slices, stitch_or_refuse}
+use Rattle.stitch_definition.specs.Stitch.{stitch_body, stitch_of}
+use Rattle.stitch_faces.specs.Faces.{row_indices, is_stitched, face_indices}
+use Rattle.stitch_faces.specs.Unsplit.{Threes, uses_many, split_many, split_sized, split_none}
 
 -- ---- a table and a list that were written to the front of a slice
 
 -- the rows of such a table
-table-front : (rows : List Row) (rest : List ℕ) → rows_of (table_of rows ++ rest) ≡ rows ++ rows_of rest
+table_front : (rows : List Row) (rest : List ℕ) → rows_of (table_of rows ++ rest) ≡ rows ++ rows_of rest
 unfolding rows_of table_of
-table-front [] rest = refl
-table-front (r ∷ rs) rest = ap (λ (l : List Row). r ∷ l) (table-front rs rest)
+table_front [] rest = refl
+table_front (r ∷ rs) rest = ap (λ (l : List Row). r ∷ l) (table_front rs rest)
 
 -- one of them
-row-front : (rows : List Row) (rest : List ℕ) (k : ℕ) → k < length rows → rowAt (table_of rows ++ rest) k ≡ get_or rows k no_row
-unfolding rowAt
-row-front rows rest k h = ap (λ (l : List Row). get_or l k no_row) (table-front rows rest) ∙ get_or-append rows (rows_of rest) no_row k h
+row_front : (rows : List Row) (rest : List ℕ) (k : ℕ) → k < length rows → row_at (table_of rows ++ rest) k ≡ get_or rows k no_row
+unfolding row_at
+row_front rows rest k h = ap (λ (l : List Row). get_or l k no_row) (table_front rows rest) ∙ get_or-append rows (rows_of rest) no_row k h
 
 -- where its indices start
-start-front : (rows : List Row) (rest : List ℕ) (k : ℕ) → k ≤ length rows → indicesBefore (rows_of (table_of rows ++ rest)) k ≡ indicesBefore rows k
-unfolding indicesBefore
-start-front rows rest k h = ap (λ (l : List Row). allIndices (take k l)) (table-front rows rest) ∙ ap allIndices (take-append-le k rows (rows_of rest) h)
+start_front : (rows : List Row) (rest : List ℕ) (k : ℕ) → k ≤ length rows → indices_before (rows_of (table_of rows ++ rest)) k ≡ indices_before rows k
+unfolding indices_before
+start_front rows rest k h = ap (λ (l : List Row). all_indices (take k l)) (table_front rows rest) ∙ ap all_indices (take-append-le k rows (rows_of rest) h)
 
 -- the rows of some patches
-abbrev rowsIn : List Patch → List Row
-rowsIn patches = map (λ p. p.row) patches
+abbrev rows_in : List Patch → List Row
+rows_in patches = map (λ p. p.row) patches
 
 -- their indices, laid end to end
-abbrev indicesIn : List Patch → List ℕ
-indicesIn patches = flat_map (λ p. p.indices) patches
+abbrev indices_in : List Patch → List ℕ
+indices_in patches = flat_map (λ p. p.indices) patches
 
 -- each patch has as many indices as its row says
 record Sized (patches : List Patch) : Type 0 where
-  each : (j : ℕ) → j < length patches → length (get_or patches j noPatch).indices ≡ (get_or patches j noPatch).row.indices
+  each : (j : ℕ) → j < length patches → length (get_or patches j no_patch).indices ≡ (get_or patches j no_patch).row.indices
 
 -- then patch k's stand where its row says
-patch-stretch : (patches : List Patch) (rest : List ℕ) (k : ℕ) → Sized patches → k < length patches
-    → take (get_or (rowsIn patches) k no_row).indices (drop (indicesBefore (rowsIn patches) k) (indicesIn patches ++ rest)) ≡ (get_or patches k noPatch).indices
-unfolding flat_map indicesBefore allIndices sum_of
-patch-stretch [] rest k s h = absurd (not-suc-le-zero h)
-patch-stretch (p ∷ ps) rest zero s h =
-    ap (take p.row.indices) (append_assoc p.indices (indicesIn ps) rest) ∙ take_at p.indices (indicesIn ps ++ rest) p.row.indices (s.each 0 (omega arith))
-patch-stretch (p ∷ ps) rest (suc k) s h =
+patch_stretch : (patches : List Patch) (rest : List ℕ) (k : ℕ) → Sized patches → k < length patches
+    → take (get_or (rows_in patches) k no_row).indices (drop (indices_before (rows_in patches) k) (indices_in patches ++ rest)) ≡ (get_or patches k no_patch).indices
+unfolding flat_map indices_before all_indices sum_of
+patch_stretch [] rest k s h = absurd (not-suc-le-zero h)
+patch_stretch (p ∷ ps) rest zero s h =
+    ap (take p.row.indices) (append_assoc p.indices (indices_in ps) rest) ∙ take_at p.indices (indices_in ps ++ rest) p.row.indices (s.each 0 (omega arith))
+patch_stretch (p ∷ ps) rest (suc k) s h =
     let n = p.row.indices in
-    let m = indicesBefore (rowsIn ps) k in
-    let behind : drop n ((p.indices ++ indicesIn ps) ++ rest) ≡ indicesIn ps ++ rest =
-    ap (drop n) (append_assoc p.indices (indicesIn ps) rest) ∙ drop_at p.indices (indicesIn ps ++ rest) n (s.each 0 (omega arith)) in
-    ap (take (get_or (rowsIn ps) k no_row).indices) (sym (drop-drop m n ((p.indices ++ indicesIn ps) ++ rest)) ∙ ap (drop m) behind)
-    ∙ patch-stretch ps rest k (record { each = λ j l. s.each (suc j) (omega arith) }) (le_of_suc-le-suc h)
+    let m = indices_before (rows_in ps) k in
+    let behind : drop n ((p.indices ++ indices_in ps) ++ rest) ≡ indices_in ps ++ rest =
+    ap (drop n) (append_assoc p.indices (indices_in ps) rest) ∙ drop_at p.indices (indices_in ps ++ rest) n (s.each 0 (omega arith)) in
+    ap (take (get_or (rows_in ps) k no_row).indices) (sym (drop-drop m n ((p.indices ++ indices_in ps) ++ rest)) ∙ ap (drop m) behind)
+    ∙ patch_stretch ps rest k (record { each = λ j l. s.each (suc j) (omega arith) }) (le_of_suc-le-suc h)
 
 -- ---- patches that came through stitching
 
@@ -78,47 +78,47 @@ patch-stretch (p ∷ ps) rest (suc k) s h =
 record Through (table is : List ℕ) (patches : List Patch) : Type 0 where
   many : length patches ≡ length (rows_of table)
   sized : Sized patches
-  unsplit : (k : ℕ) → k < length (rows_of table) → (get_or patches k noPatch).row.vertices ≤ (rowAt table k).vertices → (get_or patches k noPatch).indices ≡ rowIndices table is k
+  unsplit : (k : ℕ) → k < length (rows_of table) → (get_or patches k no_patch).row.vertices ≤ (row_at table k).vertices → (get_or patches k no_patch).indices ≡ row_indices table is k
 
 module _ {table is : List ℕ} {patches : List Patch} (t : Through table is patches) (R I : List ℕ) (k : ℕ) (h : k < length (rows_of table)) where
   -- patch k
   abbrev patch : Patch
-  patch = get_or patches k noPatch
+  patch = get_or patches k no_patch
 
   -- the table and the indices as they were written
   abbrev after : List ℕ
-  after = table_of (rowsIn patches) ++ R
+  after = table_of (rows_in patches) ++ R
 
   abbrev new : List ℕ
-  new = indicesIn patches ++ I
+  new = indices_in patches ++ I
 
   -- the table has the patch's row
-  row-after : rowAt after k ≡ patch.row
-  row-after =
-      row-front (rowsIn patches) R k (omega (arith, length-map patches (λ (p : Patch). p.row), t.many)) ∙ get_or-map (λ (p : Patch). p.row) patches k noPatch
+  row_after : row_at after k ≡ patch.row
+  row_after =
+      row_front (rows_in patches) R k (omega (arith, length-map patches (λ (p : Patch). p.row), t.many)) ∙ get_or-map (λ (p : Patch). p.row) patches k no_patch
 
   -- the row's indices are the patch's
-  stretch-after : rowIndices after new k ≡ patch.indices
-  unfolding rowIndices
-  stretch-after =
+  stretch_after : row_indices after new k ≡ patch.indices
+  unfolding row_indices
+  stretch_after =
       let long = length-map patches (λ (p : Patch). p.row) in
-      (λ i. take (row-front (rowsIn patches) R k (omega (arith, long, t.many)) i).indices (drop (start-front (rowsIn patches) R k (omega (arith, long, t.many)) i) new))
-      ∙ patch-stretch patches I k t.sized (omega (arith, t.many))
+      (λ i. take (row_front (rows_in patches) R k (omega (arith, long, t.many)) i).indices (drop (start_front (rows_in patches) R k (omega (arith, long, t.many)) i) new))
+      ∙ patch_stretch patches I k t.sized (omega (arith, t.many))
 
   -- by whether the row has new vertices
-  face-by : (b : Bool) → ltb (rowAt table k).vertices (rowAt after k).vertices ≡ b → cond b (rowIndices after new k) (rowIndices table is k) ≡ patch.indices
-  face-by true e = stretch-after
-  face-by false e =
-      let low = ltb-false (rowAt table k).vertices (rowAt after k).vertices e in
-      let same = ap (λ (r : Row). r.vertices) row-after in
+  face_by : (b : Bool) → ltb (row_at table k).vertices (row_at after k).vertices ≡ b → cond b (row_indices after new k) (row_indices table is k) ≡ patch.indices
+  face_by true e = stretch_after
+  face_by false e =
+      let low = ltb-false (row_at table k).vertices (row_at after k).vertices e in
+      let same = ap (λ (r : Row). r.vertices) row_after in
       sym (t.unsplit k h (omega arith))
 
   -- A face's indices are those of its patch.
-  face-through : faceIndices table after is new k ≡ patch.indices
-  unfolding faceIndices isStitched
-  face-through =
-      let grown = ltb (rowAt table k).vertices (rowAt after k).vertices in
-      ap (λ (b : Bool). cond (b && grown) (rowIndices after new k) (rowIndices table is k)) (lt-ltb k (length (rows_of table)) h) ∙ face-by grown refl
+  face_through : face_indices table after is new k ≡ patch.indices
+  unfolding face_indices is_stitched
+  face_through =
+      let grown = ltb (row_at table k).vertices (row_at after k).vertices in
+      ap (λ (b : Bool). cond (b && grown) (row_indices after new k) (row_indices table is k)) (lt-ltb k (length (rows_of table)) h) ∙ face_by grown refl
 
 -- ---- the stitched body
 
@@ -128,75 +128,75 @@ module _ {table : List ℕ} {ps ns : List Float} {is : List ℕ} {words : ℕ} (
   own = patches_of (rows_of table) ps ns is
 
   -- patch k has row k
-  own_row : (k : ℕ) → k < length (rows_of table) → (get_or own k noPatch).row ≡ rowAt table k
-  unfolding rowAt
-  own_row k h = ap (λ (q : Patch). q.row) (patch-at (rows_of table) ps ns is k h)
+  own_row : (k : ℕ) → k < length (rows_of table) → (get_or own k no_patch).row ≡ row_at table k
+  unfolding row_at
+  own_row k h = ap (λ (q : Patch). q.row) (patch_at_lem (rows_of table) ps ns is k h)
 
   -- and its indices
-  own-indices : (k : ℕ) → k < length (rows_of table) → (get_or own k noPatch).indices ≡ rowIndices table is k
-  unfolding rowAt rowIndices
-  own-indices k h = ap (λ (q : Patch). q.indices) (patch-at (rows_of table) ps ns is k h)
+  own_indices : (k : ℕ) → k < length (rows_of table) → (get_or own k no_patch).indices ≡ row_indices table is k
+  unfolding row_at row_indices
+  own_indices k h = ap (λ (q : Patch). q.indices) (patch_at_lem (rows_of table) ps ns is k h)
 
   -- as many as the row says
-  own-many : (k : ℕ) → k < length (rows_of table) → length (get_or own k noPatch).indices ≡ (rowAt table k).indices
-  unfolding rowAt rowIndices
-  own-many k h =
-      let room = indices-room (rows_of table) k h in
-      let start = indicesBefore (rows_of table) k in
-      ap length (own-indices k h) ∙ length-take-le (rowAt table k).indices (drop start is) (omega (arith, length-drop start is, p.all-indices))
+  own_many : (k : ℕ) → k < length (rows_of table) → length (get_or own k no_patch).indices ≡ (row_at table k).indices
+  unfolding row_at row_indices
+  own_many k h =
+      let room = indices_room (rows_of table) k h in
+      let start = indices_before (rows_of table) k in
+      ap length (own_indices k h) ∙ length-take-le (row_at table k).indices (drop start is) (omega (arith, length-drop start is, p.all_indices_lem))
 
   -- whole triangles
-  own-threes : Threes own
-  own-threes =
+  own_threes : Threes own
+  own_threes =
       record {
         each = λ j h.
-            let l : j < length (rows_of table) = omega (arith, length-patches (rows_of table) ps ns is) in ap (λ (n : ℕ). n % 3) (own-many j l) ∙ p.threes j l;
+            let l : j < length (rows_of table) = omega (arith, length_patches (rows_of table) ps ns is) in ap (λ (n : ℕ). n % 3) (own_many j l) ∙ p.threes j l;
       }
 
   -- a body that is copied comes through
-  copied-through : Through table is own
-  copied-through =
-      let many = length-patches (rows_of table) ps ns is in
+  copied_through : Through table is own
+  copied_through =
+      let many = length_patches (rows_of table) ps ns is in
       record {
         many = many;
-        sized = record { each = λ j h. let l : j < length (rows_of table) = omega arith in own-many j l ∙ sym (ap (λ (r : Row). r.indices) (own_row j l)) };
-        unsplit = λ k h v. own-indices k h;
+        sized = record { each = λ j h. let l : j < length (rows_of table) = omega arith in own_many j l ∙ sym (ap (λ (r : Row). r.indices) (own_row j l)) };
+        unsplit = λ k h v. own_indices k h;
       }
 
   -- so does one that is stitched
-  split-through : (sag : Float) (nms : List ℕ) → Through table is (stitchedBody sag nms own).patches
-  unfolding stitchedBody stitchedBodyOf facetsIn splitTriangle
-  split-through sag nms =
-      let us : List Use = usesFrom (λ r. 0) 0 (joined nms) own in
-      let areOpen = map (isOpen us) us in
-      let split = splitTriangle sag (looseIn (facetsIn nms own)) in
+  split_through : (sag : Float) (nms : List ℕ) → Through table is (stitched_body sag nms own).patches
+  unfolding stitched_body stitched_body_of facets_in split_triangle
+  split_through sag nms =
+      let us : List Use = uses_from (λ r. 0) 0 (joined nms) own in
+      let areOpen = map (is_open us) us in
+      let split = split_triangle sag (loose_in (facets_in nms own)) in
       let same : (f : Facet) → (split f).facet ≡ f = λ f. refl in
-      let many = length-patches (rows_of table) ps ns is in
-      let long = length-map us (isOpen us) ∙ uses-many 0 (joined nms) own own-threes in
+      let many = length_patches (rows_of table) ps ns is in
+      let long = length-map us (is_open us) ∙ uses_many 0 (joined nms) own own_threes in
       record {
-        many = split-many split same nms areOpen own ∙ many;
-        sized = record { each = λ j h. split-sized split same nms areOpen own j (omega (arith, split-many split same nms areOpen own)) };
+        many = split_many split same nms areOpen own ∙ many;
+        sized = record { each = λ j h. split_sized split same nms areOpen own j (omega (arith, split_many split same nms areOpen own)) };
         unsplit = λ k h v.
-            split-none split same nms areOpen own own-threes (omega arith) k (omega arith) (omega (arith, v, ap (λ (r : Row). r.vertices) (own_row k h))) ∙ own-indices k h;
+            split_none split same nms areOpen own own_threes (omega arith) k (omega arith) (omega (arith, v, ap (λ (r : Row). r.vertices) (own_row k h))) ∙ own_indices k h;
       }
 
   -- and either is what the sag makes of it
-  stitch-through : (sag : Float) (nms : List ℕ) → Through table is (stitchBody sag nms own).patches
-  unfolding stitchBody
-  stitch-through sag nms = go (lt zero64 sag)
+  stitch_through : (sag : Float) (nms : List ℕ) → Through table is (stitch_body sag nms own).patches
+  unfolding stitch_body
+  stitch_through sag nms = go (lt zero64 sag)
     where
       by : Bool → StitchedBody
-      by b = elim b [ true ↦ stitchedBody sag nms own | false ↦ record { patches = own; splits = 0 } ]
+      by b = elim b [ true ↦ stitched_body sag nms own | false ↦ record { patches = own; splits = 0 } ]
 
       go : (b : Bool) → Through table is (by b).patches
-      go true = split-through sag nms
-      go false = copied-through
+      go true = split_through sag nms
+      go false = copied_through
 
 -- ---- the call
 
 -- a refusal has a number
-no-refusal : {A : Type 0} (n : ℕ) → eqb n 0 ≡ false → n ≡ 0 → A
-no-refusal n e h =
+no_refusal : {A : Type 0} (n : ℕ) → eqb n 0 ≡ false → n ≡ 0 → A
+no_refusal n e h =
     let f : true ≡ false = ap (λ (m : ℕ). eqb m 0) (sym h) ∙ e in
     let z : ◌≡◌ {A = ℕ} 0 1 = cc in
     absurd (omega arith)
@@ -204,39 +204,39 @@ no-refusal n e h =
 module _ (table : List ℕ) (ps ns : List Float) (is : List ℕ) (k : ℕ) (h : k < length (rows_of table)) where
   -- by what a call leaves, if it refuses nothing, a face's indices are those of patch k of a body
   abbrev Says : StitchedBody → AfterStitch → Type 0
-  Says s t = t.refusal ≡ 0 → faceIndices table t.slices.table is t.slices.indices k ≡ (get_or s.patches k noPatch).indices
+  Says s t = t.refusal ≡ 0 → face_indices table t.slices.table is t.slices.indices k ≡ (get_or s.patches k no_patch).indices
 
   -- the checks of the result decide
-  result-face : (s : StitchedBody) (out : StitchSlices) → Through table is s.patches → Says s (stitchOrRefuse s out)
-  unfolding stitchOrRefuse writeBody refuseStitch written
-  result-face s out t =
-      let rows = rowsIn s.patches in
-      go (firstFailing (stitchChecks rows out)) (eqb (firstFailing (stitchChecks rows out)) 0) refl
+  result_face : (s : StitchedBody) (out : StitchSlices) → Through table is s.patches → Says s (stitch_or_refuse s out)
+  unfolding stitch_or_refuse write_body refuse_stitch written
+  result_face s out t =
+      let rows = rows_in s.patches in
+      go (first_failing (stitch_checks rows out)) (eqb (first_failing (stitch_checks rows out)) 0) refl
     where
-      go : (n : ℕ) (b : Bool) → eqb n 0 ≡ b → Says s (elim b [ true ↦ writeBody (rowsIn s.patches) s out | false ↦ refuseStitch n out ])
-      go n true e r = face-through t (drop (length (table_of (rowsIn s.patches))) out.table) (drop (length (indicesIn s.patches)) out.indices) k h
-      go n false e r = no-refusal n e r
+      go : (n : ℕ) (b : Bool) → eqb n 0 ≡ b → Says s (elim b [ true ↦ write_body (rows_in s.patches) s out | false ↦ refuse_stitch n out ])
+      go n true e r = face_through t (drop (length (table_of (rows_in s.patches))) out.table) (drop (length (indices_in s.patches)) out.indices) k h
+      go n false e r = no_refusal n e r
 
   -- In every body that stitch accepts, a face's indices, by the table and the indices that it leaves, are those of its patch of the stitched body.
-  pub stitched-face : (rule : Rule) (sag : Float) (out : StitchSlices) → let t = stitchOf rule table ps ns is sag out in t.refusal ≡ 0
-      → faceIndices table t.slices.table is t.slices.indices k ≡ (get_or (stitchBody sag (names rule ps) (patches_of (rows_of table) ps ns is)).patches k noPatch).indices
-  unfolding stitchOf refuseStitch
-  stitched-face rule sag out =
-      go (firstFailing (bodyChecks table ps ns is (length out.work))) (eqb (firstFailing (bodyChecks table ps ns is (length out.work))) 0) refl
+  pub stitched_face : (rule : Rule) (sag : Float) (out : StitchSlices) → let t = stitch_of rule table ps ns is sag out in t.refusal ≡ 0
+      → face_indices table t.slices.table is t.slices.indices k ≡ (get_or (stitch_body sag (names rule ps) (patches_of (rows_of table) ps ns is)).patches k no_patch).indices
+  unfolding stitch_of refuse_stitch
+  stitched_face rule sag out =
+      go (first_failing (body_checks table ps ns is (length out.work))) (eqb (first_failing (body_checks table ps ns is (length out.work))) 0) refl
       (λ e. passed table ps ns is (length out.work) e)
     where
       s : StitchedBody
-      s = stitchBody sag (names rule ps) (patches_of (rows_of table) ps ns is)
+      s = stitch_body sag (names rule ps) (patches_of (rows_of table) ps ns is)
 
       go : (n : ℕ) (b : Bool) → eqb n 0 ≡ b → (n ≡ 0 → Passed table ps ns is (length out.work))
-          → Says s (elim b [ true ↦ stitchOrRefuse s (clearedSlices (rows_of table) out) | false ↦ refuseStitch n out ])
-      go n true e g = result-face s (clearedSlices (rows_of table) out) (stitch-through (g (eqb-true n 0 e)) sag (names rule ps))
-      go n false e g = λ r. no-refusal n e r
+          → Says s (elim b [ true ↦ stitch_or_refuse s (cleared_slices (rows_of table) out) | false ↦ refuse_stitch n out ])
+      go n true e g = result_face s (cleared_slices (rows_of table) out) (stitch_through (g (eqb-true n 0 e)) sag (names rule ps))
+      go n false e g = λ r. no_refusal n e r
 
 -- Past the end a face has none.
-pub no-face : (before after old new : List ℕ) (k : ℕ) → length (rows_of before) ≤ k → faceIndices before after old new k ≡ []
-unfolding faceIndices isStitched rowIndices rowAt
-no-face before after old new k h =
-    let grown = ltb (rowAt before k).vertices (rowAt after k).vertices in
-    ap (λ (b : Bool). cond (b && grown) (rowIndices after new k) (rowIndices before old k)) (le-ltb k (length (rows_of before)) h)
-    ∙ ap (λ (r : Row). take r.indices (drop (indicesBefore (rows_of before) k) old)) (get_or-eq_default (rows_of before) no_row h)
+pub no_face : (before after old new : List ℕ) (k : ℕ) → length (rows_of before) ≤ k → face_indices before after old new k ≡ []
+unfolding face_indices is_stitched row_indices row_at
+no_face before after old new k h =
+    let grown = ltb (row_at before k).vertices (row_at after k).vertices in
+    ap (λ (b : Bool). cond (b && grown) (row_indices after new k) (row_indices before old k)) (le-ltb k (length (rows_of before)) h)
+    ∙ ap (λ (r : Row). take r.indices (drop (indices_before (rows_of before) k) old)) (get_or-eq_default (rows_of before) no_row h)

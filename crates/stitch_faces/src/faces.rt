@@ -2,8 +2,8 @@
 
 ghost use Rattle.std.specs.Prelude.{◌≡◌, ◌+◌, ◌≤◌, length};
 ghost use Rattle.body_rows.specs.Body.{rows_of};
-ghost use Rattle.body_rows.specs.Rows.{indicesBefore, rowAt};
-ghost use Rattle.stitch_faces.specs.Faces.{copyFace, faceIndices, isStitched, leftFace, rowIndices};
+ghost use Rattle.body_rows.specs.Rows.{indices_before, row_at};
+ghost use Rattle.stitch_faces.specs.Faces.{copy_face, face_indices, is_stitched, left_face, row_indices};
 ghost use Rattle.stitch_faces.specs.Places.{Place};
 
 // The place n past `at`, but not past the end.
@@ -17,7 +17,7 @@ fn past(at: usize, n: usize, end: usize) -> usize
 // Where row k's indices start, but not past the end.
 fn start_of(rows: &[u32], k: usize, end: usize) -> usize
     requires { k ≤ length (rows_of rows.now) }
-    ensures { Place (indicesBefore (rows_of rows.now) k) end result }
+    ensures { Place (indices_before (rows_of rows.now) k) end result }
 {
     let mut at = 0usize;
     let mut j = 0usize;
@@ -30,7 +30,7 @@ fn start_of(rows: &[u32], k: usize, end: usize) -> usize
 
 // Row k's indices of a body's, none past the end.
 fn row_indices<'a>(rows: &[u32], indices: &'a [u32], k: usize) -> &'a [u32]
-    ensures { result.now ≡ rowIndices rows.now indices.now k }
+    ensures { result.now ≡ row_indices rows.now indices.now k }
 {
     if k < body_rows::row_count(rows) {
         let end = indices.len();
@@ -43,7 +43,7 @@ fn row_indices<'a>(rows: &[u32], indices: &'a [u32], k: usize) -> &'a [u32]
 
 // The vertex count of row k, 0 past the end.
 fn vertices_of(rows: &[u32], k: usize) -> u32
-    ensures { result ≡ (rowAt rows.now k).vertices }
+    ensures { result ≡ (row_at rows.now k).vertices }
 {
     if k < body_rows::row_count(rows) {
         return body_rows::vertices(rows, k);
@@ -53,7 +53,7 @@ fn vertices_of(rows: &[u32], k: usize) -> u32
 
 // Whether row k was stitched: it has new vertices.
 fn is_stitched(rows: &[u32], stitched_rows: &[u32], k: usize) -> bool
-    ensures { result ≡ isStitched rows.now stitched_rows.now k }
+    ensures { result ≡ is_stitched rows.now stitched_rows.now k }
 {
     if k < body_rows::row_count(rows) {
         return vertices_of(rows, k) < vertices_of(stitched_rows, k);
@@ -70,7 +70,7 @@ pub fn face_indices<'a>(
     k: usize,
 ) -> &'a [u32]
     ensures { result.now
-        ≡ faceIndices rows.now stitched_rows.now old.now new.now k }
+        ≡ face_indices rows.now stitched_rows.now old.now new.now k }
 {
     if is_stitched(rows, stitched_rows, k) {
         return row_indices(stitched_rows, new, k);
@@ -87,8 +87,8 @@ pub fn copy_face_indices<'a>(
     k: usize,
     out: &mut [u32],
 ) -> u64
-    ensures { leftFace result out.new
-        ≡ copyFace (faceIndices rows.now stitched_rows.now old.now new.now k) out.old }
+    ensures { left_face result out.new
+        ≡ copy_face (face_indices rows.now stitched_rows.now old.now new.now k) out.old }
 {
     let face = face_indices(rows, stitched_rows, old, new, k);
     slice_front::copy(face, out);

@@ -6,20 +6,20 @@ use Prim.Native.Nat.{ℕ, ◌+◌, ◌≤◌}
 use native.Mathlib.Omega.{arith}
 use lib.ListN.{length, set, length-append}
 use lib.Seq.{sets, length-sets}
-use Rattle.lists.specs.Sets.{three-stored}
+use Rattle.lists.specs.Sets.{three_stored}
 use Rattle.stitch_fans.specs.declared.fan.Fan.{Fan}
-use Rattle.stitch_rings.specs.Rings.{fanGo}
-use Rattle.slice_append.specs.Appended.{Appended, appended-none, appended-sets, appended_then}
+use Rattle.stitch_rings.specs.Rings.{fan_go}
+use Rattle.slice_append.specs.Appended.{Appended, appended_none, appended_sets, appended_then}
 use Rattle.stitch_fans.specs.FanSteps.{PushRoom, Pushed}
 
 -- ---- what is pushed
 
 -- nothing
 pub pushed_none : (a : ℕ) (f : Fan) (out : List ℕ) → Pushed a f [] out out f
-unfolding fanGo
+unfolding fan_go
 pushed_none a f out =
     record {
-      written = appended-none f.o out;
+      written = appended_none f.o out;
       end_is = omega arith;
       behind = λ more. refl;
       moved = omega arith;
@@ -31,24 +31,24 @@ pub pushed_then : {a : ℕ} {f g h : Fan} {xs ys A B C : List ℕ} → Pushed a 
 pushed_then {a} {f} {g} {h} {xs} {ys} {A} {B} {C} s t =
     record {
       written = subst (λ (v : List ℕ). Appended f.o v A C) (sym (s.behind ys)) (appended_then s.written s.end_is t.written);
-      end_is = omega (arith, s.end_is, t.end_is, ap length (s.behind ys), length-append (fanGo a f.started f.last xs) (fanGo a g.started g.last ys));
+      end_is = omega (arith, s.end_is, t.end_is, ap length (s.behind ys), length-append (fan_go a f.started f.last xs) (fan_go a g.started g.last ys));
       behind = λ more.
-          ap (fanGo a f.started f.last) (append_assoc xs ys more)
+          ap (fan_go a f.started f.last) (append_assoc xs ys more)
           ∙ s.behind (ys ++ more)
-          ∙ ap (λ (v : List ℕ). fanGo a f.started f.last xs ++ v) (t.behind more)
-          ∙ sym (append_assoc (fanGo a f.started f.last xs) (fanGo a g.started g.last ys) (fanGo a h.started h.last more))
-          ∙ ap (λ (v : List ℕ). v ++ fanGo a h.started h.last more) (sym (s.behind ys));
+          ∙ ap (λ (v : List ℕ). fan_go a f.started f.last xs ++ v) (t.behind more)
+          ∙ sym (append_assoc (fan_go a f.started f.last xs) (fan_go a g.started g.last ys) (fan_go a h.started h.last more))
+          ∙ ap (λ (v : List ℕ). v ++ fan_go a h.started h.last more) (sym (s.behind ys));
       moved = omega (arith, s.moved, t.moved, length-append xs ys);
       long = t.long ∙ s.long;
     }
 
 -- the first vertex, with which nothing is written
-pub pushed-first : (a : ℕ) (f : Fan) (x : ℕ) (out : List ℕ) → f.started ≡ false → Pushed a f (x ∷ []) out out (record { o = f.o; last = x; started = true })
-unfolding fanGo
-pushed-first a f x out e =
+pub pushed_first : (a : ℕ) (f : Fan) (x : ℕ) (out : List ℕ) → f.started ≡ false → Pushed a f (x ∷ []) out out (record { o = f.o; last = x; started = true })
+unfolding fan_go
+pushed_first a f x out e =
     subst (λ (s : Bool). Pushed a (record { o = f.o; last = f.last; started = s }) (x ∷ []) out out (record { o = f.o; last = x; started = true })) (sym e)
     (record {
-      written = appended-none f.o out;
+      written = appended_none f.o out;
       end_is = omega arith;
       behind = λ more. refl;
       moved = omega arith;
@@ -58,18 +58,18 @@ pushed-first a f x out e =
 -- a vertex behind another
 module _ {f : Fan} {out : List ℕ} (r : PushRoom f 1 out) (e : f.started ≡ true) where
   -- there is room for its triangle
-  pub triangle-room : f.o + 3 ≤ length out
-  triangle-room = let z : ◌≡◌ {A = ℕ} (cond f.started 3 0) 3 = ap (λ (b : Bool). cond {A = ℕ} b 3 0) e in omega (arith, r.room, z)
+  pub triangle_room : f.o + 3 ≤ length out
+  triangle_room = let z : ◌≡◌ {A = ℕ} (cond f.started 3 0) 3 = ap (λ (b : Bool). cond {A = ℕ} b 3 0) e in omega (arith, r.room, z)
 
-  pub pushed-next : (a x : ℕ) → Pushed a f (x ∷ []) out (set (set (set out f.o a) (f.o + 1) f.last) (f.o + 2) x) (record { o = f.o + 3; last = x; started = true })
-  unfolding fanGo
-  pushed-next a x =
-      subst (λ (v : List ℕ). Pushed a f (x ∷ []) out v (record { o = f.o + 3; last = x; started = true })) (sym (three-stored out f.o a f.last x))
+  pub pushed_next : (a x : ℕ) → Pushed a f (x ∷ []) out (set (set (set out f.o a) (f.o + 1) f.last) (f.o + 2) x) (record { o = f.o + 3; last = x; started = true })
+  unfolding fan_go
+  pushed_next a x =
+      subst (λ (v : List ℕ). Pushed a f (x ∷ []) out v (record { o = f.o + 3; last = x; started = true })) (sym (three_stored out f.o a f.last x))
       (subst
       (λ (s : Bool). Pushed a (record { o = f.o; last = f.last; started = s }) (x ∷ []) out (sets out f.o (a ∷ f.last ∷ x ∷ [])) (record { o = f.o + 3; last = x; started = true }))
       (sym e)
       (record {
-        written = appended-sets (omega (arith, triangle-room)) refl;
+        written = appended_sets (omega (arith, triangle_room)) refl;
         end_is = omega arith;
         behind = λ more. refl;
         moved = omega arith;

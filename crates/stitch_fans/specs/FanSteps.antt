@@ -1,7 +1,7 @@
 -- The fan written vertex by vertex: what pushing some vertices asks and leaves, and the vertices of an edge read from the words. Assumes nothing.
 use Rattle.std.specs.Prelude.{◌≡◌, cond, List, [], ◌∷◌, ◌++◌, ℕ, ◌+◌, ◌*◌, ◌/◌, ◌<◌, ◌≤◌, length, get_or, take, drop, eqb}
 use Rattle.stitch_fans.specs.declared.fan.Fan.{Fan}
-use Rattle.stitch_rings.specs.Rings.{fanGo}
+use Rattle.stitch_rings.specs.Rings.{fan_go}
 use Rattle.slice_append.specs.Appended.{Appended}
 
 -- the vertex x, if the word of its entry is on edge e
@@ -9,9 +9,9 @@ abbrev pub picked : ℕ → ℕ → ℕ → List ℕ
 picked e word x = cond (eqb (word / 262144) e) (x ∷ []) []
 
 -- the numbers of the new vertices on edge e, read from the words of their entries
-unfoldable pub edgeNumbers : ℕ → ℕ → List ℕ → List ℕ
-edgeNumbers e next [] = []
-edgeNumbers e next (x ∷ xs) = picked e x next ++ edgeNumbers e (next + 1) xs
+unfoldable pub edge_numbers : ℕ → ℕ → List ℕ → List ℕ
+edge_numbers e next [] = []
+edge_numbers e next (x ∷ xs) = picked e x next ++ edge_numbers e (next + 1) xs
 
 -- three places further than the fan's end, once a vertex was pushed: each vertex moves it on by three
 abbrev pub reach : Fan → ℕ
@@ -35,12 +35,12 @@ pub record PickReady (W : List ℕ) (k e x : ℕ) (f : Fan) (out : List ℕ) : T
 pub record EdgeReady (W : List ℕ) (at count e next : ℕ) (f : Fan) (out : List ℕ) : Type 0 where
   pub words : at + count ≤ length W
   pub small : next + count < 4294967296
-  pub room : PushRoom f (length (edgeNumbers e next (take count (drop at W)))) out
+  pub room : PushRoom f (length (edge_numbers e next (take count (drop at W)))) out
 
 -- what pushing the vertices ys leaves: their triangles are written, and the new state adds to a fan what the old one adds behind them
 pub record Pushed (a : ℕ) (f : Fan) (ys out new : List ℕ) (g : Fan) : Type 0 where
-  pub written : Appended f.o (fanGo a f.started f.last ys) out new
-  pub end_is : g.o ≡ f.o + length (fanGo a f.started f.last ys)
-  pub behind : (more : List ℕ) → fanGo a f.started f.last (ys ++ more) ≡ fanGo a f.started f.last ys ++ fanGo a g.started g.last more
+  pub written : Appended f.o (fan_go a f.started f.last ys) out new
+  pub end_is : g.o ≡ f.o + length (fan_go a f.started f.last ys)
+  pub behind : (more : List ℕ) → fan_go a f.started f.last (ys ++ more) ≡ fan_go a f.started f.last ys ++ fan_go a g.started g.last more
   pub moved : reach g ≡ reach f + 3 * length ys
   pub long : length new ≡ length out

@@ -2,7 +2,7 @@
 
 ghost use Rattle.std.specs.Prelude.{[], ◌∷◌, get_or, take, drop};
 ghost use Rattle.stitch_rings.specs.Added.{FanReady, FanWritten};
-ghost use Rattle.stitch_fans.specs.FanSteps.{picked, edgeNumbers, Held, PushRoom, PickReady, EdgeReady, Pushed};
+ghost use Rattle.stitch_fans.specs.FanSteps.{picked, edge_numbers, Held, PushRoom, PickReady, EdgeReady, Pushed};
 
 use stitch_splits::EDGE_STEP;
 
@@ -60,7 +60,7 @@ fn push_edge(
     f: Fan,
 ) -> Fan
     requires { EdgeReady w.now at count e next f out.old }
-    ensures { Pushed a f (edgeNumbers e next (take count (drop at w.now))) out.old out.new result }
+    ensures { Pushed a f (edge_numbers e next (take count (drop at w.now))) out.old out.new result }
 {
     let mut g = f;
     let mut j = 0usize;

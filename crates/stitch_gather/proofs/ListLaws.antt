@@ -6,9 +6,9 @@ use native.Mathlib.Omega.{arith}
 use native.Mathlib.Decide.{ℕ_discrete}
 use lib.ListN.{length, get_or, take, drop, set, length-set, length-map}
 use lib.Seq.{ext_get_or, get_or-take, get_or-set_same, get_or-set_other, take-set-le, drop-set-lt}
-use Rattle.lists.specs.Stretches.{front_at, stretch-at}
-use Rattle.stitch_gather.specs.Standing.{mark_of, stands_for, standingIn, names_of, ListReady, PlaceReady, placed, ListStood}
-use Rattle.stitch_gather.proofs.StandLaws.{map_at, stretch-long, standing-long, standing-at}
+use Rattle.lists.specs.Stretches.{front_at, stretch_at}
+use Rattle.stitch_gather.specs.Standing.{mark_of, stands_for, standing_in, names_of, ListReady, PlaceReady, placed, ListStood}
+use Rattle.stitch_gather.proofs.StandLaws.{map_at, stretch_long, standing_long, standing_at}
 
 -- the points before place j are done: W became E
 pub record Listing (v at ts n : ℕ) (W : List ℕ) (j : ℕ) (E : List ℕ) : Type 0 where
@@ -34,29 +34,29 @@ module _ {v at ts n : ℕ} {W : List ℕ} (r : ListReady v at ts n W) where
     here : get_or E (at + j) 0 ≡ f
     here = s.left j (omega arith) l
 
-    mark-kept : mark_of E v f ≡ mark_of W v f
-    mark-kept = front_at at (2 * v + f) W E 0 s.front (omega (arith, r.low j l, r.behind))
+    mark_kept : mark_of E v f ≡ mark_of W v f
+    mark_kept = front_at at (2 * v + f) W E 0 s.front (omega (arith, r.low j l, r.behind))
 
-    mark-is : mark_of E v (get_or E (at + j) 0) ≡ mark_of W v f
-    mark-is = ap (mark_of E v) here ∙ mark-kept
+    mark_is : mark_of E v (get_or E (at + j) 0) ≡ mark_of W v f
+    mark_is = ap (mark_of E v) here ∙ mark_kept
 
-    stands-is : stands_for E v (get_or E (at + j) 0) ≡ stands_for W v f
-    stands-is = ap (λ (k : ℕ). k - 1) mark-is
+    stands_is : stands_for E v (get_or E (at + j) 0) ≡ stands_for W v f
+    stands_is = ap (λ (k : ℕ). k - 1) mark_is
 
     -- it can be done
-    pub place-ready : PlaceReady v at ts j E
-    place-ready =
+    pub place_ready : PlaceReady v at ts j E
+    place_ready =
         record {
           behind = r.behind;
           apart = omega (arith, r.apart);
           room = omega (arith, r.room, s.long);
           low = omega (arith, here, r.low j l);
-          set = omega (arith, mark-is, r.set j l);
-          vertex = omega (arith, mark-is, r.vertex j l);
+          set = omega (arith, mark_is, r.set j l);
+          vertex = omega (arith, mark_is, r.vertex j l);
         }
 
-    name-is : get_or E (stands_for E v (get_or E (at + j) 0)) 0 ≡ get_or W (stands_for W v f) 0
-    name-is = ap (λ (x : ℕ). get_or E x 0) stands-is ∙ front_at at (stands_for W v f) W E 0 s.front (omega (arith, r.vertex j l, r.set j l, r.behind))
+    name_is : get_or E (stands_for E v (get_or E (at + j) 0)) 0 ≡ get_or W (stands_for W v f) 0
+    name_is = ap (λ (x : ℕ). get_or E x 0) stands_is ∙ front_at at (stands_for W v f) W E 0 s.front (omega (arith, r.vertex j l, r.set j l, r.behind))
 
     -- the words after the first store
     abbrev Put : List ℕ
@@ -65,69 +65,69 @@ module _ {v at ts n : ℕ} {W : List ℕ} (r : ListReady v at ts n W) where
     abbrev name : ℕ
     name = get_or E (stands_for E v (get_or E (at + j) 0)) 0
 
-    put-long : length Put ≡ length W
-    put-long = length-set E (at + j) (stands_for E v (get_or E (at + j) 0)) ∙ s.long
+    put_long : length Put ≡ length W
+    put_long = length-set E (at + j) (stands_for E v (get_or E (at + j) 0)) ∙ s.long
 
     -- a word of the list but that at j is as it was
-    list-other : (k : ℕ) → k < n → (k ≡ j → ⊥) → get_or (placed E v at ts j) (at + k) 0 ≡ get_or E (at + k) 0
-    list-other k b e =
+    list_other : (k : ℕ) → k < n → (k ≡ j → ⊥) → get_or (placed E v at ts j) (at + k) 0 ≡ get_or E (at + k) 0
+    list_other k b e =
         get_or-set_other Put (ts + j) (at + k) name 0 (λ h. omega (arith, r.apart))
         ∙ get_or-set_other E (at + j) (at + k) (stands_for E v (get_or E (at + j) 0)) 0 (λ h. e (omega arith))
 
-    list-here : get_or (placed E v at ts j) (at + j) 0 ≡ stands_for W v f
-    list-here =
+    list_here : get_or (placed E v at ts j) (at + j) 0 ≡ stands_for W v f
+    list_here =
         get_or-set_other Put (ts + j) (at + j) name 0 (λ h. omega (arith, r.apart))
         ∙ get_or-set_same E (at + j) (stands_for E v (get_or E (at + j) 0)) 0 (omega (arith, r.apart, r.room, s.long))
-        ∙ stands-is
+        ∙ stands_is
 
     -- so is a name
-    name-other : (k : ℕ) → (k ≡ j → ⊥) → get_or (placed E v at ts j) (ts + k) 0 ≡ get_or E (ts + k) 0
-    name-other k e =
+    name_other : (k : ℕ) → (k ≡ j → ⊥) → get_or (placed E v at ts j) (ts + k) 0 ≡ get_or E (ts + k) 0
+    name_other k e =
         get_or-set_other Put (ts + j) (ts + k) name 0 (λ h. e (omega arith))
         ∙ get_or-set_other E (at + j) (ts + k) (stands_for E v (get_or E (at + j) 0)) 0 (λ h. omega (arith, r.apart))
 
-    name-here : get_or (placed E v at ts j) (ts + j) 0 ≡ get_or W (stands_for W v f) 0
-    name-here = get_or-set_same Put (ts + j) name 0 (omega (arith, r.room, put-long)) ∙ name-is
+    name_here : get_or (placed E v at ts j) (ts + j) 0 ≡ get_or W (stands_for W v f) 0
+    name_here = get_or-set_same Put (ts + j) name 0 (omega (arith, r.room, put_long)) ∙ name_is
 
-    placed-more : Listing v at ts n W (j + 1) (placed E v at ts j)
-    placed-more =
+    placed_more : Listing v at ts n W (j + 1) (placed E v at ts j)
+    placed_more =
         record {
           high = omega arith;
           done = λ k b. done k b (ℕ_discrete k j);
           named = λ k b. named k b (ℕ_discrete k j);
-          left = λ k a b. list-other k b (λ e. omega arith) ∙ s.left k (omega arith) b;
+          left = λ k a b. list_other k b (λ e. omega arith) ∙ s.left k (omega arith) b;
           front = take-set-le at Put (ts + j) name (omega (arith, r.apart)) ∙ take-set-le at E (at + j) (stands_for E v (get_or E (at + j) 0)) (omega arith) ∙ s.front;
           rest =
               drop-set-lt (ts + n) Put (ts + j) name (omega arith)
               ∙ drop-set-lt (ts + n) E (at + j) (stands_for E v (get_or E (at + j) 0)) (omega (arith, r.apart))
               ∙ s.rest;
-          long = length-set Put (ts + j) name ∙ put-long;
+          long = length-set Put (ts + j) name ∙ put_long;
         }
       where
         done : (k : ℕ) → k < j + 1 → Dec (k ≡ j) → get_or (placed E v at ts j) (at + k) 0 ≡ stands_for W v (get_or W (at + k) 0)
-        done k b (yes e) = subst (λ (i : ℕ). get_or (placed E v at ts j) (at + i) 0 ≡ stands_for W v (get_or W (at + i) 0)) (sym e) list-here
-        done k b (no e) = list-other k (omega arith) e ∙ s.done k (omega arith)
+        done k b (yes e) = subst (λ (i : ℕ). get_or (placed E v at ts j) (at + i) 0 ≡ stands_for W v (get_or W (at + i) 0)) (sym e) list_here
+        done k b (no e) = list_other k (omega arith) e ∙ s.done k (omega arith)
 
         named : (k : ℕ) → k < j + 1 → Dec (k ≡ j) → get_or (placed E v at ts j) (ts + k) 0 ≡ get_or W (stands_for W v (get_or W (at + k) 0)) 0
-        named k b (yes e) = subst (λ (i : ℕ). get_or (placed E v at ts j) (ts + i) 0 ≡ get_or W (stands_for W v (get_or W (at + i) 0)) 0) (sym e) name-here
-        named k b (no e) = name-other k e ∙ s.named k (omega arith)
+        named k b (yes e) = subst (λ (i : ℕ). get_or (placed E v at ts j) (ts + i) 0 ≡ get_or W (stands_for W v (get_or W (at + i) 0)) 0) (sym e) name_here
+        named k b (no e) = name_other k e ∙ s.named k (omega arith)
 
     -- one more is done
-    pub listing-more : {F : List ℕ} → F ≡ placed E v at ts j → Listing v at ts n W (j + 1) F
-    listing-more e = subst (λ (X : List ℕ). Listing v at ts n W (j + 1) X) (sym e) placed-more
+    pub listing_more : {F : List ℕ} → F ≡ placed E v at ts j → Listing v at ts n W (j + 1) F
+    listing_more e = subst (λ (X : List ℕ). Listing v at ts n W (j + 1) X) (sym e) placed_more
 
   -- all are done
-  pub listing-all : {j : ℕ} {E : List ℕ} → Listing v at ts n W j E → n ≤ j → ListStood v at ts n W E
-  listing-all {j} {E} s l =
+  pub listing_all : {j : ℕ} {E : List ℕ} → Listing v at ts n W j E → n ≤ j → ListStood v at ts n W E
+  listing_all {j} {E} s l =
       record {
         list =
-            ext_get_or 0 (take n (drop at E)) (standingIn W v at n) (e-long ∙ sym w-long)
+            ext_get_or 0 (take n (drop at E)) (standing_in W v at n) (e_long ∙ sym w_long)
             (λ k b.
-            let c : k < n = omega (arith, e-long) in
-            stretch-at at n E k 0 c ∙ s.done k (omega arith) ∙ sym (standing-at W v at n room k c));
+            let c : k < n = omega (arith, e_long) in
+            stretch_at at n E k 0 c ∙ s.done k (omega arith) ∙ sym (standing_at W v at n room k c));
         names =
-            ext_get_or 0 (take n (drop ts E)) (names_of (take v W) (standingIn W v at n)) (t-long ∙ sym (length-map (standingIn W v at n) (λ (x : ℕ). get_or (take v W) x 0) ∙ w-long))
-            (λ k b. let c : k < n = omega (arith, t-long) in stretch-at ts n E k 0 c ∙ s.named k (omega arith) ∙ sym (name k c));
+            ext_get_or 0 (take n (drop ts E)) (names_of (take v W) (standing_in W v at n)) (t_long ∙ sym (length-map (standing_in W v at n) (λ (x : ℕ). get_or (take v W) x 0) ∙ w_long))
+            (λ k b. let c : k < n = omega (arith, t_long) in stretch_at ts n E k 0 c ∙ s.named k (omega arith) ∙ sym (name k c));
         front = s.front;
         rest = s.rest;
       }
@@ -135,17 +135,17 @@ module _ {v at ts n : ℕ} {W : List ℕ} (r : ListReady v at ts n W) where
       room : at + n ≤ length W
       room = omega (arith, r.apart, r.room)
 
-      e-long : length (take n (drop at E)) ≡ n
-      e-long = stretch-long E at n (omega (arith, room, s.long))
+      e_long : length (take n (drop at E)) ≡ n
+      e_long = stretch_long E at n (omega (arith, room, s.long))
 
-      t-long : length (take n (drop ts E)) ≡ n
-      t-long = stretch-long E ts n (omega (arith, r.room, s.long))
+      t_long : length (take n (drop ts E)) ≡ n
+      t_long = stretch_long E ts n (omega (arith, r.room, s.long))
 
-      w-long : length (standingIn W v at n) ≡ n
-      w-long = standing-long W v at n room
+      w_long : length (standing_in W v at n) ≡ n
+      w_long = standing_long W v at n room
 
-      name : (k : ℕ) → k < n → get_or (names_of (take v W) (standingIn W v at n)) k 0 ≡ get_or W (stands_for W v (get_or W (at + k) 0)) 0
+      name : (k : ℕ) → k < n → get_or (names_of (take v W) (standing_in W v at n)) k 0 ≡ get_or W (stands_for W v (get_or W (at + k) 0)) 0
       name k c =
-          map_at (λ (x : ℕ). get_or (take v W) x 0) (standingIn W v at n) k (omega (arith, w-long))
-          ∙ ap (λ (x : ℕ). get_or (take v W) x 0) (standing-at W v at n room k c)
+          map_at (λ (x : ℕ). get_or (take v W) x 0) (standing_in W v at n) k (omega (arith, w_long))
+          ∙ ap (λ (x : ℕ). get_or (take v W) x 0) (standing_at W v at n room k c)
           ∙ get_or-take v W (stands_for W v (get_or W (at + k) 0)) 0 (omega (arith, r.vertex k c, r.set k c))

@@ -4,7 +4,7 @@ use Rattle.std.specs.Prelude.{◌≡◌, List, map, ℕ, ◌+◌, ◌-◌, ◌*�
 use Rattle.lists.specs.Rising.{Rising}
 use Rattle.slice_pairs.specs.Rearranged.{Rearranged}
 use Rattle.join_definition.specs.Join.{joined}
-use Rattle.stitch_loose_points.specs.Listed.{insertVertex, insertTriangle}
+use Rattle.stitch_loose_points.specs.Listed.{insert_vertex, insert_triangle}
 
 -- the word of the point whose first vertex is f
 abbrev pub mark_of : List ℕ → ℕ → ℕ → ℕ
@@ -15,8 +15,8 @@ abbrev pub stands_for : List ℕ → ℕ → ℕ → ℕ
 stands_for W v f = mark_of W v f - 1
 
 -- the vertices that stand for the points whose n first vertices are listed at `at`
-abbrev pub standingIn : List ℕ → ℕ → ℕ → ℕ → List ℕ
-standingIn W v at n = map (stands_for W v) (take n (drop at W))
+abbrev pub standing_in : List ℕ → ℕ → ℕ → ℕ → List ℕ
+standing_in W v at n = map (stands_for W v) (take n (drop at W))
 
 -- the names of vertices
 abbrev pub names_of : List ℕ → List ℕ → List ℕ
@@ -24,7 +24,7 @@ names_of ns R = map (λ (x : ℕ). get_or ns x 0) R
 
 -- the vertices of R stand for their points: by name they rise, and the n points that have one are listed at `at`, each once
 pub record Standing (v at n : ℕ) (W R : List ℕ) : Type 0 where
-  pub same : Rearranged R (standingIn W v at n)
+  pub same : Rearranged R (standing_in W v at n)
   pub rising : Rising 0 (names_of (take v W) R)
   pub low : (j : ℕ) → j < n → get_or W (at + j) 0 < v
   pub set : (j : ℕ) → j < n → 0 < mark_of W v (get_or W (at + j) 0)
@@ -46,7 +46,7 @@ pub record Standable (v at count g : ℕ) (W : List ℕ) : Type 0 where
 
 -- what it leaves: of those that stood the one of its name is replaced, or it is one more; nothing but the words of the points and the list was written
 pub record Stood (v at count g : ℕ) (W E : List ℕ) (r : ℕ) : Type 0 where
-  pub stands : (R : List ℕ) → Standing v at count W R → Standing v at r E (insertVertex (take v W) g R)
+  pub stands : (R : List ℕ) → Standing v at count W R → Standing v at r E (insert_vertex (take v W) g R)
   pub few : r ≤ count + 1
   pub front : take (2 * v) E ≡ take (2 * v) W
   pub rest : drop (at + count + 1) E ≡ drop (at + count + 1) W
@@ -55,13 +55,13 @@ pub record Stood (v at count g : ℕ) (W E : List ℕ) (r : ℕ) : Type 0 where
 pub record TriangleStandable (v at count a b c : ℕ) (W : List ℕ) : Type 0 where
   pub pointed : Pointed v at W
   pub room : at + count + 3 ≤ length W
-  pub in-a : a < v
+  pub in_a : a < v
   pub in_b : b < v
   pub in_c : c < v
 
 -- what they leave
 pub record TriangleStood (v at count a b c : ℕ) (W E : List ℕ) (r : ℕ) : Type 0 where
-  pub stands : (R : List ℕ) → Standing v at count W R → Standing v at r E (insertTriangle (take v W) a b c R)
+  pub stands : (R : List ℕ) → Standing v at count W R → Standing v at r E (insert_triangle (take v W) a b c R)
   pub few : r ≤ count + 3
   pub front : take (2 * v) E ≡ take (2 * v) W
   pub rest : drop (at + count + 3) E ≡ drop (at + count + 3) W
@@ -90,7 +90,7 @@ placed W v at ts j = set (set W (at + j) (stands_for W v (get_or W (at + j) 0)))
 
 -- what it leaves of all: the vertices in place of their points' first ones, their names at `ts`
 pub record ListStood (v at ts n : ℕ) (W E : List ℕ) : Type 0 where
-  pub list : take n (drop at E) ≡ standingIn W v at n
-  pub names : take n (drop ts E) ≡ names_of (take v W) (standingIn W v at n)
+  pub list : take n (drop at E) ≡ standing_in W v at n
+  pub names : take n (drop ts E) ≡ names_of (take v W) (standing_in W v at n)
   pub front : take at E ≡ take at W
   pub rest : drop (ts + n) E ≡ drop (ts + n) W

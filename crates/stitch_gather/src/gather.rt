@@ -1,7 +1,7 @@
 // The corners of all triangles with an open edge, gathered row by row.
 
 ghost use Rattle.std.specs.Prelude.{◌≡◌, ◌+◌, get_or};
-ghost use Rattle.stitch_loose_points.specs.Listed.{anySet, FlagsAt, CornerAt};
+ghost use Rattle.stitch_loose_points.specs.Listed.{any_set, FlagsAt, CornerAt};
 ghost use Rattle.stitch_gather.specs.Standing.{TriangleStandable, TriangleStood};
 ghost use Rattle.stitch_gather.specs.Gathering.{
   TriangleGatherable,
@@ -18,7 +18,7 @@ use crate::stand::{STANDING, list_standing, stand};
 // Whether one of the three flags from place k on is set.
 pub fn any_set(w: &[u64], k: usize) -> bool
     requires { FlagsAt w.now k }
-    ensures { result ≡ anySet (get_or w.now k 0) (get_or w.now (k + 1) 0) (get_or w.now (k + 2) 0) }
+    ensures { result ≡ any_set (get_or w.now k 0) (get_or w.now (k + 1) 0) (get_or w.now (k + 2) 0) }
 {
     (w[k] != 0) | (w[k + 1] != 0) | (w[k + 2] != 0)
 }

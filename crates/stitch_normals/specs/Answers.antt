@@ -3,5 +3,5 @@ use Rattle.std.specs.Prelude.{List, [], ◌∷◌, Float}
 use Rattle.stitch_normals.specs.declared.Normal.{Normal}
 
 -- a normal's coordinates
-abbrev pub normalOf : Normal → List Float
-normalOf n = n.x ∷ n.y ∷ n.z ∷ []
+abbrev pub normal_of : Normal → List Float
+normal_of n = n.x ∷ n.y ∷ n.z ∷ []

@@ -1,7 +1,7 @@
 // The normal of a point between two vertices.
 
 ghost use Rattle.std.specs.Prelude.{◌≡◌};
-ghost use Rattle.stitch_normals.specs.Answers.{normalOf};
+ghost use Rattle.stitch_normals.specs.Answers.{normal_of};
 ghost use Rattle.stitch_projection.specs.Projection.{mixed};
 
 use patch_geometry::Vec3;
@@ -16,7 +16,7 @@ pub struct Normal {
 
 // The normal at t between two, divided by the larger of its length and 1e-30, and narrowed.
 pub fn mixed_normal(na: Vec3, nb: Vec3, t: f64) -> Normal
-    ensures { normalOf result ≡ mixed na nb t }
+    ensures { normal_of result ≡ mixed na nb t }
 {
     let m = na.scale(1.0 - t).add(nb.scale(t));
     let l = float_steps::larger_f64(m.length(), 1e-30);

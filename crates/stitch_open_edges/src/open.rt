@@ -3,7 +3,7 @@
 ghost use Rattle.std.specs.Prelude.{◌≡◌};
 ghost use Rattle.edge_uses.specs.FirstUsers.{UsersReady};
 ghost use Rattle.edge_uses.specs.Area.{Layable};
-ghost use Rattle.stitch_loose_points.specs.Open.{Marked, Joinable, BodyJoined, UsesCounted, countIn, flagIn, FlagReady, FlagsReady, FlagsSet};
+ghost use Rattle.stitch_loose_points.specs.Open.{Marked, Joinable, BodyJoined, UsesCounted, count_in, flag_in, FlagReady, FlagsReady, FlagsSet};
 
 use edge_uses::{COUNTS, EQUAL_ENDS, RUNS, RUNS_AFTER_FIRSTS};
 use join_definition::JOIN_WORDS;
@@ -39,7 +39,7 @@ fn count_edges(
 // How many uses the edge of use i has.
 fn count_at(w: &[u64], at: usize, n: usize, i: usize) -> u64
     requires { FlagReady w.now at n i }
-    ensures { result ≡ countIn w.now at n i }
+    ensures { result ≡ count_in w.now at n i }
 {
     let first = w[at + i] as usize;
     w[at + n + first]
@@ -48,7 +48,7 @@ fn count_at(w: &[u64], at: usize, n: usize, i: usize) -> u64
 // The flag of use i: 1 if its ends differ and its edge has no other use, else 0.
 fn flag_at(w: &[u64], at: usize, n: usize, i: usize) -> u64
     requires { FlagReady w.now at n i }
-    ensures { result ≡ flagIn w.now at n i }
+    ensures { result ≡ flag_in w.now at n i }
 {
     if w[at + RUNS_AFTER_FIRSTS * n + i] == EQUAL_ENDS {
         return 0;

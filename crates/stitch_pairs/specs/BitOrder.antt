@@ -11,10 +11,10 @@ use Rattle.std.specs.Float.Ieee.Bits.{of_bits-to_bits, of_bits-fits, to_bits-lt}
 use Rattle.std.specs.Float.Ieee.Exact.{HasValue}
 use Rattle.std.specs.Float.Ieee.Fits.{down_pos}
 use Rattle.std.specs.Float.Ieee.Order.{transfer}
-use Rattle.float_rounding.specs.Fields.{digits, bits-fields}
+use Rattle.float_rounding.specs.Fields.{digits, bits_fields}
 use Rattle.float_steps.specs.Floats.{bits64}
-use Rattle.float_steps.specs.Patterns.{sign, field, tail, value, bits-again}
-use Rattle.stitch_projection.specs.Projection.{near-end, far-end}
+use Rattle.float_steps.specs.Patterns.{sign, field, tail, value, bits_again}
+use Rattle.stitch_projection.specs.Projection.{near_end, far_end}
 
 -- ---- the size that a pattern stands for rises with it
 
@@ -23,19 +23,19 @@ abbrev size_of : ℕ → ℕ → ℕ
 size_of f t = digits binary64 f t * 2 ^ (f - 1)
 
 -- of a field above 0
-size-normal : (x t : ℕ) → size_of (suc x) t ≡ (2 ^ 52 + t) * 2 ^ x
-size-normal x t = ap (λ (k : ℕ). (2 ^ 52 + t) * 2 ^ k) (pred x)
+size_normal : (x t : ℕ) → size_of (suc x) t ≡ (2 ^ 52 + t) * 2 ^ x
+size_normal x t = ap (λ (k : ℕ). (2 ^ 52 + t) * 2 ^ k) (pred x)
   where
     pred : (x : ℕ) → suc x - 1 ≡ x
     pred x = omega arith
 
 -- numbers that are equal to others have their order
-less-same : (a b c d : ℕ) → a ≡ b → d ≡ c → b < c → a < d
-less-same a b c d p q l = omega arith
+less_same : (a b c d : ℕ) → a ≡ b → d ≡ c → b < c → a < d
+less_same a b c d p q l = omega arith
 
 -- a higher field has the higher size: P and Q stand for the powers of two
-field-rises : (t u P Q : ℕ) → t < 2 ^ 52 → 0 < P → 2 * P ≤ Q → (2 ^ 52 + t) * P < (2 ^ 52 + u) * Q
-field-rises t u P Q l p h =
+field_rises : (t u P Q : ℕ) → t < 2 ^ 52 → 0 < P → 2 * P ≤ Q → (2 ^ 52 + t) * P < (2 ^ 52 + u) * Q
+field_rises t u P Q l p h =
     let a : (2 ^ 52 + t) * P < 2 ^ 53 * P = mul-lt-mul_of_pos_right (omega arith) p in
     let b : 2 ^ 52 * (2 * P) ≤ 2 ^ 52 * Q = mul-le-mul_left (2 ^ 52) h in
     let c : 2 ^ 52 * Q ≤ (2 ^ 52 + u) * Q = mul-le-mul_right Q (omega arith) in
@@ -45,22 +45,22 @@ field-rises t u P Q l p h =
     chain x P Q y a b c = omega arith
 
 -- a field of 0 has the lower size
-zero-rises : (t u Q : ℕ) → t < 2 ^ 52 → 0 < Q → t * 1 < (2 ^ 52 + u) * Q
-zero-rises t u Q l q = chain t ((2 ^ 52 + u) * Q) u l (mul-le-mul_left (2 ^ 52 + u) q)
+zero_rises : (t u Q : ℕ) → t < 2 ^ 52 → 0 < Q → t * 1 < (2 ^ 52 + u) * Q
+zero_rises t u Q l q = chain t ((2 ^ 52 + u) * Q) u l (mul-le-mul_left (2 ^ 52 + u) q)
   where
     chain : (t y u : ℕ) → t < 2 ^ 52 → (2 ^ 52 + u) * 1 ≤ y → t * 1 < y
     chain t y u l h = omega arith
 
 -- a higher pattern has the higher size
-size-rises : (f t g u : ℕ) → t < 2 ^ 52 → u < 2 ^ 52 → 2 ^ 52 * f + t < 2 ^ 52 * g + u → size_of f t < size_of g u
-size-rises zero t zero u ht hu l = omega arith
-size-rises zero t (suc y) u ht hu l = less-same (size_of 0 t) (t * 1) ((2 ^ 52 + u) * 2 ^ y) (size_of (suc y) u) refl (size-normal y u) (zero-rises t u (2 ^ y) ht (pow_pos y))
-size-rises (suc x) t zero u ht hu l = absurd (omega arith)
-size-rises (suc x) t (suc y) u ht hu l =
-    less-same (size_of (suc x) t) ((2 ^ 52 + t) * 2 ^ x) ((2 ^ 52 + u) * 2 ^ y) (size_of (suc y) u) (size-normal x t) (size-normal y u) (go (dec_lt x y))
+size_rises : (f t g u : ℕ) → t < 2 ^ 52 → u < 2 ^ 52 → 2 ^ 52 * f + t < 2 ^ 52 * g + u → size_of f t < size_of g u
+size_rises zero t zero u ht hu l = omega arith
+size_rises zero t (suc y) u ht hu l = less_same (size_of 0 t) (t * 1) ((2 ^ 52 + u) * 2 ^ y) (size_of (suc y) u) refl (size_normal y u) (zero_rises t u (2 ^ y) ht (pow_pos y))
+size_rises (suc x) t zero u ht hu l = absurd (omega arith)
+size_rises (suc x) t (suc y) u ht hu l =
+    less_same (size_of (suc x) t) ((2 ^ 52 + t) * 2 ^ x) ((2 ^ 52 + u) * 2 ^ y) (size_of (suc y) u) (size_normal x t) (size_normal y u) (go (dec_lt x y))
   where
     go : Dec (x < y) → (2 ^ 52 + t) * 2 ^ x < (2 ^ 52 + u) * 2 ^ y
-    go (yes h) = field-rises t u (2 ^ x) (2 ^ y) ht (pow_pos x) (subst (λ (z : ℕ). z ≤ 2 ^ y) (pow-succ' 2 x) (pow_mono h))
+    go (yes h) = field_rises t u (2 ^ x) (2 ^ y) ht (pow_pos x) (subst (λ (z : ℕ). z ≤ 2 ^ y) (pow-succ' 2 x) (pow_mono h))
     go (no h) =
         let e : x ≡ y = omega arith in
         subst (λ (k : ℕ). (2 ^ 52 + t) * 2 ^ x < (2 ^ 52 + u) * 2 ^ k) e (mul-lt-mul_of_pos_right (omega arith) (pow_pos x))
@@ -70,37 +70,37 @@ abbrev size_bits : ℕ → ℕ
 size_bits b = size_of (field b) (tail b)
 
 -- which rises with it
-bits-rise : (b c : ℕ) → b < 2 ^ 63 → c < 2 ^ 63 → b < c → size_bits b < size_bits c
-bits-rise b c hb hc l = size-rises (field b) (tail b) (field c) (tail c) (omega arith) (omega arith) (omega arith)
+bits_rise : (b c : ℕ) → b < 2 ^ 63 → c < 2 ^ 63 → b < c → size_bits b < size_bits c
+bits_rise b c hb hc l = size_rises (field b) (tail b) (field c) (tail c) (omega arith) (omega arith) (omega arith)
 
 -- patterns of plus sign are ordered as their sizes
-size-order : (b c : ℕ) → b < 2 ^ 63 → c < 2 ^ 63 → ltb (size_bits b) (size_bits c) ≡ ltb b c
-size-order b c hb hc = go (dec_lt b c)
+size_order : (b c : ℕ) → b < 2 ^ 63 → c < 2 ^ 63 → ltb (size_bits b) (size_bits c) ≡ ltb b c
+size_order b c hb hc = go (dec_lt b c)
   where
     least : Dec (b ≡ c) → c ≤ b → size_bits c ≤ size_bits b
     least (yes e) l = subst (λ (k : ℕ). size_bits c ≤ size_bits k) (sym e) (omega arith)
-    least (no n) l = let k : size_bits c < size_bits b = bits-rise c b hc hb (omega arith) in below (size_bits c) (size_bits b) k
+    least (no n) l = let k : size_bits c < size_bits b = bits_rise c b hc hb (omega arith) in below (size_bits c) (size_bits b) k
       where
         below : (x y : ℕ) → x < y → x ≤ y
         below x y h = omega arith
 
     go : Dec (b < c) → ltb (size_bits b) (size_bits c) ≡ ltb b c
-    go (yes l) = lt-ltb (size_bits b) (size_bits c) (bits-rise b c hb hc l) ∙ sym (lt-ltb b c l)
+    go (yes l) = lt-ltb (size_bits b) (size_bits c) (bits_rise b c hb hc l) ∙ sym (lt-ltb b c l)
     go (no n) = let l : c ≤ b = omega arith in le-ltb (size_bits b) (size_bits c) (least (ℕ_discrete b c) l) ∙ sym (le-ltb b c l)
 
 -- ---- values of plus sign
 
 -- values of plus sign over one divisor are ordered as their sizes
 module _ (P : ℕ) (p : 0 < P) where
-  values-order : (x y : Float) (a b : ℕ) → HasValue x false a P → HasValue y false b P → lt x y ≡ ltb a b
+  values_order : (x y : Float) (a b : ℕ) → HasValue x false a P → HasValue y false b P → lt x y ≡ ltb a b
   unfolding lt
-  values-order nan y a b h k = absurd h
-  values-order (inf s) y a b h k = absurd h
-  values-order (fin s m e) nan a b h k = absurd k
-  values-order (fin s m e) (inf t) a b h k = absurd k
-  values-order (fin true m e) (fin t n d) a b h k = absurd (true≢false h.0)
-  values-order (fin false m e) (fin true n d) a b h k = absurd (true≢false k.0)
-  values-order (fin false m e) (fin false n d) a b h k = go (dec_lt a b)
+  values_order nan y a b h k = absurd h
+  values_order (inf s) y a b h k = absurd h
+  values_order (fin s m e) nan a b h k = absurd k
+  values_order (fin s m e) (inf t) a b h k = absurd k
+  values_order (fin true m e) (fin t n d) a b h k = absurd (true≢false h.0)
+  values_order (fin false m e) (fin true n d) a b h k = absurd (true≢false k.0)
+  values_order (fin false m e) (fin false n d) a b h k = go (dec_lt a b)
     where
       back : n * up d * down e ≤ m * up e * down d → b ≤ a
       back l = le_of_mul-le-mul_right (transfer b a P P (n * up d) (m * up e) (down d) (down e) (down_pos d) (down_pos e) (sym k.1) (sym h.1) l) p
@@ -126,9 +126,9 @@ Plus (fin true m e) = ⊥
 Plus (fin false m e) = Unit {0}
 
 -- the highest field is no number's
-no-highest : (s : Bool) (t : ℕ) → Plus (of_fields binary64 s 2047 t) → ⊥
+no_highest : (s : Bool) (t : ℕ) → Plus (of_fields binary64 s 2047 t) → ⊥
 unfolding of_fields
-no-highest s t h = go (eqb t 0) h
+no_highest s t h = go (eqb t 0) h
   where
     go : (b : Bool) → Plus (cond b (inf s) nan) → ⊥
     go true k = k
@@ -141,7 +141,7 @@ record BitsOf (x : Float) : Type 0 where
 
 -- each has such bits
 bits_of : (x : Float) → T (fits binary64 x) → Plus x → BitsOf x
-bits_of x f s = record { has = subst (λ (c : Bool). HasValue x c (size_bits b) (2 ^ 1074)) is-plus signed; low = nleb→lt (2 ^ 63) b (subst (λ (c : Bool). T (not c)) (sym is-plus) tt) }
+bits_of x f s = record { has = subst (λ (c : Bool). HasValue x c (size_bits b) (2 ^ 1074)) is_plus signed; low = nleb→lt (2 ^ 63) b (subst (λ (c : Bool). T (not c)) (sym is_plus) tt) }
   where
     b : ℕ
     b = bits64 x
@@ -153,79 +153,79 @@ bits_of x f s = record { has = subst (λ (c : Bool). HasValue x c (size_bits b) 
     below = to_bits-lt binary64 x f
 
     not_top : field b ≡ 2047 → ⊥
-    not_top e = no-highest (sign b) (tail b) (subst (λ (k : ℕ). Plus (of_fields binary64 (sign b) k (tail b))) e (subst Plus (sym again ∙ bits-fields binary64 b) s))
+    not_top e = no_highest (sign b) (tail b) (subst (λ (k : ℕ). Plus (of_fields binary64 (sign b) k (tail b))) e (subst Plus (sym again ∙ bits_fields binary64 b) s))
 
-    field-low : field b < 2047
-    field-low = omega (arith, not_top)
+    field_low : field b < 2047
+    field_low = omega (arith, not_top)
 
     signed : HasValue x (sign b) (size_bits b) (2 ^ 1074)
-    signed = subst (λ (z : Float). HasValue z (sign b) (size_bits b) (2 ^ 1074)) again (value b field-low)
+    signed = subst (λ (z : Float). HasValue z (sign b) (size_bits b) (2 ^ 1074)) again (value b field_low)
 
-    plus-of : (y : Float) (c : Bool) (a P : ℕ) → Plus y → HasValue y c a P → c ≡ false
-    plus-of nan c a P s h = absurd s
-    plus-of (inf t) c a P s h = absurd s
-    plus-of (fin true m e) c a P s h = absurd s
-    plus-of (fin false m e) c a P s h = sym h.0
+    plus_of : (y : Float) (c : Bool) (a P : ℕ) → Plus y → HasValue y c a P → c ≡ false
+    plus_of nan c a P s h = absurd s
+    plus_of (inf t) c a P s h = absurd s
+    plus_of (fin true m e) c a P s h = absurd s
+    plus_of (fin false m e) c a P s h = sym h.0
 
-    is-plus : sign b ≡ false
-    is-plus = plus-of x (sign b) (size_bits b) (2 ^ 1074) s signed
+    is_plus : sign b ≡ false
+    is_plus = plus_of x (sign b) (size_bits b) (2 ^ 1074) s signed
 
 -- numbers of plus sign are ordered as their bits
-plus-order : (x y : Float) → T (fits binary64 x) → T (fits binary64 y) → Plus x → Plus y → lt x y ≡ ltb (bits64 x) (bits64 y)
-plus-order x y f g p q =
+plus_order : (x y : Float) → T (fits binary64 x) → T (fits binary64 y) → Plus x → Plus y → lt x y ≡ ltb (bits64 x) (bits64 y)
+plus_order x y f g p q =
     let a = bits_of x f p in
     let b = bits_of y g q in
-    values-order (2 ^ 1074) (pow_pos 1074) x y (size_bits (bits64 x)) (size_bits (bits64 y)) a.has b.has ∙ size-order (bits64 x) (bits64 y) a.low b.low
+    values_order (2 ^ 1074) (pow_pos 1074) x y (size_bits (bits64 x)) (size_bits (bits64 y)) a.has b.has ∙ size_order (bits64 x) (bits64 y) a.low b.low
 
 -- ---- parameters
 
 -- an f64 between 1e-6 and 1 − 1e-6
 pub record Inside (t : Float) : Type 0 where
   pub fit : T (fits binary64 t)
-  pub low : T (lt near-end t)
-  pub high : T (lt t far-end)
+  pub low : T (lt near_end t)
+  pub high : T (lt t far_end)
 
 -- the two ends
-near-plus : Plus near-end
-unfolding near-end of_bits
-near-plus = tt
+near_plus : Plus near_end
+unfolding near_end of_bits
+near_plus = tt
 
-far-plus : Plus far-end
-unfolding far-end of_bits
-far-plus = tt
+far_plus : Plus far_end
+unfolding far_end of_bits
+far_plus = tt
 
-far-fits : T (fits binary64 far-end)
-unfolding far-end
-far-fits = of_bits-fits binary64 0x3FEFFFFDE7210BE9
+far_fits : T (fits binary64 far_end)
+unfolding far_end
+far_fits = of_bits-fits binary64 0x3FEFFFFDE7210BE9
 
-far-bits : bits64 far-end ≡ 0x3FEFFFFDE7210BE9
-unfolding far-end
-far-bits = bits-again 0x3FEFFFFDE7210BE9 (omega arith) (omega arith)
+far_bits : bits64 far_end ≡ 0x3FEFFFFDE7210BE9
+unfolding far_end
+far_bits = bits_again 0x3FEFFFFDE7210BE9 (omega arith) (omega arith)
 
 -- between two numbers of plus sign is a third
-plus-between : (a x c : Float) → Plus a → Plus c → T (lt a x) → T (lt x c) → Plus x
+plus_between : (a x c : Float) → Plus a → Plus c → T (lt a x) → T (lt x c) → Plus x
 unfolding lt
-plus-between nan x c p q l h = absurd p
-plus-between (inf s) x c p q l h = absurd p
-plus-between (fin true m e) x c p q l h = absurd p
-plus-between (fin false m e) nan c p q l h = absurd l
-plus-between (fin false m e) (inf true) c p q l h = absurd l
-plus-between (fin false m e) (inf false) nan p q l h = absurd h
-plus-between (fin false m e) (inf false) (inf t) p q l h = absurd h
-plus-between (fin false m e) (inf false) (fin t n d) p q l h = absurd h
-plus-between (fin false m e) (fin true n d) c p q l h = absurd l
-plus-between (fin false m e) (fin false n d) c p q l h = tt
+plus_between nan x c p q l h = absurd p
+plus_between (inf s) x c p q l h = absurd p
+plus_between (fin true m e) x c p q l h = absurd p
+plus_between (fin false m e) nan c p q l h = absurd l
+plus_between (fin false m e) (inf true) c p q l h = absurd l
+plus_between (fin false m e) (inf false) nan p q l h = absurd h
+plus_between (fin false m e) (inf false) (inf t) p q l h = absurd h
+plus_between (fin false m e) (inf false) (fin t n d) p q l h = absurd h
+plus_between (fin false m e) (fin true n d) c p q l h = absurd l
+plus_between (fin false m e) (fin false n d) c p q l h = tt
 
 -- so a parameter is one
-inside-plus : {t : Float} → Inside t → Plus t
-inside-plus {t} i = plus-between near-end t far-end near-plus far-plus i.low i.high
+inside_plus : {t : Float} → Inside t → Plus t
+inside_plus {t} i = plus_between near_end t far_end near_plus far_plus i.low i.high
 
 -- Parameters are ordered as their bits.
-pub inside-order : (t u : Float) → Inside t → Inside u → lt t u ≡ ltb (bits64 t) (bits64 u)
-inside-order t u i j = plus-order t u i.fit j.fit (inside-plus i) (inside-plus j)
+pub inside_order : (t u : Float) → Inside t → Inside u → lt t u ≡ ltb (bits64 t) (bits64 u)
+inside_order t u i j = plus_order t u i.fit j.fit (inside_plus i) (inside_plus j)
 
 -- Their bits are below 2 ^ 62.
-pub inside-bits : (t : Float) → Inside t → bits64 t < 4611686018427387904
-inside-bits t i =
-    let l : bits64 t < bits64 far-end = ltb→lt (bits64 t) (bits64 far-end) (subst T (plus-order t far-end i.fit far-fits (inside-plus i) far-plus) i.high) in
-    omega (arith, far-bits)
+pub inside_bits : (t : Float) → Inside t → bits64 t < 4611686018427387904
+inside_bits t i =
+    let l : bits64 t < bits64 far_end = ltb→lt (bits64 t) (bits64 far_end) (subst T (plus_order t far_end i.fit far_fits (inside_plus i) far_plus) i.high) in
+    omega (arith, far_bits)

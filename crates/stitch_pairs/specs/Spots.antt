@@ -7,33 +7,33 @@ use Rattle.std.specs.Float.Ieee.{lt, eq}
 use Rattle.std.specs.Float.Ieee.Fits.{and_l, and_r, div-fits}
 use Rattle.float_steps.specs.Floats.{bits64}
 use Rattle.patch_geometry.specs.declared.Vec3.{Vec3}
-use Rattle.patch_geometry.specs.Geometry.{div, dot, subV, scale, lengthV, zero64}
+use Rattle.patch_geometry.specs.Geometry.{div, dot, sub_v, scale, length_v, zero64}
 use Rattle.stitch_projection.specs.declared.Edge.{Edge}
 use Rattle.stitch_projection.specs.declared.Hit.{Hit}
-use Rattle.stitch_projection.specs.Projection.{project, near-end, far-end}
+use Rattle.stitch_projection.specs.Projection.{project, near_end, far_end}
 use Rattle.stitch_splits.specs.declared.sides.Sides.{Sides}
-use Rattle.stitch_splits.specs.Found.{Spot, nearerSpot, spot_of}
-use Rattle.stitch_pairs.specs.BitOrder.{Inside, inside-bits}
+use Rattle.stitch_splits.specs.Found.{Spot, nearer_spot, spot_of}
+use Rattle.stitch_pairs.specs.BitOrder.{Inside, inside_bits}
 
 -- a hit has such a parameter
 abbrev HitInside : Option Hit → Type 0
 HitInside none = Unit {0}
 HitInside (some h) = Inside h.t
 
-hit-inside : (s : Edge) (r : Vec3) → HitInside (project s r)
+hit_inside : (s : Edge) (r : Vec3) → HitInside (project s r)
 unfolding project
-hit-inside s r = go (not (eq s.squared zero64) && lt near-end t && lt t far-end) (lengthV (subV (subV r s.start) (scale s.along t))) inside
+hit_inside s r = go (not (eq s.squared zero64) && lt near_end t && lt t far_end) (length_v (sub_v (sub_v r s.start) (scale s.along t))) inside
   where
     t : Float
-    t = div (dot (subV r s.start) s.along) s.squared
+    t = div (dot (sub_v r s.start) s.along) s.squared
 
-    inside : T (not (eq s.squared zero64) && lt near-end t && lt t far-end) → Inside t
+    inside : T (not (eq s.squared zero64) && lt near_end t && lt t far_end) → Inside t
     inside h =
-        let both = and_l (not (eq s.squared zero64) && lt near-end t) (lt t far-end) h in
+        let both = and_l (not (eq s.squared zero64) && lt near_end t) (lt t far_end) h in
         record {
-          fit = div-fits binary64 (dot (subV r s.start) s.along) s.squared;
-          low = and_r (not (eq s.squared zero64)) (lt near-end t) both;
-          high = and_r (not (eq s.squared zero64) && lt near-end t) (lt t far-end) h;
+          fit = div-fits binary64 (dot (sub_v r s.start) s.along) s.squared;
+          low = and_r (not (eq s.squared zero64)) (lt near_end t) both;
+          high = and_r (not (eq s.squared zero64) && lt near_end t) (lt t far_end) h;
         }
 
     go : (b : Bool) (d : Float) → (T b → Inside t) → HitInside (cond b (some (record { t = t; distance = d })) none)
@@ -51,28 +51,28 @@ SpotsInside none = Unit {0}
 SpotsInside (some q) = SpotInside q
 
 -- and so is the nearer one
-nearer-inside : (best : Option Spot) (e : ℕ) → e ≤ 2 → SpotsInside best → (h : Option Hit) → HitInside h → SpotsInside (nearerSpot best e h)
-nearer-inside best e l a none i = a
-nearer-inside none e l a (some h) i = record { edge = l; inside = i }
-nearer-inside (some b) e l a (some h) i = go (lt h.distance b.distance)
+nearer_inside : (best : Option Spot) (e : ℕ) → e ≤ 2 → SpotsInside best → (h : Option Hit) → HitInside h → SpotsInside (nearer_spot best e h)
+nearer_inside best e l a none i = a
+nearer_inside none e l a (some h) i = record { edge = l; inside = i }
+nearer_inside (some b) e l a (some h) i = go (lt h.distance b.distance)
   where
     go : (c : Bool) → SpotsInside (cond c (some (record { e = e; t = h.t; distance = h.distance })) (some b))
     go true = record { edge = l; inside = i }
     go false = a
 
 -- A point is placed inside an edge.
-pub spot-inside : (s : Sides) (r : Vec3) → SpotsInside (spot_of s r)
+pub spot_inside : (s : Sides) (r : Vec3) → SpotsInside (spot_of s r)
 unfolding spot_of
-spot-inside s r =
+spot_inside s r =
     let h₀ = project s.first.edge r in
     let h₁ = project s.second.edge r in
     let h₂ = project s.third.edge r in
-    let b₀ = nearerSpot none 0 h₀ in
-    let b₁ = nearerSpot b₀ 1 h₁ in
-    nearer-inside b₁ 2 (omega arith)
-    (nearer-inside b₀ 1 (omega arith) (nearer-inside none 0 (omega arith) tt h₀ (hit-inside s.first.edge r)) h₁ (hit-inside s.second.edge r))
+    let b₀ = nearer_spot none 0 h₀ in
+    let b₁ = nearer_spot b₀ 1 h₁ in
+    nearer_inside b₁ 2 (omega arith)
+    (nearer_inside b₀ 1 (omega arith) (nearer_inside none 0 (omega arith) tt h₀ (hit_inside s.first.edge r)) h₁ (hit_inside s.second.edge r))
     h₂
-    (hit-inside s.third.edge r)
+    (hit_inside s.third.edge r)
 
 -- edge and parameter fit one word
 pub record SpotKey (q : Spot) : Type 0 where
@@ -80,7 +80,7 @@ pub record SpotKey (q : Spot) : Type 0 where
   pub bits : bits64 q.t < 4611686018427387904
 
 -- Where a point is placed, edge and parameter fit one word.
-pub spot-key : (s : Sides) (r : Vec3) (q : Spot) → spot_of s r ≡ some q → SpotKey q
-spot-key s r q e =
-    let i : SpotInside q = subst SpotsInside e (spot-inside s r) in
-    record { edge = i.edge; bits = inside-bits q.t i.inside }
+pub spot_key : (s : Sides) (r : Vec3) (q : Spot) → spot_of s r ≡ some q → SpotKey q
+spot_key s r q e =
+    let i : SpotInside q = subst SpotsInside e (spot_inside s r) in
+    record { edge = i.edge; bits = inside_bits q.t i.inside }

@@ -12,44 +12,44 @@ use Rattle.std.specs.Float.Ieee.Positive.{above, above_of_le}
 use Rattle.std.specs.Float.Ieee.Scale as Scale
 use Rattle.float_steps.specs.Floats.{finite, negative, larger}
 use Rattle.float_narrow.specs.Narrow.{narrow}
-use Rattle.float_sqrt.specs.Roots.{isqrt, rootOf, sqrt}
+use Rattle.float_sqrt.specs.Roots.{isqrt, root_of, sqrt}
 use Rattle.float_spans.specs.Signs.{le→Le}
-use Rattle.float_spans.specs.Rounds.{number, upper, number-upper, number-round}
-use Rattle.float_spans.specs.Monotone.{nought, sub-left}
-use Rattle.float_spans.specs.Orders.{NotBelow, below-of-le, le-of-below, lt-of-lt-of-not, number-le, le_trans, not-self, le_of_lt, above-of-lt}
-use Rattle.float_spans.specs.Everywhere.{add-keeps, finite_number}
-use Rattle.float_spans.specs.Squares.{finite-between, nought-le, upper-square, square_above, square-under}
-use Rattle.float_spans.specs.Clamps.{finite-inside, upper-add}
-use Rattle.float_spans.specs.Roots.{root-keeps}
+use Rattle.float_spans.specs.Rounds.{number, upper, number_upper, number_round}
+use Rattle.float_spans.specs.Monotone.{nought, sub_left}
+use Rattle.float_spans.specs.Orders.{NotBelow, below_of_le, le_of_below, lt_of_lt_of_not, number_le, le_trans, not_self, le_of_lt, above_of_lt}
+use Rattle.float_spans.specs.Everywhere.{add_keeps, finite_number}
+use Rattle.float_spans.specs.Squares.{finite_between, nought_le, upper_square, square_above, square_under}
+use Rattle.float_spans.specs.Clamps.{finite_inside, upper_add}
+use Rattle.float_spans.specs.Roots.{root_keeps}
 use Rattle.float_spans.specs.Small.{Single}
 use Rattle.lists.specs.Each.{Each}
 use Rattle.patch_geometry.specs.declared.Vec3.{Vec3}
-use Rattle.patch_geometry.specs.Geometry.{add, sub, mul, div, addV, scale, dot, lengthV, one64}
-use Rattle.stitch_projection.specs.Projection.{near-end, far-end, least-length, mixed}
+use Rattle.patch_geometry.specs.Geometry.{add, sub, mul, div, add_v, scale, dot, length_v, one64}
+use Rattle.stitch_projection.specs.Projection.{near_end, far_end, least_length, mixed}
 use Rattle.stitch_passing.specs.NewPoints.{OfPoint, Between}
-use Rattle.stitch_passing.specs.Sizes.{end, Within, within-finite, single-within, Part, part-within, sum-within, quotient-within, narrow-finite}
+use Rattle.stitch_passing.specs.Sizes.{end, Within, within_finite, single_within, Part, part_within, sum_within, quotient_within, narrow_finite}
 
 -- ---- the parameter and what it leaves of 1
 
 -- 1e-6 is not below 0
-near-part : T (le nought near-end)
-unfolding le near-end Ieee.of_bits
-near-part = tt
+near_part : T (le nought near_end)
+unfolding le near_end Ieee.of_bits
+near_part = tt
 
 -- 1 − 1e-6 is not above 1
-far-part : T (le far-end one64)
-unfolding le far-end Ieee.of_bits
-far-part = tt
+far_part : T (le far_end one64)
+unfolding le far_end Ieee.of_bits
+far_part = tt
 
 -- 1 less 1e-6 is not above 1
-near-left : T (le (sub one64 near-end) one64)
-unfolding le near-end Ieee.sub Ieee.of_bits
-near-left = tt
+near_left : T (le (sub one64 near_end) one64)
+unfolding le near_end Ieee.sub Ieee.of_bits
+near_left = tt
 
 -- 1 less 1 − 1e-6 is not below 0
-far-left : T (le nought (sub one64 far-end))
-unfolding le far-end Ieee.sub Ieee.of_bits
-far-left = tt
+far_left : T (le nought (sub one64 far_end))
+unfolding le far_end Ieee.sub Ieee.of_bits
+far_left = tt
 
 -- the test holds
 holds : (b : Bool) → b ≡ true → T b
@@ -57,210 +57,210 @@ holds b e = subst T (sym e) tt
 
 module _ (t : Float) (h : Between t) where
   -- t is above 1e-6
-  above-near : T (lt near-end t)
-  above-near = holds (lt near-end t) h.above
+  above_near : T (lt near_end t)
+  above_near = holds (lt near_end t) h.above
 
   -- and below 1 − 1e-6
-  below-far : T (lt t far-end)
-  below-far = holds (lt t far-end) h.below
+  below_far : T (lt t far_end)
+  below_far = holds (lt t far_end) h.below
 
   -- so it is finite
   real : T (Scale.finite t)
-  real = finite-inside near-end t far-end above-near below-far
+  real = finite_inside near_end t far_end above_near below_far
 
   -- t is a part of 1
   part_of : Part t
   unfolding Ieee.of_bits
   part_of = record {
     real = real;
-    low = le_trans nought near-end t near-part (le_of_lt near-end t above-near);
-    high = le_trans t far-end one64 (le_of_lt t far-end below-far) far-part;
+    low = le_trans nought near_end t near_part (le_of_lt near_end t above_near);
+    high = le_trans t far_end one64 (le_of_lt t far_end below_far) far_part;
   }
 
   -- 1 − t is not below 0
-  rest-low : T (le nought (sub one64 t))
-  unfolding far-end Ieee.of_bits
-  rest-low = le_trans nought (sub one64 far-end) (sub one64 t) far-left (sub-left binary64 t far-end one64 real tt tt (le_of_lt t far-end below-far))
+  rest_low : T (le nought (sub one64 t))
+  unfolding far_end Ieee.of_bits
+  rest_low = le_trans nought (sub one64 far_end) (sub one64 t) far_left (sub_left binary64 t far_end one64 real tt tt (le_of_lt t far_end below_far))
 
   -- nor above 1
-  rest-high : T (le (sub one64 t) one64)
-  unfolding near-end Ieee.of_bits
-  rest-high = le_trans (sub one64 t) (sub one64 near-end) one64 (sub-left binary64 near-end t one64 tt real tt (le_of_lt near-end t above-near)) near-left
+  rest_high : T (le (sub one64 t) one64)
+  unfolding near_end Ieee.of_bits
+  rest_high = le_trans (sub one64 t) (sub one64 near_end) one64 (sub_left binary64 near_end t one64 tt real tt (le_of_lt near_end t above_near)) near_left
 
   -- so is 1 − t
   rest_of : Part (sub one64 t)
   unfolding Ieee.of_bits
   rest_of = record {
     real =
-        finite-between nought (sub one64 t) one64 tt tt (number-le nought (sub one64 t) rest-low).1 (below-of-le (sub one64 t) nought rest-low) (below-of-le one64 (sub one64 t) rest-high);
-    low = rest-low;
-    high = rest-high;
+        finite_between nought (sub one64 t) one64 tt tt (number_le nought (sub one64 t) rest_low).1 (below_of_le (sub one64 t) nought rest_low) (below_of_le one64 (sub one64 t) rest_high);
+    low = rest_low;
+    high = rest_high;
   }
 
   -- a mixed coordinate is within 2 ^ 129
-  mix-within : (x y : Float) → Single x → Single y → Within 129 (add (mul x (sub one64 t)) (mul y t))
-  mix-within x y p q =
-      sum-within (mul x (sub one64 t)) (mul y t) (part-within x (sub one64 t) (single-within x p) rest_of) (part-within y t (single-within y q) part_of)
+  mix_within : (x y : Float) → Single x → Single y → Within 129 (add (mul x (sub one64 t)) (mul y t))
+  mix_within x y p q =
+      sum_within (mul x (sub one64 t)) (mul y t) (part_within x (sub one64 t) (single_within x p) rest_of) (part_within y t (single_within y q) part_of)
 
 -- ---- the length
 
 -- a root of a value with the sign plus is a number
-root-number : (x : Float) → T (upper x) → T (number (sqrt x))
-unfolding sqrt rootOf
-root-number nan h = absurd h
-root-number (inf true) h = absurd h
-root-number (inf false) h = tt
-root-number (fin true m e) h = absurd h
-root-number (fin false zero e) h = tt
-root-number (fin false (suc m) e) h = number-round binary64 false _ (2 ^ 1074)
+root_number : (x : Float) → T (upper x) → T (number (sqrt x))
+unfolding sqrt root_of
+root_number nan h = absurd h
+root_number (inf true) h = absurd h
+root_number (inf false) h = tt
+root_number (fin true m e) h = absurd h
+root_number (fin false zero e) h = tt
+root_number (fin false (suc m) e) h = number_round binary64 false _ (2 ^ 1074)
 
 -- that of 2 ^ 38
-root-38 : sqrt (end false 38) ≡ end false 19
-unfolding sqrt rootOf isqrt Ieee.size round
-root-38 = refl
+root_38 : sqrt (end false 38) ≡ end false 19
+unfolding sqrt root_of isqrt Ieee.size round
+root_38 = refl
 
 -- a coordinate beyond 2 ^ 20
 data Big (x : Float) : Type 0 where
-  above-it : NotBelow x (end false 20) → Big x
-  below-it : NotBelow (end true 20) x → Big x
+  above_it : NotBelow x (end false 20) → Big x
+  below_it : NotBelow (end true 20) x → Big x
 
 -- its square is at least 2 ^ 40
-big-square : (x : Float) → T (number x) → Big x → NotBelow (mul x x) (end false 40)
+big_square : (x : Float) → T (number x) → Big x → NotBelow (mul x x) (end false 40)
 unfolding Ieee.mul lt
-big-square x n (above-it h) = below-of-le (mul x x) (end false 40) (square_above binary64 (end false 20) x tt n h)
-big-square x n (below-it h) = below-of-le (mul x x) (end false 40) (square-under binary64 (end true 20) x tt n h)
+big_square x n (above_it h) = below_of_le (mul x x) (end false 40) (square_above binary64 (end false 20) x tt n h)
+big_square x n (below_it h) = below_of_le (mul x x) (end false 40) (square_under binary64 (end true 20) x tt n h)
 
 -- any square is at least 0
-any-square : (x : Float) → T (number x) → NotBelow (mul x x) nought
-any-square x n = below-of-le (mul x x) nought (nought-le (mul x x) (upper-square binary64 x n))
+any_square : (x : Float) → T (number x) → NotBelow (mul x x) nought
+any_square x n = below_of_le (mul x x) nought (nought_le (mul x x) (upper_square binary64 x n))
 
 module _ (m : Vec3) (w : OfPoint (Within 129) m) where
   -- each coordinate is a number: x
-  number-x : T (number m.x)
-  number-x = finite_number m.x (within-finite 129 m.x w.0)
+  number_x : T (number m.x)
+  number_x = finite_number m.x (within_finite 129 m.x w.0)
 
   -- y
-  number-y : T (number m.y)
-  number-y = finite_number m.y (within-finite 129 m.y w.1)
+  number_y : T (number m.y)
+  number_y = finite_number m.y (within_finite 129 m.y w.1)
 
   -- z
-  number-z : T (number m.z)
-  number-z = finite_number m.z (within-finite 129 m.z w.2)
+  number_z : T (number m.z)
+  number_z = finite_number m.z (within_finite 129 m.z w.2)
 
   -- the square of the length has the sign plus
-  upper-dot : T (upper (dot m m))
-  upper-dot =
-      upper-add binary64 (add (mul m.x m.x) (mul m.y m.y)) (mul m.z m.z)
-      (upper-add binary64 (mul m.x m.x) (mul m.y m.y) (upper-square binary64 m.x number-x) (upper-square binary64 m.y number-y))
-      (upper-square binary64 m.z number-z)
+  upper_dot : T (upper (dot m m))
+  upper_dot =
+      upper_add binary64 (add (mul m.x m.x) (mul m.y m.y)) (mul m.z m.z)
+      (upper_add binary64 (mul m.x m.x) (mul m.y m.y) (upper_square binary64 m.x number_x) (upper_square binary64 m.y number_y))
+      (upper_square binary64 m.z number_z)
 
   -- the length is a number
-  length-number : T (number (lengthV m))
-  unfolding lengthV
-  length-number = root-number (dot m m) upper-dot
+  length_number : T (number (length_v m))
+  unfolding length_v
+  length_number = root_number (dot m m) upper_dot
 
   -- with a big coordinate its square is at least 2 ^ 40
-  dot-x : Big m.x → NotBelow (dot m m) (end false 40)
+  dot_x : Big m.x → NotBelow (dot m m) (end false 40)
   unfolding Ieee.add
-  dot-x b = add-keeps binary64 (add-keeps binary64 (big-square m.x number-x b) (any-square m.y number-y)) (any-square m.z number-z)
+  dot_x b = add_keeps binary64 (add_keeps binary64 (big_square m.x number_x b) (any_square m.y number_y)) (any_square m.z number_z)
 
   -- so with a big y
-  dot-y : Big m.y → NotBelow (dot m m) (end false 40)
+  dot_y : Big m.y → NotBelow (dot m m) (end false 40)
   unfolding Ieee.add
-  dot-y b = add-keeps binary64 (add-keeps binary64 (any-square m.x number-x) (big-square m.y number-y b)) (any-square m.z number-z)
+  dot_y b = add_keeps binary64 (add_keeps binary64 (any_square m.x number_x) (big_square m.y number_y b)) (any_square m.z number_z)
 
   -- or a big z
-  dot-z : Big m.z → NotBelow (dot m m) (end false 40)
+  dot_z : Big m.z → NotBelow (dot m m) (end false 40)
   unfolding Ieee.add
-  dot-z b = add-keeps binary64 (add-keeps binary64 (any-square m.x number-x) (any-square m.y number-y)) (big-square m.z number-z b)
+  dot_z b = add_keeps binary64 (add_keeps binary64 (any_square m.x number_x) (any_square m.y number_y)) (big_square m.z number_z b)
 
   -- and it is at least 2 ^ 19
-  length-big : NotBelow (dot m m) (end false 40) → T (le (end false 19) (lengthV m))
-  unfolding lengthV lt fits
-  length-big b =
-      let more = lt-of-lt-of-not (end false 38) (end false 40) (dot m m) (number-upper (dot m m) upper-dot) tt b in
-      le-of-below (lengthV m) (end false 19) length-number tt
-      (subst (λ (z : Float). NotBelow (lengthV m) z) root-38
-      (root-keeps (end false 38) (dot m m) tt (add-fits binary64 (add (mul m.x m.x) (mul m.y m.y)) (mul m.z m.z)) more))
+  length_big : NotBelow (dot m m) (end false 40) → T (le (end false 19) (length_v m))
+  unfolding length_v lt fits
+  length_big b =
+      let more = lt_of_lt_of_not (end false 38) (end false 40) (dot m m) (number_upper (dot m m) upper_dot) tt b in
+      le_of_below (length_v m) (end false 19) length_number tt
+      (subst (λ (z : Float). NotBelow (length_v m) z) root_38
+      (root_keeps (end false 38) (dot m m) tt (add-fits binary64 (add (mul m.x m.x) (mul m.y m.y)) (mul m.z m.z)) more))
 
 -- ---- the divisor
 
 -- of two numbers neither is above the larger
 module _ (x y : Float) (p : T (number x)) (q : T (number y)) where
   -- a number is no NaN
-  not-nan : (z : Float) → T (number z) → is_nan z ≡ false
+  not_nan : (z : Float) → T (number z) → is_nan z ≡ false
   unfolding is_nan
-  not-nan nan h = absurd h
-  not-nan (inf s) h = refl
-  not-nan (fin s m e) h = refl
+  not_nan nan h = absurd h
+  not_nan (inf s) h = refl
+  not_nan (fin s m e) h = refl
 
   -- which of them it is
   chosen : Bool → Bool → Bool → Float
   chosen a b c = cond a y (cond b x (cond c y x))
 
   -- the larger is so chosen
-  larger-is : larger x y ≡ chosen (lt x y) (lt y x) (negative x)
+  larger_is : larger x y ≡ chosen (lt x y) (lt y x) (negative x)
   unfolding larger chosen
-  larger-is = ap (λ (a : Bool). cond a y (cond (is_nan y) x (chosen (lt x y) (lt y x) (negative x)))) (not-nan x p)
-      ∙ ap (λ (a : Bool). cond a x (chosen (lt x y) (lt y x) (negative x))) (not-nan y q)
+  larger_is = ap (λ (a : Bool). cond a y (cond (is_nan y) x (chosen (lt x y) (lt y x) (negative x)))) (not_nan x p)
+      ∙ ap (λ (a : Bool). cond a x (chosen (lt x y) (lt y x) (negative x))) (not_nan y q)
 
   -- it is not below the first
-  larger-first : T (le x (larger x y))
+  larger_first : T (le x (larger x y))
   unfolding chosen
-  larger-first = subst (λ (z : Float). T (le x z)) (sym larger-is) (go (lt x y) (lt y x) (negative x) refl refl)
+  larger_first = subst (λ (z : Float). T (le x z)) (sym larger_is) (go (lt x y) (lt y x) (negative x) refl refl)
     where
       go : (a b c : Bool) → lt x y ≡ a → lt y x ≡ b → T (le x (chosen a b c))
       go true b c e f = le_of_lt x y (holds (lt x y) e)
-      go false true c e f = le-of-below x x p p (not-self x)
-      go false false true e f = le-of-below y x q p (record { is = f })
-      go false false false e f = le-of-below x x p p (not-self x)
+      go false true c e f = le_of_below x x p p (not_self x)
+      go false false true e f = le_of_below y x q p (record { is = f })
+      go false false false e f = le_of_below x x p p (not_self x)
 
   -- nor below the second
-  larger-second : T (le y (larger x y))
+  larger_second : T (le y (larger x y))
   unfolding chosen
-  larger-second = subst (λ (z : Float). T (le y z)) (sym larger-is) (go (lt x y) (lt y x) (negative x) refl refl)
+  larger_second = subst (λ (z : Float). T (le y z)) (sym larger_is) (go (lt x y) (lt y x) (negative x) refl refl)
     where
       go : (a b c : Bool) → lt x y ≡ a → lt y x ≡ b → T (le y (chosen a b c))
-      go true b c e f = le-of-below y y q q (not-self y)
+      go true b c e f = le_of_below y y q q (not_self y)
       go false true c e f = le_of_lt y x (holds (lt y x) f)
-      go false false true e f = le-of-below y y q q (not-self y)
-      go false false false e f = le-of-below x y p q (record { is = e })
+      go false false true e f = le_of_below y y q q (not_self y)
+      go false false false e f = le_of_below x y p q (record { is = e })
 
 -- 2 ^ -100, below 1e-30
 abbrev tiny : Float
 tiny = fin false 1 (negsuc 99)
 
 -- it is not above 1e-30
-tiny-least : T (le tiny least-length)
-unfolding le least-length Ieee.of_bits
-tiny-least = tt
+tiny_least : T (le tiny least_length)
+unfolding le least_length Ieee.of_bits
+tiny_least = tt
 
 -- 1e-30 is a number
-least-number : T (number least-length)
-unfolding least-length Ieee.of_bits
-least-number = tt
+least_number : T (number least_length)
+unfolding least_length Ieee.of_bits
+least_number = tt
 
 -- ---- the quotient
 
 -- the kit's test of a finite value says the same
-finite-same : (x : Float) → T (Scale.finite x) → finite x ≡ true
+finite_same : (x : Float) → T (Scale.finite x) → finite x ≡ true
 unfolding finite
-finite-same nan h = absurd h
-finite-same (inf s) h = absurd h
-finite-same (fin s m e) h = refl
+finite_same nan h = absurd h
+finite_same (inf s) h = absurd h
+finite_same (fin s m e) h = refl
 
 -- a zero narrows to one
-zero-narrow : (s : Bool) → T (Scale.finite (narrow (fin s 0 (pos 0))))
+zero_narrow : (s : Bool) → T (Scale.finite (narrow (fin s 0 (pos 0))))
 unfolding narrow round
-zero-narrow true = tt
-zero-narrow false = tt
+zero_narrow true = tt
+zero_narrow false = tt
 
 -- divided by infinity
-by-infinity : (x : Float) → T (Scale.finite x) → T (Scale.finite (narrow (div x (inf false))))
+by_infinity : (x : Float) → T (Scale.finite x) → T (Scale.finite (narrow (div x (inf false))))
 unfolding Ieee.div
-by-infinity nan h = absurd h
-by-infinity (inf s) h = absurd h
-by-infinity (fin s m e) h = zero-narrow (Ieee.unlike s false)
+by_infinity nan h = absurd h
+by_infinity (inf s) h = absurd h
+by_infinity (fin s m e) h = zero_narrow (Ieee.unlike s false)
 
 -- what is divided is small, or the divisor is large
 data Divides (x l : Float) : Type 0 where
@@ -273,17 +273,17 @@ multiplied L P A K a d e g h = omega (arith, ap (λ (z : ℕ). z * d) e, mul-le-
 
 -- A coordinate within 2 ^ 129, divided so, narrows to a finite value.
 divided : (x l : Float) → Within 129 x → T (le tiny l) → Divides x l → T (Scale.finite (narrow (div x l)))
-divided x nan w h d = absurd (number-le tiny nan h).1
+divided x nan w h d = absurd (number_le tiny nan h).1
 divided x (inf true) w h d = absurd (above_of_le tiny (inf true) tt h)
-divided x (inf false) w h d = by-infinity x (within-finite 129 x w)
+divided x (inf false) w h d = by_infinity x (within_finite 129 x w)
 divided x (fin true n e) w h d = absurd (above_of_le tiny (fin true n e) tt h)
 divided x (fin false n e) w h (small v) =
-    narrow-finite (div x (fin false n e)) (quotient-within 20 x (fin false n e) v (above_of_le tiny (fin false n e) tt h) (far (n * up e) (down e) (le→Le tiny (fin false n e) tt tt h)))
+    narrow_finite (div x (fin false n e)) (quotient_within 20 x (fin false n e) v (above_of_le tiny (fin false n e) tt h) (far (n * up e) (down e) (le→Le tiny (fin false n e) tt tt h)))
   where
     far : (a d : ℕ) → 1 * d + 0 * 2 ^ 100 ≤ a * 2 ^ 100 + 0 * d → 2 ^ 20 * d ≤ 2 ^ 120 * a
     far a d l = omega arith
 divided x (fin false n e) w h (large v) =
-    narrow-finite (div x (fin false n e)) (quotient-within 129 x (fin false n e) w (above_of_le tiny (fin false n e) tt h) (near (n * up e) (down e) (le→Le (end false 19) (fin false n e) tt tt v)))
+    narrow_finite (div x (fin false n e)) (quotient_within 129 x (fin false n e) w (above_of_le tiny (fin false n e) tt h) (near (n * up e) (down e) (le→Le (end false 19) (fin false n e) tt tt v)))
   where
     near : (a d : ℕ) → 1 * 2 ^ 19 * d + 0 * 1 ≤ a * 1 + 0 * d → 2 ^ 129 * d ≤ 2 ^ 120 * a
     near a d l = multiplied (2 ^ 19) (2 ^ 110) (2 ^ 129) (2 ^ 120) a d refl (omega arith) (omega arith)
@@ -293,28 +293,28 @@ sized : (x l : Float) → T (number x) → (Big x → T (le (end false 19) l)) �
 sized x l n f = go (lt (end false 20) x) (lt x (end true 20)) refl refl
   where
     go : (a b : Bool) → lt (end false 20) x ≡ a → lt x (end true 20) ≡ b → Divides x l
-    go true b e g = large (f (above-it (above-of-lt (end false 20) x (holds (lt (end false 20) x) e))))
-    go false true e g = large (f (below-it (above-of-lt x (end true 20) (holds (lt x (end true 20)) g))))
-    go false false e g = small (record { least = le-of-below x (end true 20) n tt (record { is = g }); most = le-of-below (end false 20) x tt n (record { is = e }) })
+    go true b e g = large (f (above_it (above_of_lt (end false 20) x (holds (lt (end false 20) x) e))))
+    go false true e g = large (f (below_it (above_of_lt x (end true 20) (holds (lt x (end true 20)) g))))
+    go false false e g = small (record { least = le_of_below x (end true 20) n tt (record { is = g }); most = le_of_below (end false 20) x tt n (record { is = e }) })
 
 -- Each coordinate of the mixed normal is finite.
-pub mixed-finite : (na nb : Vec3) (t : Float) → OfPoint Single na → OfPoint Single nb → Between t → Each (λ x. finite x ≡ true) (mixed na nb t)
+pub mixed_finite : (na nb : Vec3) (t : Float) → OfPoint Single na → OfPoint Single nb → Between t → Each (λ x. finite x ≡ true) (mixed na nb t)
 unfolding mixed
-mixed-finite na nb t a b h = (each m.x w.0 (dot-x m w), (each m.y w.1 (dot-y m w), (each m.z w.2 (dot-z m w), tt)))
+mixed_finite na nb t a b h = (each m.x w.0 (dot_x m w), (each m.y w.1 (dot_y m w), (each m.z w.2 (dot_z m w), tt)))
   where
     m : Vec3
-    m = addV (scale na (sub one64 t)) (scale nb t)
+    m = add_v (scale na (sub one64 t)) (scale nb t)
 
     w : OfPoint (Within 129) m
-    w = (mix-within t h na.x nb.x a.0 b.0, mix-within t h na.y nb.y a.1 b.1, mix-within t h na.z nb.z a.2 b.2)
+    w = (mix_within t h na.x nb.x a.0 b.0, mix_within t h na.y nb.y a.1 b.1, mix_within t h na.z nb.z a.2 b.2)
 
     l : Float
-    l = larger (lengthV m) least-length
+    l = larger (length_v m) least_length
 
     each : (x : Float) → Within 129 x → (Big x → NotBelow (dot m m) (end false 40)) → finite (narrow (div x l)) ≡ true
     each x v f =
-        let r = length-number m w in
-        finite-same (narrow (div x l))
-        (divided x l v (le_trans tiny least-length l tiny-least (larger-second (lengthV m) least-length r least-number))
-        (sized x l (finite_number x (within-finite 129 x v))
-        (λ big. le_trans (end false 19) (lengthV m) l (length-big m w (f big)) (larger-first (lengthV m) least-length r least-number))))
+        let r = length_number m w in
+        finite_same (narrow (div x l))
+        (divided x l v (le_trans tiny least_length l tiny_least (larger_second (length_v m) least_length r least_number))
+        (sized x l (finite_number x (within_finite 129 x v))
+        (λ big. le_trans (end false 19) (length_v m) l (length_big m w (f big)) (larger_first (length_v m) least_length r least_number))))

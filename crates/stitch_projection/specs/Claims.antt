@@ -4,12 +4,12 @@ use Rattle.lists.specs.Lists.{all}
 use Rattle.lists.specs.Table.{Case, case, agrees}
 use Rattle.float_steps.specs.Floats.{f64, bits32}
 use Rattle.patch_geometry.specs.Given.{vec}
-use Rattle.stitch_projection.specs.Projection.{edge_of, withinSag, mixed}
+use Rattle.stitch_projection.specs.Projection.{edge_of, within_sag, mixed}
 use Rattle.stitch_projection.specs.Evaluation.{evaluation}
 
 -- whether x, y, 0 is within the sag 1 of the edge from the origin to 1, 0, 0
 near : ℕ → ℕ → ℕ
-near x y = cond (withinSag (f64 0x3FF0000000000000) (edge_of (vec 0 0 0) (vec 0x3FF0000000000000 0 0)) (vec x y 0)) 1 0
+near x y = cond (within_sag (f64 0x3FF0000000000000) (edge_of (vec 0 0 0) (vec 0x3FF0000000000000 0 0)) (vec x y 0)) 1 0
 
 -- a distance of the sag is within it, one of 2 is not; 1e-6 and 1 − 1e-6 are outside, 5e-6 and 0.999998 inside; a quarter of the way from 1, 0, 0 to 0, 1, 0
 pub claims : List Case
@@ -20,6 +20,6 @@ claims =
     ∷ []
 
 -- The definitions yield each.
-pub claims-hold : T (all agrees claims)
+pub claims_hold : T (all agrees claims)
 unfolding evaluation near claims
-claims-hold = tt
+claims_hold = tt

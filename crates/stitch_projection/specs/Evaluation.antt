@@ -2,9 +2,9 @@
 use Rattle.std.specs.Prelude.{ℕ}
 use Rattle.float_narrow.specs.Evaluation as Narrowing
 use Rattle.patch_geometry.specs.Evaluation as Geometry
-use Rattle.stitch_projection.specs.Projection.{near-end, far-end, edge_of, project, withinSag, least-length, mixed}
+use Rattle.stitch_projection.specs.Projection.{near_end, far_end, edge_of, project, within_sag, least_length, mixed}
 
 -- every definition that computes
 unfoldable pub evaluation : ℕ
-unfolding Narrowing.evaluation Geometry.evaluation near-end far-end edge_of project withinSag least-length mixed
+unfolding Narrowing.evaluation Geometry.evaluation near_end far_end edge_of project within_sag least_length mixed
 evaluation = 0

@@ -1,8 +1,8 @@
 // Checks 33 and 32: the size of the result, and room for it in the slices to write.
 
 ghost use Rattle.std.specs.Prelude.{◌≡◌, length, ◌≤◌};
-ghost use Rattle.body_rows.specs.Body.{firstFailing};
-ghost use Rattle.stitch_result_checks.specs.Results.{SmallResult, resultChecks, tooShort};
+ghost use Rattle.body_rows.specs.Body.{first_failing};
+ghost use Rattle.stitch_result_checks.specs.Results.{SmallResult, result_checks, too_short};
 
 use body_rows::ROW_WIDTH;
 use body_table_checks::{MOST_INDICES, MOST_VERTICES};
@@ -18,7 +18,7 @@ fn too_short(
     out_indices: &[u32],
 ) -> bool
     requires { SmallResult vertices rows }
-    ensures { result ≡ tooShort vertices indices rows
+    ensures { result ≡ too_short vertices indices rows
         (length out_rows.now) (length out_positions.now) (length out_normals.now)
         (length out_indices.now) }
 {
@@ -45,7 +45,7 @@ pub fn result_failing(
     out_indices: &[u32],
 ) -> u32
     requires { rows ≤ 4096 }
-    ensures { result ≡ firstFailing (resultChecks vertices indices rows
+    ensures { result ≡ first_failing (result_checks vertices indices rows
         (length out_rows.now) (length out_positions.now) (length out_normals.now)
         (length out_indices.now)) }
 {

@@ -2,12 +2,12 @@
 
 ghost use Rattle.std.specs.Prelude.{◌≡◌, [], ◌∷◌, ◌+◌, ◌%◌, ◌<◌, ◌≤◌, length, get_or};
 ghost use Rattle.std.proofs.lemmas.List.Edits.{sets};
-ghost use Rattle.patch_geometry.specs.Geometry.{pointAt};
+ghost use Rattle.patch_geometry.specs.Geometry.{point_at};
 ghost use Rattle.patch_measures.specs.Volume.{Corners};
 ghost use Rattle.stitch_projection.specs.Projection.{mixed};
-ghost use Rattle.stitch_normals.specs.Answers.{normalOf};
-ghost use Rattle.stitch_splits.specs.Entries.{entriesIn};
-ghost use Rattle.stitch_rings.specs.Rings.{coordinatesAt, start_of, end_of, newPositions, newNormals};
+ghost use Rattle.stitch_normals.specs.Answers.{normal_of};
+ghost use Rattle.stitch_splits.specs.Entries.{entries_in};
+ghost use Rattle.stitch_rings.specs.Rings.{coordinates_at, start_of, end_of, new_positions, new_normals};
 ghost use Rattle.slice_append.specs.Appended.{Appended};
 ghost use Rattle.stitch_rings.specs.Added.{VerticesReady, NormalsReady};
 ghost use Rattle.stitch_ring_vertices.specs.VertexSteps.{PointReady};
@@ -38,7 +38,7 @@ fn put_three(out: &mut [f32], k: usize, x: f32, y: f32, z: f32)
 // The coordinates of vertex g are written from place k on.
 fn copy_point(positions: &[f32], g: usize, out: &mut [f32], k: usize)
     requires { PointReady positions.now g k out.old }
-    ensures { out.new ≡ sets out.old k (coordinatesAt positions.now g) }
+    ensures { out.new ≡ sets out.old k (coordinates_at positions.now g) }
 {
     let x = positions[3 * g];
     let y = positions[3 * g + 1];
@@ -57,7 +57,7 @@ pub fn append_positions(
     o: usize,
 )
     requires { VerticesReady positions.now w.now at ts kept o out.old }
-    ensures { Appended o (newPositions positions.now (entriesIn w.now at ts kept)) out.old out.new }
+    ensures { Appended o (new_positions positions.now (entries_in w.now at ts kept)) out.old out.new }
 {
     let mut j = 0usize;
     while j < kept {
@@ -96,7 +96,7 @@ fn end_of(a: usize, b: usize, c: usize, e: u64) -> usize
 // The normal at parameter t of edge e, mixed from those of its ends.
 fn edge_normal(normals: &[f32], a: usize, b: usize, c: usize, e: u64, t: f64) -> Normal
     requires { Corners normals.now a b c }
-    ensures { normalOf result ≡ mixed (pointAt normals.now (start_of a b c e)) (pointAt normals.now (end_of a b c e)) t }
+    ensures { normal_of result ≡ mixed (point_at normals.now (start_of a b c e)) (point_at normals.now (end_of a b c e)) t }
 {
     let p = start_of(a, b, c, e);
     let q = end_of(a, b, c, e);
@@ -119,7 +119,7 @@ pub fn append_normals(
     o: usize,
 )
     requires { NormalsReady normals.now a b c w.now at ts kept o out.old }
-    ensures { Appended o (newNormals normals.now a b c (entriesIn w.now at ts kept)) out.old out.new }
+    ensures { Appended o (new_normals normals.now a b c (entries_in w.now at ts kept)) out.old out.new }
 {
     let mut j = 0usize;
     while j < kept {

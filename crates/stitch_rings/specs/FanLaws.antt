@@ -1,28 +1,28 @@
 -- The fan of a ring is what pushing its vertices one after another writes, and how long it is. Assumes nothing.
 use Rattle.std.specs.Prelude.{◌≡◌, refl, true, false, List, [], ◌∷◌, ℕ, ◌+◌, ◌*◌, ◌<◌, length}
 use Rattle.std.proofs.Common.{ap, arith}
-use Rattle.stitch_rings.specs.Rings.{fanFrom, fan, fanGo}
+use Rattle.stitch_rings.specs.Rings.{fan_from, fan, fan_go}
 
 -- behind the vertex b
-pub from-go : (a b : ℕ) (ys : List ℕ) → fanFrom a (b ∷ ys) ≡ fanGo a true b ys
-unfolding fanFrom fanGo
-from-go a b [] = refl
-from-go a b (c ∷ ys) = ap (λ (l : List ℕ). a ∷ b ∷ c ∷ l) (from-go a c ys)
+pub from_go : (a b : ℕ) (ys : List ℕ) → fan_from a (b ∷ ys) ≡ fan_go a true b ys
+unfolding fan_from fan_go
+from_go a b [] = refl
+from_go a b (c ∷ ys) = ap (λ (l : List ℕ). a ∷ b ∷ c ∷ l) (from_go a c ys)
 
 -- from corner 0
-pub fan-go : (a : ℕ) (ys : List ℕ) → fan (a ∷ ys) ≡ fanGo a false 0 ys
-unfolding fan fanFrom fanGo
-fan-go a [] = refl
-fan-go a (b ∷ ys) = from-go a b ys
+pub fan_go_lem : (a : ℕ) (ys : List ℕ) → fan (a ∷ ys) ≡ fan_go a false 0 ys
+unfolding fan fan_from fan_go
+fan_go_lem a [] = refl
+fan_go_lem a (b ∷ ys) = from_go a b ys
 
 -- each vertex behind another makes a triangle
-pub fan-long : (a last : ℕ) (ys : List ℕ) → length (fanGo a true last ys) ≡ 3 * length ys
-unfolding fanGo
-fan-long a last [] = refl
-fan-long a last (y ∷ ys) = omega (arith, fan-long a y ys)
+pub fan_long : (a last : ℕ) (ys : List ℕ) → length (fan_go a true last ys) ≡ 3 * length ys
+unfolding fan_go
+fan_long a last [] = refl
+fan_long a last (y ∷ ys) = omega (arith, fan_long a y ys)
 
 -- the first makes none
-pub first-none : (a last : ℕ) (ys : List ℕ) → 0 < length ys → length (fanGo a false last ys) + 3 ≡ 3 * length ys
-unfolding fanGo
-first-none a last [] l = absurd (omega arith)
-first-none a last (y ∷ ys) l = omega (arith, fan-long a y ys)
+pub first_none : (a last : ℕ) (ys : List ℕ) → 0 < length ys → length (fan_go a false last ys) + 3 ≡ 3 * length ys
+unfolding fan_go
+first_none a last [] l = absurd (omega arith)
+first_none a last (y ∷ ys) l = omega (arith, fan_long a y ys)

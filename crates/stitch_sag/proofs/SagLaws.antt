@@ -7,23 +7,23 @@ use lib.Ieee as Ieee
 use lib.Ieee.{Float, inf, binary64, fits, lt, eq}
 use lib.Ieee.Fits.{add-fits, mul-fits}
 use Rattle.float_sqrt.specs.Roots.{sqrt}
-use Rattle.float_sqrt.specs.RootOrder.{not-above-infinity, below_root}
+use Rattle.float_sqrt.specs.RootOrder.{not_above_infinity, below_root}
 use Rattle.patch_geometry.specs.declared.Vec3.{Vec3}
-use Rattle.patch_geometry.specs.Geometry.{sub, mul, div, subV, scale, dot, lengthV, zero64, one64}
+use Rattle.patch_geometry.specs.Geometry.{sub, mul, div, sub_v, scale, dot, length_v, zero64, one64}
 use Rattle.stitch_projection.specs.declared.Edge.{Edge}
 use Rattle.stitch_projection.specs.declared.Hit.{Hit}
 use Rattle.stitch_feet.specs.declared.Foot.{Foot}
 use Rattle.stitch_feet.specs.declared.Footing.{Footing}
 use Rattle.stitch_feet.specs.declared.Footing.TheVariants as Footing
-use Rattle.stitch_projection.specs.Projection.{near-end, far-end, withinSag}
+use Rattle.stitch_projection.specs.Projection.{near_end, far_end, within_sag}
 use Rattle.stitch_feet.specs.Answers.{footing}
 use Rattle.stitch_sag.specs.Beyond.{Beyond, Ruled}
-use Rattle.stitch_feet.specs.Hits.{hitOf, hit-foot}
-use Rattle.stitch_sag.proofs.SignLaws.{between-plain}
+use Rattle.stitch_feet.specs.Hits.{hit_of, hit_foot}
+use Rattle.stitch_sag.proofs.SignLaws.{between_plain}
 
 -- a product whose root is above the sag
-pub beyond-product : (sag p s : Float) {q : Float} → q ≡ sqrt (mul p s) → lt sag q ≡ true → Beyond sag (mul p s)
-beyond-product sag p s e h = record { far = λ x f l. below_root sag (mul p s) x (mul-fits binary64 p s) f (subst (λ (q : Float). lt sag q ≡ true) e h) l }
+pub beyond_product : (sag p s : Float) {q : Float} → q ≡ sqrt (mul p s) → lt sag q ≡ true → Beyond sag (mul p s)
+beyond_product sag p s e h = record { far = λ x f l. below_root sag (mul p s) x (mul-fits binary64 p s) f (subst (λ (q : Float). lt sag q ≡ true) e h) l }
 
 -- 1 / 0 is the infinity
 infinite : div one64 zero64 ≡ inf false
@@ -31,60 +31,60 @@ unfolding Ieee.div Ieee.of_bits
 infinite = refl
 
 -- nothing is above it
-pub beyond-infinity : (sag : Float) → Beyond sag (div one64 zero64)
-beyond-infinity sag = record { far = λ x f l. absurd (not-above-infinity x (subst (λ (b : Float). lt b x ≡ true) infinite l)) }
+pub beyond_infinity : (sag : Float) → Beyond sag (div one64 zero64)
+beyond_infinity sag = record { far = λ x f l. absurd (not_above_infinity x (subst (λ (b : Float). lt b x ≡ true) infinite l)) }
 
 module _ (sag : Float) (s : Edge) (r : Vec3) where
   -- the verdict at a footing
-  abbrev nearAt : Footing → Bool
-  nearAt o = elim (hitOf o) [ none ↦ false | some h ↦ not (lt sag h.distance) ]
+  abbrev near_at : Footing → Bool
+  near_at o = elim (hit_of o) [ none ↦ false | some h ↦ not (lt sag h.distance) ]
 
   module _ {o : Footing} (e : o ≡ footing s r) where
     -- the definition's verdict is that at the footing
-    near-foot : nearAt o ≡ withinSag sag s r
-    unfolding withinSag
-    near-foot = ap nearAt e ∙ ap (λ (h : Option Hit). elim h [ none ↦ false | some h ↦ not (lt sag h.distance) ]) (hit-foot s r)
+    near_foot : near_at o ≡ within_sag sag s r
+    unfolding within_sag
+    near_foot = ap near_at e ∙ ap (λ (h : Option Hit). elim h [ none ↦ false | some h ↦ not (lt sag h.distance) ]) (hit_foot s r)
 
     -- no footing isn't near
-    pub within-outside : o ≡ Footing.Outside → false ≡ withinSag sag s r
-    within-outside g = ap nearAt (sym g) ∙ near-foot
+    pub within_outside : o ≡ Footing.Outside → false ≡ within_sag sag s r
+    within_outside g = ap near_at (sym g) ∙ near_foot
 
     module _ (f : Foot) {d : Float} (g : o ≡ Footing.Inside f) (h : d ≡ dot f.off f.off) where
       -- the root decides
-      pub within-root : {q : Float} → q ≡ sqrt d → not (lt sag q) ≡ withinSag sag s r
-      unfolding lengthV
-      within-root k = ap (λ (q : Float). not (lt sag q)) (k ∙ ap sqrt h) ∙ ap nearAt (sym g) ∙ near-foot
+      pub within_root : {q : Float} → q ≡ sqrt d → not (lt sag q) ≡ within_sag sag s r
+      unfolding length_v
+      within_root k = ap (λ (q : Float). not (lt sag q)) (k ∙ ap sqrt h) ∙ ap near_at (sym g) ∙ near_foot
 
       -- the square decides
-      pub within-beyond : {b : Float} → Beyond sag b → lt b d ≡ true → false ≡ withinSag sag s r
-      within-beyond b l = ap not (sym (b.far d (subst (λ (x : Float). T (fits binary64 x)) (sym h) (add-fits binary64 _ _)) l)) ∙ within-root refl
+      pub within_beyond : {b : Float} → Beyond sag b → lt b d ≡ true → false ≡ within_sag sag s r
+      within_beyond b l = ap not (sym (b.far d (subst (λ (x : Float). T (fits binary64 x)) (sym h) (add-fits binary64 _ _)) l)) ∙ within_root refl
 
 -- ---- what a point that is not within the sag is ruled out by
 
-module _ (s : Edge) (r : Vec3) {w : Vec3} {k : Float} (e : w ≡ subV r s.start) (m : k ≡ dot w s.along) where
+module _ (s : Edge) (r : Vec3) {w : Vec3} {k : Float} (e : w ≡ sub_v r s.start) (m : k ≡ dot w s.along) where
   -- the footing by the way and the product that the code makes
-  there : cond (not (eq s.squared zero64) && lt near-end (div k s.squared) && lt (div k s.squared) far-end)
-      (Footing.Inside (record { t = div k s.squared; off = subV w (scale s.along (div k s.squared)) })) Footing.Outside ≡ footing s r
+  there : cond (not (eq s.squared zero64) && lt near_end (div k s.squared) && lt (div k s.squared) far_end)
+      (Footing.Inside (record { t = div k s.squared; off = sub_v w (scale s.along (div k s.squared)) })) Footing.Outside ≡ footing s r
   unfolding footing
   there = ap (at w) m ∙ ap (λ (w : Vec3). at w (dot w s.along)) e
     where
       at : Vec3 → Float → Footing
       at w k =
-          cond (not (eq s.squared zero64) && lt near-end (div k s.squared) && lt (div k s.squared) far-end)
-          (Footing.Inside (record { t = div k s.squared; off = subV w (scale s.along (div k s.squared)) })) Footing.Outside
+          cond (not (eq s.squared zero64) && lt near_end (div k s.squared) && lt (div k s.squared) far_end)
+          (Footing.Inside (record { t = div k s.squared; off = sub_v w (scale s.along (div k s.squared)) })) Footing.Outside
 
   -- the sign of the product of both distances
-  pub ruled-sign : (b : Float) → lt (mul (sub (div k s.squared) near-end) (sub far-end (div k s.squared))) zero64 ≡ true → Ruled b s r false
+  pub ruled_sign : (b : Float) → lt (mul (sub (div k s.squared) near_end) (sub far_end (div k s.squared))) zero64 ≡ true → Ruled b s r false
   unfolding Ieee.of_bits
-  ruled-sign b h = record {
-    out = λ sag y z. sym (within-outside sag s r refl
-        (sym there ∙ outside (Footing.Inside (record { t = div k s.squared; off = subV w (scale s.along (div k s.squared)) })) (not (eq s.squared zero64))
-        (lt near-end (div k s.squared))
-        (lt (div k s.squared) far-end) both));
+  ruled_sign b h = record {
+    out = λ sag y z. sym (within_outside sag s r refl
+        (sym there ∙ outside (Footing.Inside (record { t = div k s.squared; off = sub_v w (scale s.along (div k s.squared)) })) (not (eq s.squared zero64))
+        (lt near_end (div k s.squared))
+        (lt (div k s.squared) far_end) both));
   }
     where
-      both : lt near-end (div k s.squared) ≡ true → lt (div k s.squared) far-end ≡ true → ⊥
-      both p q = between-plain binary64 near-end (div k s.squared) far-end p q h
+      both : lt near_end (div k s.squared) ≡ true → lt (div k s.squared) far_end ≡ true → ⊥
+      both p q = between_plain binary64 near_end (div k s.squared) far_end p q h
 
       outside : (f : Footing) (a c d : Bool) → (c ≡ true → d ≡ true → ⊥) → cond (a && c && d) f Footing.Outside ≡ Footing.Outside
       outside f true true true n = absurd (n refl refl)
@@ -93,30 +93,30 @@ module _ (s : Edge) (r : Vec3) {w : Vec3} {k : Float} (e : w ≡ subV r s.start)
       outside f false c d n = refl
 
   -- the square of the distance
-  pub ruled-far : (b : Float) {u o : Vec3} {d : Float} → u ≡ scale s.along (div k s.squared) → o ≡ subV w u → d ≡ dot o o → Ruled b s r (not (lt b d))
-  ruled-far b {u} {o} {d} eu eo ed = record { out = λ sag y z. go sag y (above (lt b d) z) (not (eq s.squared zero64) && lt near-end (div k s.squared) && lt (div k s.squared) far-end) there }
+  pub ruled_far : (b : Float) {u o : Vec3} {d : Float} → u ≡ scale s.along (div k s.squared) → o ≡ sub_v w u → d ≡ dot o o → Ruled b s r (not (lt b d))
+  ruled_far b {u} {o} {d} eu eo ed = record { out = λ sag y z. go sag y (above (lt b d) z) (not (eq s.squared zero64) && lt near_end (div k s.squared) && lt (div k s.squared) far_end) there }
     where
       above : (x : Bool) → not x ≡ false → x ≡ true
       above true z = refl
       above false z = sym z
 
       off : Vec3
-      off = subV w (scale s.along (div k s.squared))
+      off = sub_v w (scale s.along (div k s.squared))
 
       square : d ≡ dot off off
-      square = ed ∙ ap (λ (o : Vec3). dot o o) (eo ∙ ap (subV w) eu)
+      square = ed ∙ ap (λ (o : Vec3). dot o o) (eo ∙ ap (sub_v w) eu)
 
-      go : (sag : Float) → Beyond sag b → lt b d ≡ true → (c : Bool) → cond c (Footing.Inside (record { t = div k s.squared; off = off })) Footing.Outside ≡ footing s r → withinSag sag s r ≡ false
-      go sag y l true g = sym (within-beyond sag s r g (record { t = div k s.squared; off = off }) refl square y l)
-      go sag y l false g = sym (within-outside sag s r g refl)
+      go : (sag : Float) → Beyond sag b → lt b d ≡ true → (c : Bool) → cond c (Footing.Inside (record { t = div k s.squared; off = off })) Footing.Outside ≡ footing s r → within_sag sag s r ≡ false
+      go sag y l true g = sym (within_beyond sag s r g (record { t = div k s.squared; off = off }) refl square y l)
+      go sag y l false g = sym (within_outside sag s r g refl)
 
   -- either
-  pub ruled-both : (b : Float) {u o : Vec3} {d : Float} → u ≡ scale s.along (div k s.squared) → o ≡ subV w u → d ≡ dot o o
-      → Ruled b s r (not (lt (mul (sub (div k s.squared) near-end) (sub far-end (div k s.squared))) zero64 || lt b d))
-  ruled-both b {u} {o} {d} eu eo ed = record { out = λ sag y z. go (lt (mul (sub (div k s.squared) near-end) (sub far-end (div k s.squared))) zero64) (lt b d) refl refl sag y z }
+  pub ruled_both : (b : Float) {u o : Vec3} {d : Float} → u ≡ scale s.along (div k s.squared) → o ≡ sub_v w u → d ≡ dot o o
+      → Ruled b s r (not (lt (mul (sub (div k s.squared) near_end) (sub far_end (div k s.squared))) zero64 || lt b d))
+  ruled_both b {u} {o} {d} eu eo ed = record { out = λ sag y z. go (lt (mul (sub (div k s.squared) near_end) (sub far_end (div k s.squared))) zero64) (lt b d) refl refl sag y z }
     where
-      go : (x y : Bool) → lt (mul (sub (div k s.squared) near-end) (sub far-end (div k s.squared))) zero64 ≡ x → lt b d ≡ y → (sag : Float) → Beyond sag b
-          → not (x || y) ≡ false → withinSag sag s r ≡ false
-      go true y p q sag g z = (ruled-sign b p).out sag g refl
-      go false true p q sag g z = (ruled-far b eu eo ed).out sag g (ap not q)
+      go : (x y : Bool) → lt (mul (sub (div k s.squared) near_end) (sub far_end (div k s.squared))) zero64 ≡ x → lt b d ≡ y → (sag : Float) → Beyond sag b
+          → not (x || y) ≡ false → within_sag sag s r ≡ false
+      go true y p q sag g z = (ruled_sign b p).out sag g refl
+      go false true p q sag g z = (ruled_far b eu eo ed).out sag g (ap not q)
       go false false p q sag g z = absurd (subst T z tt)

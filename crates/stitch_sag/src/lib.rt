@@ -2,7 +2,7 @@
 
 ghost use Rattle.std.specs.Prelude.{◌≡◌};
 ghost use Rattle.stitch_sag.specs.Beyond.{Beyond, Ruled};
-ghost use Rattle.stitch_projection.specs.Projection.{withinSag};
+ghost use Rattle.stitch_projection.specs.Projection.{within_sag};
 
 use patch_geometry::Vec3;
 use stitch_feet::{Footing, foot_of};
@@ -34,7 +34,7 @@ pub fn beyond_of(sag: f64) -> f64
 // Whether r projects into an edge at a distance that isn't above the sag.
 pub fn within_sag(s: Edge, r: Vec3, sag: f64, beyond: f64) -> bool
     requires { Beyond sag beyond }
-    ensures { result ≡ withinSag sag s r }
+    ensures { result ≡ within_sag sag s r }
 {
     match foot_of(s, r) {
         Footing::Outside => false,

@@ -5,26 +5,26 @@ use Rattle.stitch_projection.specs.Evaluation as Projection
 use Rattle.stitch_loose_points.specs.Evaluation as Loose
 use Rattle.stitch_splits.specs.Splits.{
   side_of,
-  sidesOf,
-  sameCell,
+  sides_of,
+  same_cell,
   splits,
-  foundOn,
+  found_on,
   found_from,
   nearer,
-  placeOn,
-  placeFrom,
+  place_on,
+  place_from,
   place,
-  insertPlaced,
-  sortPlaced,
+  insert_placed,
+  sort_placed,
   near_last,
-  dropNear,
-  dropClose,
-  keptOn,
-  splitTriangle,
+  drop_near,
+  drop_close,
+  kept_on,
+  split_triangle,
 }
 
 -- every definition that computes
 unfoldable pub evaluation : ℕ
-unfolding Points.evaluation Projection.evaluation Loose.evaluation side_of sidesOf sameCell splits foundOn found_from nearer placeOn placeFrom place insertPlaced sortPlaced near_last dropNear dropClose
-    keptOn splitTriangle
+unfolding Points.evaluation Projection.evaluation Loose.evaluation side_of sides_of same_cell splits found_on found_from nearer place_on place_from place insert_placed sort_placed near_last drop_near drop_close
+    kept_on split_triangle
 evaluation = 0

@@ -1,4 +1,4 @@
--- Laws of `filter`, `filter_map` and `countIf`: over an append, over a `map`, over one another, and of functions that agree. Assumes nothing.
+-- Laws of `filter`, `filter_map` and `count_if`: over an append, over a `map`, over one another, and of functions that agree. Assumes nothing.
 use Rattle.std.specs.Prelude.{◌≡◌, Bool}
 use Rattle.std.proofs.Math.Path.{refl, ap}
 use Rattle.std.proofs.Math.Bool.{true, false, cond}
@@ -6,12 +6,12 @@ use mathlib.Core.List.{List, [], ◌∷◌, ◌++◌, map}
 use Rattle.std.proofs.Math.Option.{Option, none, some}
 use Prim.Native.Nat.{suc}
 use Rattle.std.proofs.Math.ListN.{length}
-use Rattle.lists.specs.Lists.{countIf, filter, filter_map}
+use Rattle.lists.specs.Lists.{count_if, filter, filter_map}
 
 -- what a function makes of the item, if there is one
-abbrev pub mapOption : {A B : Type 0} → (A → B) → Option A → Option B
-mapOption f none = none
-mapOption f (some x) = some (f x)
+abbrev pub map_option : {A B : Type 0} → (A → B) → Option A → Option B
+map_option f none = none
+map_option f (some x) = some (f x)
 
 module _ {A : Type 0} where
   -- tests that agree pass the same items
@@ -25,21 +25,21 @@ module _ {A : Type 0} where
   filter_none (x ∷ xs) = filter_none xs
 
   -- as many pass as are counted
-  pub filter-length : (p : A → Bool) (xs : List A) → length (filter p xs) ≡ countIf p xs
-  unfolding filter countIf
-  filter-length p [] = refl
-  filter-length p (x ∷ xs) = go (p x) (filter-length p xs)
+  pub filter_length : (p : A → Bool) (xs : List A) → length (filter p xs) ≡ count_if p xs
+  unfolding filter count_if
+  filter_length p [] = refl
+  filter_length p (x ∷ xs) = go (p x) (filter_length p xs)
     where
-      go : (b : Bool) → length (filter p xs) ≡ countIf p xs → length (cond b (x ∷ filter p xs) (filter p xs)) ≡ cond b (suc (countIf p xs)) (countIf p xs)
+      go : (b : Bool) → length (filter p xs) ≡ count_if p xs → length (cond b (x ∷ filter p xs) (filter p xs)) ≡ cond b (suc (count_if p xs)) (count_if p xs)
       go true e = ap suc e
       go false e = e
 
 module _ {A B : Type 0} where
   -- a test of what a function makes
-  pub filter-map : (p : B → Bool) (f : A → B) (xs : List A) → filter p (map f xs) ≡ map f (filter (λ x. p (f x)) xs)
+  pub filter_map_lem : (p : B → Bool) (f : A → B) (xs : List A) → filter p (map f xs) ≡ map f (filter (λ x. p (f x)) xs)
   unfolding filter
-  filter-map p f [] = refl
-  filter-map p f (x ∷ xs) = go (p (f x)) (filter-map p f xs)
+  filter_map_lem p f [] = refl
+  filter_map_lem p f (x ∷ xs) = go (p (f x)) (filter_map_lem p f xs)
     where
       go : (b : Bool) → filter p (map f xs) ≡ map f (filter (λ x. p (f x)) xs)
           → cond b (f x ∷ filter p (map f xs)) (filter p (map f xs)) ≡ map f (cond b (x ∷ filter (λ x. p (f x)) xs) (filter (λ x. p (f x)) xs))
@@ -58,13 +58,13 @@ module _ {A B : Type 0} where
       go (some y) e = ap (λ (l : List B). y ∷ l) e
 
 -- what items have, by way of other items
-pub filter_map_map : {A B C D : Type 0} (f : B → Option D) (g : A → B) (h : A → Option C) (k : C → D) → ((x : A) → f (g x) ≡ mapOption k (h x))
+pub filter_map_map : {A B C D : Type 0} (f : B → Option D) (g : A → B) (h : A → Option C) (k : C → D) → ((x : A) → f (g x) ≡ map_option k (h x))
     → (xs : List A) → filter_map f (map g xs) ≡ map k (filter_map h xs)
 unfolding filter_map
 filter_map_map f g h k e [] = refl
 filter_map_map {A} {B} {C} {D} f g h k e (x ∷ xs) = rw (e x) (go (h x) (filter_map_map f g h k e xs))
   where
     go : (o : Option C) → filter_map f (map g xs) ≡ map k (filter_map h xs)
-        → elim (mapOption k o) [ none ↦ filter_map f (map g xs) | some y ↦ y ∷ filter_map f (map g xs) ] ≡ map k (elim o [ none ↦ filter_map h xs | some y ↦ y ∷ filter_map h xs ])
+        → elim (map_option k o) [ none ↦ filter_map f (map g xs) | some y ↦ y ∷ filter_map f (map g xs) ] ≡ map k (elim o [ none ↦ filter_map h xs | some y ↦ y ∷ filter_map h xs ])
     go none r = r
     go (some y) r = ap (λ (l : List D). k y ∷ l) r

@@ -8,39 +8,39 @@ use Rattle.std.proofs.Math.Option.{Option, none, some}
 use Rattle.std.specs.Float.Ieee.{lt}
 use Rattle.lists.specs.Lists.{filter_map}
 use Rattle.patch_geometry.specs.declared.Vec3.{Vec3}
-use Rattle.patch_geometry.specs.Geometry.{pointAt, zero64}
+use Rattle.patch_geometry.specs.Geometry.{point_at, zero64}
 use Rattle.stitch_projection.specs.declared.Hit.{Hit}
 use Rattle.stitch_projection.specs.Projection.{project}
 use Rattle.stitch_loose_points.specs.Loose.{Facet}
 use Rattle.stitch_splits.specs.declared.sides.Sides.{Sides}
-use Rattle.stitch_splits.specs.Splits.{Side, side_of, sidesOf, Placed, nearer, placeOn, placeFrom, place}
+use Rattle.stitch_splits.specs.Splits.{Side, side_of, sides_of, Placed, nearer, place_on, place_from, place}
 use Rattle.stitch_splits.specs.Entries.{Entry}
-use Rattle.stitch_splits.specs.Found.{sidesFrom, Spot, nearerSpot, spot_of}
-use Rattle.stitch_splits.specs.Filters.{mapOption, filter_map_map}
+use Rattle.stitch_splits.specs.Found.{sides_from, Spot, nearer_spot, spot_of}
+use Rattle.stitch_splits.specs.Filters.{map_option, filter_map_map}
 
 -- the edge from corner 0, 1, 2 of a triangle
-unfoldable pub sideAt : Facet → ℕ → Side
-sideAt f zero = side_of f.c₀ f.c₁
-sideAt f (suc zero) = side_of f.c₁ f.c₂
-sideAt f (suc (suc e)) = side_of f.c₂ f.c₀
+unfoldable pub side_at : Facet → ℕ → Side
+side_at f zero = side_of f.c₀ f.c₁
+side_at f (suc zero) = side_of f.c₁ f.c₂
+side_at f (suc (suc e)) = side_of f.c₂ f.c₀
 
 -- how far a point is from edge e, where it projects into it
-unfoldable pub distanceOn : Facet → Vec3 → ℕ → Float
-distanceOn f r e = elim (project (sideAt f e).edge r) [ none ↦ zero64 | some h ↦ h.distance ]
+unfoldable pub distance_on : Facet → Vec3 → ℕ → Float
+distance_on f r e = elim (project (side_at f e).edge r) [ none ↦ zero64 | some h ↦ h.distance ]
 
 -- the placed point of an entry
 unfoldable pub placed_of : Facet → List Float → Entry → Placed
 placed_of f ps x = record {
   e = x.e;
-  side = sideAt f x.e;
+  side = side_at f x.e;
   t = x.t;
-  distance = distanceOn f (pointAt ps x.vertex) x.e;
-  point = pointAt ps x.vertex;
+  distance = distance_on f (point_at ps x.vertex) x.e;
+  point = point_at ps x.vertex;
 }
 
 -- the entry of a vertex that is placed
-abbrev pub placedEntry : Sides → List Float → ℕ → Option Entry
-placedEntry s ps g = mapOption (λ p. record { e = p.e; t = p.t; vertex = g }) (spot_of s (pointAt ps g))
+abbrev pub placed_entry : Sides → List Float → ℕ → Option Entry
+placed_entry s ps g = map_option (λ p. record { e = p.e; t = p.t; vertex = g }) (spot_of s (point_at ps g))
 
 -- entries on the edges of a triangle
 abbrev pub OnEdges : List Entry → Type 0
@@ -49,41 +49,41 @@ OnEdges (x ∷ xs) = (x.e ≤ 2) × OnEdges xs
 
 module _ (f : Facet) (r : Vec3) where
   -- the placed point of a place
-  abbrev fromSpot : Spot → Placed
-  fromSpot p = record { e = p.e; side = sideAt f p.e; t = p.t; distance = p.distance; point = r }
+  abbrev from_spot : Spot → Placed
+  from_spot p = record { e = p.e; side = side_at f p.e; t = p.t; distance = p.distance; point = r }
 
   -- the nearer place is the nearer point
-  nearer-spot : (best : Option Spot) (e : ℕ) (h : Option Hit)
-      → nearer (mapOption fromSpot best) (elim h [ none ↦ none | some h ↦ some (record { e = e; side = sideAt f e; t = h.t; distance = h.distance; point = r }) ])
-      ≡ mapOption fromSpot (nearerSpot best e h)
+  nearer_spot_lem : (best : Option Spot) (e : ℕ) (h : Option Hit)
+      → nearer (map_option from_spot best) (elim h [ none ↦ none | some h ↦ some (record { e = e; side = side_at f e; t = h.t; distance = h.distance; point = r }) ])
+      ≡ map_option from_spot (nearer_spot best e h)
   unfolding nearer
-  nearer-spot best e none = refl
-  nearer-spot none e (some h) = refl
-  nearer-spot (some b) e (some h) = go (lt h.distance b.distance)
+  nearer_spot_lem best e none = refl
+  nearer_spot_lem none e (some h) = refl
+  nearer_spot_lem (some b) e (some h) = go (lt h.distance b.distance)
     where
       go : (c : Bool)
-          → cond c (some (fromSpot (record { e = e; t = h.t; distance = h.distance }))) (some (fromSpot b))
-          ≡ mapOption fromSpot (cond c (some (record { e = e; t = h.t; distance = h.distance })) (some b))
+          → cond c (some (from_spot (record { e = e; t = h.t; distance = h.distance }))) (some (from_spot b))
+          ≡ map_option from_spot (cond c (some (record { e = e; t = h.t; distance = h.distance })) (some b))
       go true = refl
       go false = refl
 
   -- the point is placed where the code places it
-  spot-placed : place (sidesOf f) r ≡ mapOption fromSpot (spot_of (sidesFrom f) r)
-  unfolding place placeFrom placeOn sidesOf side_of sideAt spot_of
-  spot-placed =
-      let h₀ = project (sideAt f 0).edge r in
-      let h₁ = project (sideAt f 1).edge r in
-      let h₂ = project (sideAt f 2).edge r in
-      let b₀ = nearerSpot none 0 h₀ in
-      let b₁ = nearerSpot b₀ 1 h₁ in
-      (λ i. nearer (nearer (nearer-spot none 0 h₀ i) (placeOn r 1 (sideAt f 1))) (placeOn r 2 (sideAt f 2)))
-      ∙ (λ i. nearer (nearer-spot b₀ 1 h₁ i) (placeOn r 2 (sideAt f 2)))
-      ∙ nearer-spot b₁ 2 h₂
+  spot_placed : place (sides_of f) r ≡ map_option from_spot (spot_of (sides_from f) r)
+  unfolding place place_from place_on sides_of side_of side_at spot_of
+  spot_placed =
+      let h₀ = project (side_at f 0).edge r in
+      let h₁ = project (side_at f 1).edge r in
+      let h₂ = project (side_at f 2).edge r in
+      let b₀ = nearer_spot none 0 h₀ in
+      let b₁ = nearer_spot b₀ 1 h₁ in
+      (λ i. nearer (nearer (nearer_spot_lem none 0 h₀ i) (place_on r 1 (side_at f 1))) (place_on r 2 (side_at f 2)))
+      ∙ (λ i. nearer (nearer_spot_lem b₀ 1 h₁ i) (place_on r 2 (side_at f 2)))
+      ∙ nearer_spot_lem b₁ 2 h₂
 
   -- a place on an edge of the triangle, at the distance that the point has from that edge
   record Spotted (p : Spot) : Type 0 where
     edge : p.e ≤ 2
-    distance : p.distance ≡ distanceOn f r p.e
+    distance : p.distance ≡ distance_on f r p.e
 
   -- each place is such
   abbrev AllSpotted : Option Spot → Type 0
@@ -91,52 +91,52 @@ module _ (f : Facet) (r : Vec3) where
   AllSpotted (some p) = Spotted p
 
   -- and so is the nearer one
-  nearer-spotted : (best : Option Spot) (e : ℕ) → e ≤ 2 → AllSpotted best → (h : Option Hit) → project (sideAt f e).edge r ≡ h → AllSpotted (nearerSpot best e h)
-  unfolding distanceOn
-  nearer-spotted best e l a none q = a
-  nearer-spotted none e l a (some h) q = record { edge = l; distance = rw (q, distanceOn) }
-  nearer-spotted (some b) e l a (some h) q = go (lt h.distance b.distance)
+  nearer_spotted : (best : Option Spot) (e : ℕ) → e ≤ 2 → AllSpotted best → (h : Option Hit) → project (side_at f e).edge r ≡ h → AllSpotted (nearer_spot best e h)
+  unfolding distance_on
+  nearer_spotted best e l a none q = a
+  nearer_spotted none e l a (some h) q = record { edge = l; distance = rw (q, distance_on) }
+  nearer_spotted (some b) e l a (some h) q = go (lt h.distance b.distance)
     where
       go : (c : Bool) → AllSpotted (cond c (some (record { e = e; t = h.t; distance = h.distance })) (some b))
-      go true = record { edge = l; distance = rw (q, distanceOn) }
+      go true = record { edge = l; distance = rw (q, distance_on) }
       go false = a
 
   -- so is the place of the point
-  spotted : AllSpotted (spot_of (sidesFrom f) r)
-  unfolding spot_of sideAt side_of
+  spotted : AllSpotted (spot_of (sides_from f) r)
+  unfolding spot_of side_at side_of
   spotted =
-      let h₀ = project (sideAt f 0).edge r in
-      let h₁ = project (sideAt f 1).edge r in
-      let h₂ = project (sideAt f 2).edge r in
-      let b₀ = nearerSpot none 0 h₀ in
-      let b₁ = nearerSpot b₀ 1 h₁ in
-      nearer-spotted b₁ 2 (omega arith) (nearer-spotted b₀ 1 (omega arith) (nearer-spotted none 0 (omega arith) tt h₀ refl) h₁ refl) h₂ refl
+      let h₀ = project (side_at f 0).edge r in
+      let h₁ = project (side_at f 1).edge r in
+      let h₂ = project (side_at f 2).edge r in
+      let b₀ = nearer_spot none 0 h₀ in
+      let b₁ = nearer_spot b₀ 1 h₁ in
+      nearer_spotted b₁ 2 (omega arith) (nearer_spotted b₀ 1 (omega arith) (nearer_spotted none 0 (omega arith) tt h₀ refl) h₁ refl) h₂ refl
 
 module _ (f : Facet) (ps : List Float) where
   -- a point is placed as its vertex's entry says
-  vertex-placed : (g : ℕ) → place (sidesOf f) (pointAt ps g) ≡ mapOption (placed_of f ps) (placedEntry (sidesFrom f) ps g)
+  vertex_placed : (g : ℕ) → place (sides_of f) (point_at ps g) ≡ map_option (placed_of f ps) (placed_entry (sides_from f) ps g)
   unfolding placed_of
-  vertex-placed g = spot-placed f (pointAt ps g) ∙ go (spot_of (sidesFrom f) (pointAt ps g)) (spotted f (pointAt ps g))
+  vertex_placed g = spot_placed f (point_at ps g) ∙ go (spot_of (sides_from f) (point_at ps g)) (spotted f (point_at ps g))
     where
-      go : (o : Option Spot) → AllSpotted f (pointAt ps g) o
-          → mapOption (fromSpot f (pointAt ps g)) o ≡ mapOption (placed_of f ps) (mapOption (λ p. record { e = p.e; t = p.t; vertex = g }) o)
+      go : (o : Option Spot) → AllSpotted f (point_at ps g) o
+          → map_option (from_spot f (point_at ps g)) o ≡ map_option (placed_of f ps) (map_option (λ p. record { e = p.e; t = p.t; vertex = g }) o)
       go none a = refl
       go (some p) a =
-          λ i. some (record { e = p.e; side = sideAt f p.e; t = p.t; distance = a.distance i; point = pointAt ps g })
+          λ i. some (record { e = p.e; side = side_at f p.e; t = p.t; distance = a.distance i; point = point_at ps g })
 
   -- The points of some vertices are placed as the vertices' entries say.
-  pub points-placed : (gs : List ℕ) → filter_map (place (sidesOf f)) (map (pointAt ps) gs) ≡ map (placed_of f ps) (filter_map (placedEntry (sidesFrom f) ps) gs)
-  points-placed gs = filter_map_map (place (sidesOf f)) (pointAt ps) (placedEntry (sidesFrom f) ps) (placed_of f ps) vertex-placed gs
+  pub points_placed : (gs : List ℕ) → filter_map (place (sides_of f)) (map (point_at ps) gs) ≡ map (placed_of f ps) (filter_map (placed_entry (sides_from f) ps) gs)
+  points_placed gs = filter_map_map (place (sides_of f)) (point_at ps) (placed_entry (sides_from f) ps) (placed_of f ps) vertex_placed gs
 
   -- the entries of placed vertices are on the triangle's edges
-  pub placed-edges : (gs : List ℕ) → OnEdges (filter_map (placedEntry (sidesFrom f) ps) gs)
+  pub placed_edges : (gs : List ℕ) → OnEdges (filter_map (placed_entry (sides_from f) ps) gs)
   unfolding filter_map
-  placed-edges [] = tt
-  placed-edges (g ∷ gs) = go (spot_of (sidesFrom f) (pointAt ps g)) (spotted f (pointAt ps g)) (placed-edges gs)
+  placed_edges [] = tt
+  placed_edges (g ∷ gs) = go (spot_of (sides_from f) (point_at ps g)) (spotted f (point_at ps g)) (placed_edges gs)
     where
-      go : (o : Option Spot) → AllSpotted f (pointAt ps g) o → OnEdges (filter_map (placedEntry (sidesFrom f) ps) gs)
+      go : (o : Option Spot) → AllSpotted f (point_at ps g) o → OnEdges (filter_map (placed_entry (sides_from f) ps) gs)
           → OnEdges
-          (elim (mapOption {B = Entry} (λ p. record { e = p.e; t = p.t; vertex = g }) o)
-          [ none ↦ filter_map (placedEntry (sidesFrom f) ps) gs | some y ↦ y ∷ filter_map (placedEntry (sidesFrom f) ps) gs ])
+          (elim (map_option {B = Entry} (λ p. record { e = p.e; t = p.t; vertex = g }) o)
+          [ none ↦ filter_map (placed_entry (sides_from f) ps) gs | some y ↦ y ∷ filter_map (placed_entry (sides_from f) ps) gs ])
       go none a r = r
       go (some p) a r = (a.edge, r)

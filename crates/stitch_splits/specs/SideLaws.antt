@@ -4,37 +4,37 @@ use Rattle.std.proofs.Common.{sym}
 use Rattle.std.proofs.Math.Path.{ap}
 use native.Mathlib.Omega.{arith}
 use Rattle.patch_geometry.specs.declared.Vec3.{Vec3}
-use Rattle.stitch_projection.specs.Projection.{withinSag}
+use Rattle.stitch_projection.specs.Projection.{within_sag}
 use Rattle.stitch_splits.specs.declared.sides.Sides.{Sides}
-use Rattle.stitch_splits.specs.Found.{counts, side_of, countsOn, foundOnly}
+use Rattle.stitch_splits.specs.Found.{counts, side_of, counts_on, found_only}
 
 module _ (s : Sides) {e : ℕ} where
-  pub side-0 : e ≡ 0 → s.first ≡ side_of s e
+  pub side_0 : e ≡ 0 → s.first ≡ side_of s e
   unfolding side_of
-  side-0 z = ap (side_of s) (sym z)
+  side_0 z = ap (side_of s) (sym z)
 
-  pub side-1 : e ≡ 1 → s.second ≡ side_of s e
+  pub side_1 : e ≡ 1 → s.second ≡ side_of s e
   unfolding side_of
-  side-1 z = ap (side_of s) (sym z)
+  side_1 z = ap (side_of s) (sym z)
 
-  pub side-2 : e ≤ 2 → (e ≡ 0 → ⊥) → (e ≡ 1 → ⊥) → s.third ≡ side_of s e
+  pub side_2 : e ≤ 2 → (e ≡ 0 → ⊥) → (e ≡ 1 → ⊥) → s.third ≡ side_of s e
   unfolding side_of
-  side-2 l n m = let z : 2 ≡ e = omega arith in ap (side_of s) z
+  side_2 l n m = let z : 2 ≡ e = omega arith in ap (side_of s) z
 
 -- what does not count for an edge is not found on it
-not_found : (sag : Float) (s : Sides) (e name : ℕ) (r : Vec3) → counts sag (side_of s e) name r ≡ false → foundOnly sag s e name r ≡ false
-unfolding side_of countsOn foundOnly
+not_found : (sag : Float) (s : Sides) (e name : ℕ) (r : Vec3) → counts sag (side_of s e) name r ≡ false → found_only sag s e name r ≡ false
+unfolding side_of counts_on found_only
 not_found sag s zero name r h = h
-not_found sag s (suc zero) name r h = ap (λ (b : Bool). b && not (countsOn sag s 0 name r)) h
-not_found sag s (suc (suc e)) name r h = ap (λ (b : Bool). b && not (countsOn sag s 0 name r) && not (countsOn sag s 1 name r)) h
+not_found sag s (suc zero) name r h = ap (λ (b : Bool). b && not (counts_on sag s 0 name r)) h
+not_found sag s (suc (suc e)) name r h = ap (λ (b : Bool). b && not (counts_on sag s 0 name r) && not (counts_on sag s 1 name r)) h
 
 -- an edge that is not open finds nothing
-pub closed-finds-none : (sag : Float) (s : Sides) (e name : ℕ) (r : Vec3) → (side_of s e).is_open ≡ false → foundOnly sag s e name r ≡ false
-closed-finds-none sag s e name r h = not_found sag s e name r (rw h)
+pub closed_finds_none : (sag : Float) (s : Sides) (e name : ℕ) (r : Vec3) → (side_of s e).is_open ≡ false → found_only sag s e name r ≡ false
+closed_finds_none sag s e name r h = not_found sag s e name r (rw h)
 
 -- nor does an edge find what is not within the sag of it
-pub far-is-not-found : (sag : Float) (s : Sides) (e name : ℕ) (r : Vec3) → withinSag sag (side_of s e).edge r ≡ false → foundOnly sag s e name r ≡ false
-far-is-not-found sag s e name r h = not_found sag s e name r (last (side_of s e).is_open _ _ _ h)
+pub far_is_not_found : (sag : Float) (s : Sides) (e name : ℕ) (r : Vec3) → within_sag sag (side_of s e).edge r ≡ false → found_only sag s e name r ≡ false
+far_is_not_found sag s e name r h = not_found sag s e name r (last (side_of s e).is_open _ _ _ h)
   where
     last : (a b c d : Bool) → d ≡ false → (a && b && c && d) ≡ false
     last true true true d h = h

@@ -6,27 +6,27 @@ use native.Mathlib.Omega.{arith}
 use native.Mathlib.Decide.{ℕ_discrete}
 use lib.ListN.{length, take, drop}
 use Rattle.stitch_boxes.specs.declared.Bounds.{Bounds}
-use Rattle.stitch_boxes.specs.Boxes.{hullV}
-use Rattle.lists.specs.Stretches.{front_less, rest-less}
-use Rattle.stitch_tree.specs.Nodes.{boxAt, BoxPut, Halved, NodeReady, NodeBounded, NodesReady, NodesBounded}
-use Rattle.stitch_tree.proofs.WordLaws.{box-rest}
+use Rattle.stitch_boxes.specs.Boxes.{hull_v}
+use Rattle.lists.specs.Stretches.{front_less, rest_less}
+use Rattle.stitch_tree.specs.Nodes.{box_at, BoxPut, Halved, NodeReady, NodeBounded, NodesReady, NodesBounded}
+use Rattle.stitch_tree.proofs.WordLaws.{box_rest}
 
 -- a hull by its halves
-hull-same : {A B C D : Bounds} → A ≡ C → B ≡ D → hullV A B ≡ hullV C D
-hull-same {A} {B} {C} {D} e f = ap (λ (X : Bounds). hullV X B) e ∙ ap (hullV C) f
+hull_same : {A B C D : Bounds} → A ≡ C → B ≡ D → hull_v A B ≡ hull_v C D
+hull_same {A} {B} {C} {D} e f = ap (λ (X : Bounds). hull_v X B) e ∙ ap (hull_v C) f
 
 -- ---- one node
 
-pub node-bounded : {boxes k : ℕ} {W E : List ℕ} {a b h : Bounds} → NodeReady boxes k W → a ≡ boxAt W (boxes + 6 * (2 * k)) → b ≡ boxAt W (boxes + 6 * (2 * k + 1)) → h ≡ hullV a b
+pub node_bounded : {boxes k : ℕ} {W E : List ℕ} {a b h : Bounds} → NodeReady boxes k W → a ≡ box_at W (boxes + 6 * (2 * k)) → b ≡ box_at W (boxes + 6 * (2 * k + 1)) → h ≡ hull_v a b
     → BoxPut (boxes + 6 * k) h W E → NodeBounded boxes k W E
-node-bounded {boxes} {k} {W} {E} g e f m o = record {
-  hull = o.is ∙ m ∙ hull-same (e ∙ sym (kept (2 * k) (omega (arith, g.inner)))) (f ∙ sym (kept (2 * k + 1) (omega (arith, g.inner))));
+node_bounded {boxes} {k} {W} {E} g e f m o = record {
+  hull = o.is ∙ m ∙ hull_same (e ∙ sym (kept (2 * k) (omega (arith, g.inner)))) (f ∙ sym (kept (2 * k + 1) (omega (arith, g.inner))));
   front = o.front;
-  rest = rest-less (boxes + 6 * k + 6) (boxes + 6 * (k + 1)) W E o.rest (omega arith);
+  rest = rest_less (boxes + 6 * k + 6) (boxes + 6 * (k + 1)) W E o.rest (omega arith);
 }
   where
-    kept : (q : ℕ) → k < q → boxAt E (boxes + 6 * q) ≡ boxAt W (boxes + 6 * q)
-    kept q l = box-rest W E (boxes + 6 * k + 6) (boxes + 6 * q) o.rest (omega arith)
+    kept : (q : ℕ) → k < q → box_at E (boxes + 6 * q) ≡ box_at W (boxes + 6 * q)
+    kept q l = box_rest W E (boxes + 6 * k + 6) (boxes + 6 * q) o.rest (omega arith)
 
 -- ---- all nodes
 
@@ -40,33 +40,33 @@ pub record NodesBounding (boxes leaves : ℕ) (W : List ℕ) (k : ℕ) (E : List
 
 module _ {boxes leaves : ℕ} {W : List ℕ} (g : NodesReady boxes leaves W) where
   -- none has
-  pub nodes-none : NodesBounding boxes leaves W (leaves - 1) W
-  nodes-none = record { low = omega (arith, g.some); hulls = λ q l h. absurd (omega arith); front = refl; rest = refl; long = refl }
+  pub nodes_none : NodesBounding boxes leaves W (leaves - 1) W
+  nodes_none = record { low = omega (arith, g.some); hulls = λ q l h. absurd (omega arith); front = refl; rest = refl; long = refl }
 
   module _ {k : ℕ} {E : List ℕ} (c : NodesBounding boxes leaves W k E) where
     -- the next may have
-    pub node-ready : 0 < k → NodeReady boxes k E
-    node-ready l = record { inner = l; room = omega (arith, g.room, c.low, c.long) }
+    pub node_ready : 0 < k → NodeReady boxes k E
+    node_ready l = record { inner = l; room = omega (arith, g.room, c.low, c.long) }
 
     -- and has
-    pub nodes-more : {F : List ℕ} → 0 < k → NodeBounded boxes k E F → length F ≡ length E → NodesBounding boxes leaves W (k - 1) F
-    nodes-more {F} l o e = record {
+    pub nodes_more : {F : List ℕ} → 0 < k → NodeBounded boxes k E F → length F ≡ length E → NodesBounding boxes leaves W (k - 1) F
+    nodes_more {F} l o e = record {
       low = omega (arith, c.low);
       hulls = λ q a h. halved q a h (ℕ_discrete q k);
       front = front_less boxes (boxes + 6 * k) E F o.front (omega arith) ∙ c.front;
-      rest = rest-less (boxes + 6 * (k + 1)) (boxes + 6 * leaves) E F o.rest (omega (arith, c.low)) ∙ c.rest;
+      rest = rest_less (boxes + 6 * (k + 1)) (boxes + 6 * leaves) E F o.rest (omega (arith, c.low)) ∙ c.rest;
       long = e ∙ c.long;
     }
       where
-        kept : (q : ℕ) → k < q → boxAt F (boxes + 6 * q) ≡ boxAt E (boxes + 6 * q)
-        kept q l = box-rest E F (boxes + 6 * (k + 1)) (boxes + 6 * q) o.rest (omega arith)
+        kept : (q : ℕ) → k < q → box_at F (boxes + 6 * q) ≡ box_at E (boxes + 6 * q)
+        kept q l = box_rest E F (boxes + 6 * (k + 1)) (boxes + 6 * q) o.rest (omega arith)
 
         halved : (q : ℕ) → k - 1 < q → q < leaves → Dec (q ≡ k) → Halved boxes F q
         halved q a h (yes z) = subst (Halved boxes F) (sym z) o.hull
         halved q a h (no z) =
             let b : k < q = omega arith in
-            kept q b ∙ c.hulls q b h ∙ sym (hull-same (kept (2 * q) (omega arith)) (kept (2 * q + 1) (omega arith)))
+            kept q b ∙ c.hulls q b h ∙ sym (hull_same (kept (2 * q) (omega arith)) (kept (2 * q + 1) (omega arith)))
 
     -- all have
-    pub nodes-all : k ≤ 0 → NodesBounded boxes leaves W E
-    nodes-all l = record { hulls = λ q a h. c.hulls q (omega arith) h; front = c.front; rest = c.rest }
+    pub nodes_all : k ≤ 0 → NodesBounded boxes leaves W E
+    nodes_all l = record { hulls = λ q a h. c.hulls q (omega arith) h; front = c.front; rest = c.rest }

@@ -2,8 +2,8 @@
 
 ghost use Rattle.std.specs.Prelude.{◌≡◌, ◌+◌, ◌≤◌, length};
 ghost use Rattle.stitch_tree.specs.Nodes.{
-  spanAt,
-  boxAt,
+  span_at,
+  box_at,
   SpanPut,
   BoxPut,
   Lesser,
@@ -29,7 +29,7 @@ const BOX: usize = 6;
 // The span whose ends stand at k.
 fn span_at(w: &[u64], k: usize) -> Span
     requires { k + 2 ≤ length w.now }
-    ensures { result ≡ spanAt w.now k }
+    ensures { result ≡ span_at w.now k }
 {
     Span {
         low: f64_of_bits(w[k]),
@@ -40,7 +40,7 @@ fn span_at(w: &[u64], k: usize) -> Span
 // The box whose ends stand at k.
 pub fn box_at(w: &[u64], k: usize) -> Bounds
     requires { k + 6 ≤ length w.now }
-    ensures { result ≡ boxAt w.now k }
+    ensures { result ≡ box_at w.now k }
 {
     Bounds {
         x: span_at(w, k),

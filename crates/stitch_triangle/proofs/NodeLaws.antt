@@ -11,12 +11,12 @@ use lib.Ieee.{Float}
 use Rattle.stitch_projection.specs.declared.Edge.{Edge}
 use Rattle.stitch_boxes.specs.declared.Bounds.{Bounds}
 use Rattle.stitch_boxes.specs.Boxes.{far}
-use Rattle.stitch_tree.specs.Nodes.{boxAt}
+use Rattle.stitch_tree.specs.Nodes.{box_at}
 use Rattle.stitch_triangle.specs.Triangle.{NodeAt, BoxReady, Raised}
 
 -- leaves from the first of a node on are of it
-pub same-node : (leaf h top i : ℕ) → leaf % 2 ^ h ≡ 0 → h ≤ top → leaf ≤ i → i < leaf + 2 ^ h → (2 ^ top + i) / 2 ^ h ≡ (2 ^ top + leaf) / 2 ^ h
-same-node leaf h top i z l a b =
+pub same_node : (leaf h top i : ℕ) → leaf % 2 ^ h ≡ 0 → h ≤ top → leaf ≤ i → i < leaf + 2 ^ h → (2 ^ top + i) / 2 ^ h ≡ (2 ^ top + leaf) / 2 ^ h
+same_node leaf h top i z l a b =
     let d = 2 ^ h in
     let k = 2 ^ (top - h) + leaf / d in
     let e : top - h + h ≡ top = omega arith in
@@ -39,8 +39,8 @@ same-node leaf h top i z l a b =
 
 -- a node is one of the tree's
 module _ {leaf height top : ℕ} (n : NodeAt leaf height top) where
-  pub node-some : 1 ≤ (2 ^ top + leaf) / 2 ^ height
-  node-some =
+  pub node_some : 1 ≤ (2 ^ top + leaf) / 2 ^ height
+  node_some =
       let one : 1 * 2 ^ height / 2 ^ height ≡ 1 = shl-shr 1 height in
       let l : 1 * 2 ^ height / 2 ^ height ≤ (2 ^ top + leaf) / 2 ^ height = shr_mono height (fits (2 ^ height) (2 ^ top) (pow_mono n.low)) in
       under (1 * 2 ^ height / 2 ^ height) ((2 ^ top + leaf) / 2 ^ height) one l
@@ -51,15 +51,15 @@ module _ {leaf height top : ℕ} (n : NodeAt leaf height top) where
       under : (a b : ℕ) → a ≡ 1 → a ≤ b → 1 ≤ b
       under a b e l = omega arith
 
-  pub node-low : (2 ^ top + leaf) / 2 ^ height < 2 * 2 ^ top
-  node-low = under ((2 ^ top + leaf) / 2 ^ height) (2 ^ top) (shr_le (2 ^ top + leaf) height) n.inside
+  pub node_low : (2 ^ top + leaf) / 2 ^ height < 2 * 2 ^ top
+  node_low = under ((2 ^ top + leaf) / 2 ^ height) (2 ^ top) (shr_le (2 ^ top + leaf) height) n.inside
     where
       under : (a t : ℕ) → a ≤ t + leaf → leaf < t → a < 2 * t
       under a t p q = omega arith
 
 -- a leaf whose node is the first of two is the first of a node one higher
-pub one-higher : (leaf h : ℕ) → leaf % 2 ^ h ≡ 0 → leaf / 2 ^ h % 2 ≡ 0 → leaf % 2 ^ (h + 1) ≡ 0
-one-higher leaf h a b =
+pub one_higher : (leaf h : ℕ) → leaf % 2 ^ h ≡ 0 → leaf / 2 ^ h % 2 ≡ 0 → leaf % 2 ^ (h + 1) ≡ 0
+one_higher leaf h a b =
     let e : h + 1 ≡ 1 + h = omega arith in
     ap (λ (k : ℕ). leaf % 2 ^ k) e ∙ mod-pow-add leaf 1 h ∙ (λ i. b i * 2 ^ h + a i) ∙ none (2 ^ h)
   where
@@ -71,12 +71,12 @@ pub one_lower : (leaf h : ℕ) → leaf % 2 ^ (1 + h) ≡ 0 → leaf % 2 ^ h ≡
 one_lower leaf h z = sym (mod-mod-pow leaf 1 h) ∙ ap (λ (k : ℕ). k % 2 ^ h) z ∙ mod-eq_of_lt (pow_pos h)
 
 -- the leaf behind a node is the first of one of its height
-pub next-first : (leaf h : ℕ) → leaf % 2 ^ h ≡ 0 → (leaf + 2 ^ h) % 2 ^ h ≡ 0
-next-first leaf h z = add-mod_right leaf (2 ^ h) ∙ z
+pub next_first : (leaf h : ℕ) → leaf % 2 ^ h ≡ 0 → (leaf + 2 ^ h) % 2 ^ h ≡ 0
+next_first leaf h z = add-mod_right leaf (2 ^ h) ∙ z
 
 -- every leaf is the first of its own node
-pub any-first : (leaf : ℕ) → leaf % 2 ^ 0 ≡ 0
-any-first leaf = mod-one leaf
+pub any_first : (leaf : ℕ) → leaf % 2 ^ 0 ≡ 0
+any_first leaf = mod-one leaf
 
 -- ---- the height of the next node
 
@@ -85,30 +85,30 @@ pub record Raising (leaf height top h : ℕ) : Type 0 where
   pub low : h ≤ top
   pub first : leaf % 2 ^ height ≡ 0 → leaf % 2 ^ h ≡ 0
 
-pub raising-start : {leaf height top : ℕ} → height ≤ top → Raising leaf height top height
-raising-start l = record { low = l; first = λ z. z }
+pub raising_start : {leaf height top : ℕ} → height ≤ top → Raising leaf height top height
+raising_start l = record { low = l; first = λ z. z }
 
-pub raising-more : {leaf height top h : ℕ} → Raising leaf height top h → h < top → (leaf / 2 ^ h % 2 ≡ 1 → ⊥) → Raising leaf height top (h + 1)
-raising-more {leaf} {height} {top} {h} r l n =
-    record { low = omega arith; first = λ z. one-higher leaf h (r.first z) (even (leaf / 2 ^ h) n) }
+pub raising_more : {leaf height top h : ℕ} → Raising leaf height top h → h < top → (leaf / 2 ^ h % 2 ≡ 1 → ⊥) → Raising leaf height top (h + 1)
+raising_more {leaf} {height} {top} {h} r l n =
+    record { low = omega arith; first = λ z. one_higher leaf h (r.first z) (even (leaf / 2 ^ h) n) }
   where
     even : (x : ℕ) → (x % 2 ≡ 1 → ⊥) → x % 2 ≡ 0
     even x n = omega arith
 
-pub raising-done : {leaf height top h : ℕ} → Raising leaf height top h → Raised leaf height top h
-raising-done r = record { low = r.low; first = r.first }
+pub raising_done : {leaf height top h : ℕ} → Raising leaf height top h → Raised leaf height top h
+raising_done r = record { low = r.low; first = r.first }
 
 -- ---- its box
 
 module _ {boxes leaf height top : ℕ} {W : List ℕ} (g : BoxReady boxes leaf height top W) where
   -- the box of the node is there
-  pub box-inside : {k n : ℕ} → k ≡ 2 ^ top → n ≡ (k + leaf) / 2 ^ height → boxes + 6 * n + 6 ≤ length W
-  box-inside {k} {n} ek en = under n (2 ^ top) (subst (λ (m : ℕ). n ≡ (m + leaf) / 2 ^ height) ek en) (node-low g.node) g.room
+  pub box_inside : {k n : ℕ} → k ≡ 2 ^ top → n ≡ (k + leaf) / 2 ^ height → boxes + 6 * n + 6 ≤ length W
+  box_inside {k} {n} ek en = under n (2 ^ top) (subst (λ (m : ℕ). n ≡ (m + leaf) / 2 ^ height) ek en) (node_low g.node) g.room
     where
       under : (n t : ℕ) → n ≡ (2 ^ top + leaf) / 2 ^ height → (2 ^ top + leaf) / 2 ^ height < 2 * t → boxes + 12 * t ≤ length W → boxes + 6 * n + 6 ≤ length W
       under n t e l r = omega arith
 
 -- what is said of it is said of the node's box
-pub box-far : (W : List ℕ) (s : Edge) (boxes leaf height top : ℕ) (beyond : Float) {k : ℕ} {b : Bounds} {r : Bool} → k ≡ 2 ^ top
-    → b ≡ boxAt W (boxes + 6 * ((k + leaf) / 2 ^ height)) → r ≡ far b s beyond → r ≡ far (boxAt W (boxes + 6 * ((2 ^ top + leaf) / 2 ^ height))) s beyond
-box-far W s boxes leaf height top beyond {k} {b} {r} ek eb er = er ∙ (λ i. far (eb i) s beyond) ∙ (λ i. far (boxAt W (boxes + 6 * ((ek i + leaf) / 2 ^ height))) s beyond)
+pub box_far : (W : List ℕ) (s : Edge) (boxes leaf height top : ℕ) (beyond : Float) {k : ℕ} {b : Bounds} {r : Bool} → k ≡ 2 ^ top
+    → b ≡ box_at W (boxes + 6 * ((k + leaf) / 2 ^ height)) → r ≡ far b s beyond → r ≡ far (box_at W (boxes + 6 * ((2 ^ top + leaf) / 2 ^ height))) s beyond
+box_far W s boxes leaf height top beyond {k} {b} {r} ek eb er = er ∙ (λ i. far (eb i) s beyond) ∙ (λ i. far (box_at W (boxes + 6 * ((ek i + leaf) / 2 ^ height))) s beyond)

@@ -5,11 +5,11 @@ use Rattle.stitch_triangle.specs.declared.placing.Place.TheVariants.{Nowhere, On
 use Rattle.stitch_splits.specs.Found.{Spot}
 
 -- the answer of a place
-abbrev pub placeAs : Option Spot → Place
-placeAs none = Nowhere
-placeAs (some p) = On (record { e = p.e; t = p.t; distance = p.distance })
+abbrev pub place_as : Option Spot → Place
+place_as none = Nowhere
+place_as (some p) = On (record { e = p.e; t = p.t; distance = p.distance })
 
 -- the place of an answer
-abbrev pub spotAs : Place → Option Spot
-spotAs Nowhere = none
-spotAs (On p) = some (record { e = p.e; t = p.t; distance = p.distance })
+abbrev pub spot_as : Place → Option Spot
+spot_as Nowhere = none
+spot_as (On p) = some (record { e = p.e; t = p.t; distance = p.distance })

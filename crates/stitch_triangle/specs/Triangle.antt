@@ -4,26 +4,26 @@
 -- list by name, and the vertex. The boxes of the words' blocks stand at `boxes`. What is found goes in pairs of words to `at` and `ts`, where the entries
 -- that are kept stand in the end.
 use Rattle.std.specs.Prelude.{◌≡◌, Bool, List, [], ◌∷◌, ◌++◌, ℕ, ◌+◌, ◌*◌, ◌/◌, ◌%◌, ◌^◌, ◌<◌, ◌≤◌, length, get_or, take, drop, Float}
-use Rattle.lists.specs.Lists.{countIf}
+use Rattle.lists.specs.Lists.{count_if}
 use Rattle.patch_geometry.specs.declared.Vec3.{Vec3}
-use Rattle.patch_geometry.specs.Geometry.{pointAt}
+use Rattle.patch_geometry.specs.Geometry.{point_at}
 use Rattle.stitch_projection.specs.declared.Edge.{Edge}
 use Rattle.stitch_projection.specs.Projection.{edge_of}
 use Rattle.stitch_sag.specs.Beyond.{Beyond}
 use Rattle.stitch_boxes.specs.Points.{Point}
 use Rattle.slice_pairs.specs.Rearranged.{Rearranged}
-use Rattle.slice_pairs.specs.Pairs.{pairsIn}
+use Rattle.slice_pairs.specs.Pairs.{pairs_in}
 use Rattle.stitch_loose_points.specs.Listed.{Listed}
 use Rattle.stitch_splits.specs.declared.sides.Sides.{Sides}
 use Rattle.stitch_splits.specs.declared.sides.TriangleEdge.{TriangleEdge}
-use Rattle.stitch_splits.specs.Entries.{entriesIn}
-use Rattle.stitch_splits.specs.Found.{side_of, foundOnly, triangleFound, triangleKept}
-use Rattle.stitch_pairs.specs.FoundPairs.{rankedFrom, foundPairs}
+use Rattle.stitch_splits.specs.Entries.{entries_in}
+use Rattle.stitch_splits.specs.Found.{side_of, found_only, triangle_found, triangle_kept}
+use Rattle.stitch_pairs.specs.FoundPairs.{ranked_from, found_pairs}
 use Rattle.stitch_tree.specs.Trees.{Boxed}
 
 -- whether the vertex of a word is found on edge e
-abbrev pub isFound : Float → List Float → List ℕ → Sides → ℕ → ℕ → Bool
-isFound sag ps ns s e o = foundOnly sag s e (get_or ns (o % 262144) 0) (pointAt ps (o % 262144))
+abbrev pub is_found : Float → List Float → List ℕ → Sides → ℕ → ℕ → Bool
+is_found sag ps ns s e o = found_only sag s e (get_or ns (o % 262144) 0) (point_at ps (o % 262144))
 
 -- the words of `count` loose vertices, behind the names of v vertices
 pub record Ordered (ps : List Float) (v order count : ℕ) (W : List ℕ) : Type 0 where
@@ -52,8 +52,8 @@ pub record TryReady (ps : List Float) (sag beyond : Float) (v order count j e at
 
 -- what finding the vertices of the words `os` on edge e leaves: a pair for each that is found and placed, behind those before; nothing else was written
 pub record FoundIn (ps : List Float) (sag : Float) (s : Sides) (v e at ts found placed : ℕ) (os W E : List ℕ) (found' placed' : ℕ) : Type 0 where
-  pub pairs : pairsIn E at ts placed' ≡ pairsIn W at ts placed ++ foundPairs sag ps (take v W) s e os
-  pub more : found' ≡ found + countIf (isFound sag ps (take v W) s e) os
+  pub pairs : pairs_in E at ts placed' ≡ pairs_in W at ts placed ++ found_pairs sag ps (take v W) s e os
+  pub more : found' ≡ found + count_if (is_found sag ps (take v W) s e) os
   pub bound : found' ≤ found + length os
   pub few : placed' ≤ placed + length os
   pub front : take at E ≡ take at W
@@ -114,14 +114,14 @@ pub record PointEdge (s : Edge) : Type 0 where
 -- what finding on edge e asks: the tree, if there are loose vertices, and room for a pair for each of them
 pub record FindOn (ps : List Float) (sag beyond : Float) (s : Sides) (v order count boxes top e at ts found placed : ℕ) (W : List ℕ) : Type 0 where
   pub ordered : Ordered ps v order count W
-  pub points : (g : ℕ) → g < v → Point (pointAt ps g)
+  pub points : (g : ℕ) → g < v → Point (point_at ps g)
   pub boxed : 0 < count → Boxed ps order count boxes top W
   pub low : top ≤ 17
   pub behind : order + count ≤ at
   pub apart : at + placed + count ≤ ts
   pub room : ts + placed + count ≤ boxes
   pub long : ts + placed + count ≤ length W
-  pub boxes-room : 0 < count → boxes + 12 * 2 ^ top ≤ length W
+  pub boxes_room : 0 < count → boxes + 12 * 2 ^ top ≤ length W
   pub edge : e ≤ 2
   pub pointed : PointEdge (side_of s e).edge
   pub countable : found + count ≤ 4611686018427387904
@@ -132,16 +132,16 @@ pub record Splittable (ps : List Float) (sag beyond : Float) (s : Sides) (v list
   pub listed : Listed v list count W
   pub few : v ≤ 262144
   pub all : length ps ≡ 3 * v
-  pub points : (g : ℕ) → g < v → Point (pointAt ps g)
-  pub list-behind : list + count ≤ at
-  pub order-names : v ≤ order
+  pub points : (g : ℕ) → g < v → Point (point_at ps g)
+  pub list_behind : list + count ≤ at
+  pub order_names : v ≤ order
   pub behind : order + count ≤ at
   pub apart : at + 3 * count ≤ ts
   pub room : ts + 3 * count ≤ boxes
   pub long : ts + 3 * count ≤ length W
-  pub boxes-room : 0 < count → boxes + 12 * 2 ^ top ≤ length W
+  pub boxes_room : 0 < count → boxes + 12 * 2 ^ top ≤ length W
   pub small : count ≤ 786432
-  pub ranked : Rearranged (take count (drop order W)) (rankedFrom 0 (take count (drop list W)))
+  pub ranked : Rearranged (take count (drop order W)) (ranked_from 0 (take count (drop list W)))
   pub boxed : 0 < count → Boxed ps order count boxes top W
   pub low : top ≤ 17
   pub first : PointEdge s.first.edge
@@ -151,9 +151,9 @@ pub record Splittable (ps : List Float) (sag beyond : Float) (s : Sides) (v list
 
 -- what it leaves: how many points split the triangle, and the entries that it keeps; nothing but the entries was written
 pub record Split (ps : List Float) (sag : Float) (s : Sides) (v list count at ts : ℕ) (W E : List ℕ) (found kept : ℕ) : Type 0 where
-  pub found-is : found ≡ triangleFound sag ps (take v W) s (take count (drop list W))
-  pub kept-are : entriesIn E at ts kept ≡ triangleKept sag ps (take v W) s (take count (drop list W))
-  pub few-found : found ≤ 3 * count
+  pub found_is : found ≡ triangle_found sag ps (take v W) s (take count (drop list W))
+  pub kept_are : entries_in E at ts kept ≡ triangle_kept sag ps (take v W) s (take count (drop list W))
+  pub few_found : found ≤ 3 * count
   pub few : kept ≤ 3 * count
   pub front : take at E ≡ take at W
   pub rest : drop (ts + 3 * count) E ≡ drop (ts + 3 * count) W

@@ -2,7 +2,7 @@
 
 ghost use Rattle.std.specs.Prelude.{◌≡◌};
 ghost use Rattle.stitch_sag.specs.Beyond.{Beyond};
-ghost use Rattle.stitch_splits.specs.Found.{counts, foundOnly};
+ghost use Rattle.stitch_splits.specs.Found.{counts, found_only};
 ghost use Rattle.stitch_triangle.specs.Finding.{FindReady};
 
 use patch_geometry::Vec3;
@@ -23,7 +23,7 @@ fn counts_for(s: TriangleEdge, name: u64, r: Vec3, sag: f64, beyond: f64) -> boo
 // Whether a point counts for the edge from corner 1, and not for the one before it.
 fn found_second(s: Sides, name: u64, r: Vec3, sag: f64, beyond: f64) -> bool
     requires { Beyond sag beyond }
-    ensures { result ≡ foundOnly sag s 1 name r }
+    ensures { result ≡ found_only sag s 1 name r }
 {
     let second = counts_for(s.second, name, r, sag, beyond);
     if second {
@@ -36,7 +36,7 @@ fn found_second(s: Sides, name: u64, r: Vec3, sag: f64, beyond: f64) -> bool
 // Whether a point counts for the edge from corner 2, and for none before it.
 fn found_third(s: Sides, name: u64, r: Vec3, sag: f64, beyond: f64) -> bool
     requires { Beyond sag beyond }
-    ensures { result ≡ foundOnly sag s 2 name r }
+    ensures { result ≡ found_only sag s 2 name r }
 {
     let third = counts_for(s.third, name, r, sag, beyond);
     if third {
@@ -50,7 +50,7 @@ fn found_third(s: Sides, name: u64, r: Vec3, sag: f64, beyond: f64) -> bool
 // Whether a point counts for edge e, and for none before it.
 pub fn found_on(s: Sides, e: u64, name: u64, r: Vec3, sag: f64, beyond: f64) -> bool
     requires { FindReady sag beyond e }
-    ensures { result ≡ foundOnly sag s e name r }
+    ensures { result ≡ found_only sag s e name r }
 {
     if e == 0 {
         return counts_for(s.first, name, r, sag, beyond);

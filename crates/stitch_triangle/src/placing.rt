@@ -3,8 +3,8 @@
 ghost use Rattle.std.specs.Prelude.{◌≡◌};
 ghost use Rattle.std.proofs.Math.Option.{some};
 ghost use Rattle.stitch_projection.specs.Projection.{project};
-ghost use Rattle.stitch_splits.specs.Found.{nearerSpot, spot_of};
-ghost use Rattle.stitch_triangle.specs.Placing.{placeAs, spotAs};
+ghost use Rattle.stitch_splits.specs.Found.{nearer_spot, spot_of};
+ghost use Rattle.stitch_triangle.specs.Placing.{place_as, spot_as};
 
 use patch_geometry::Vec3;
 use stitch_feet::Projection;
@@ -28,7 +28,7 @@ pub enum Place {
 
 // The nearer of a place and a hit on edge e: the first on ties.
 fn nearer_hit(best: Place, e: u64, h: Hit) -> Place
-    ensures { result ≡ placeAs (nearerSpot (spotAs best) e (some h)) }
+    ensures { result ≡ place_as (nearer_spot (spot_as best) e (some h)) }
 {
     let hit = Placing {
         e: e,
@@ -48,7 +48,7 @@ fn nearer_hit(best: Place, e: u64, h: Hit) -> Place
 
 // The nearer of a place and where a point projects on edge e.
 fn nearer(best: Place, e: u64, edge: stitch_projection::Edge, r: Vec3) -> Place
-    ensures { result ≡ placeAs (nearerSpot (spotAs best) e (project edge r)) }
+    ensures { result ≡ place_as (nearer_spot (spot_as best) e (project edge r)) }
 {
     match stitch_feet::project(edge, r) {
         Projection::Outside => best,
@@ -58,7 +58,7 @@ fn nearer(best: Place, e: u64, edge: stitch_projection::Edge, r: Vec3) -> Place
 
 // Where a point is placed: on the nearest of all three edges that it projects into.
 pub fn place_on(s: Sides, r: Vec3) -> Place
-    ensures { result ≡ placeAs (spot_of s r) }
+    ensures { result ≡ place_as (spot_of s r) }
 {
     let first = nearer(Place::Nowhere, 0, s.first.edge, r);
     let second = nearer(first, 1, s.second.edge, r);

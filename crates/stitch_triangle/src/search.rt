@@ -1,10 +1,10 @@
 // The loose vertices found on an edge: block after block of them passed over or tried.
 
 ghost use Rattle.std.specs.Prelude.{◌≡◌, ◌+◌, ◌*◌, ◌/◌, ◌%◌, ◌^◌, ◌<◌, ◌≤◌, length, get_or, take, drop, [], ◌∷◌};
-ghost use Rattle.patch_geometry.specs.Geometry.{pointAt};
+ghost use Rattle.patch_geometry.specs.Geometry.{point_at};
 ghost use Rattle.stitch_sag.specs.Beyond.{Ruled};
 ghost use Rattle.stitch_boxes.specs.Boxes.{far};
-ghost use Rattle.stitch_tree.specs.Nodes.{boxAt};
+ghost use Rattle.stitch_tree.specs.Nodes.{box_at};
 ghost use Rattle.stitch_triangle.specs.Triangle.{
   PointReady,
   TryReady,
@@ -54,7 +54,7 @@ fn vertex_at(w: &[u64], order: usize, j: usize) -> usize
 // Whether the vertex of word j may be within the sag of an edge.
 fn may_split(positions: &[f32], w: &[u64], s: Edge, f: Finder, j: usize) -> bool
     requires { PointReady positions.now f.v f.order f.count j w.now }
-    ensures { Ruled f.beyond s (pointAt positions.now (get_or w.now (f.order + j) 0 % 262144)) result }
+    ensures { Ruled f.beyond s (point_at positions.now (get_or w.now (f.order + j) 0 % 262144)) result }
 {
     let g = vertex_at(w, f.order, j);
     let r = patch_geometry::vertex(positions, 3 * g);
@@ -148,7 +148,7 @@ fn try_block(
 // Whether the points of 2 ^ height leaves from `leaf` on are all far from an edge.
 fn is_far(w: &[u64], s: Edge, f: Finder, leaf: usize, height: u32) -> bool
     requires { BoxReady f.boxes leaf height f.top w.now }
-    ensures { result ≡ far (boxAt w.now (f.boxes + 6 * ((2 ^ f.top + leaf) / 2 ^ height))) s f.beyond }
+    ensures { result ≡ far (box_at w.now (f.boxes + 6 * ((2 ^ f.top + leaf) / 2 ^ height))) s f.beyond }
 {
     let leaves = float_steps::power(f.top as u64) as usize;
     let node = (leaves + leaf) >> height;

@@ -1,8 +1,8 @@
 // A row's numbers in the flat table.
 
 ghost use Rattle.std.specs.Prelude.{[], ◌∷◌, ◌+◌, ◌*◌, ◌<◌, ◌≤◌, length};
-ghost use Rattle.body_rows.specs.Body.{rowWidth, rows_of};
-ghost use Rattle.body_rows.specs.Rows.{rowAt};
+ghost use Rattle.body_rows.specs.Body.{row_width, rows_of};
+ghost use Rattle.body_rows.specs.Rows.{row_at};
 ghost use Rattle.slice_append.specs.Appended.{Appended};
 
 use body_rows::ROW_WIDTH;
@@ -18,8 +18,8 @@ fn put_row(
     indices: u32,
     bin: u32,
 )
-    requires { rowWidth * k + rowWidth ≤ length out.old }
-    ensures { Appended (rowWidth * k) (shell ∷ face ∷ outcome ∷ vertices ∷ indices ∷ bin ∷ []) out.old out.new }
+    requires { row_width * k + row_width ≤ length out.old }
+    ensures { Appended (row_width * k) (shell ∷ face ∷ outcome ∷ vertices ∷ indices ∷ bin ∷ []) out.old out.new }
 {
     let o = ROW_WIDTH * k;
     out[o] = shell;
@@ -33,9 +33,9 @@ fn put_row(
 // Row k of `rows` is written as row k of the table `out`, with the counts that it has now.
 pub fn put_counts(rows: &[u32], k: usize, vertices: u32, indices: u32, out: &mut [u32])
     requires k_in_bounds { k < length (rows_of rows.now) }
-    requires row_width_in_bounds { rowWidth * k + rowWidth ≤ length out.old }
-    ensures { Appended (rowWidth * k) ((rowAt rows.now k).shell ∷ (rowAt rows.now k).face ∷ (rowAt rows.now k).outcome
-        ∷ vertices ∷ indices ∷ (rowAt rows.now k).bin ∷ [])
+    requires row_width_in_bounds { row_width * k + row_width ≤ length out.old }
+    ensures { Appended (row_width * k) ((row_at rows.now k).shell ∷ (row_at rows.now k).face ∷ (row_at rows.now k).outcome
+        ∷ vertices ∷ indices ∷ (row_at rows.now k).bin ∷ [])
         out.old out.new }
 {
     let shell = body_rows::shell(rows, k);

@@ -8,15 +8,15 @@ use Rattle.stl_definition.specs.Write.{AfterWrite}
 use Rattle.stl_definition.specs.Read.{ReadSlices, AfterRead}
 
 -- the writer's answer and the lent slice
-abbrev pub leftWritten : StlWritten → List ℕ → AfterWrite
-leftWritten (Written.Done n) bytes = record { refusal = 0; length = n; bytes = bytes }
-leftWritten (Written.Refused n) bytes = record { refusal = n; length = 0; bytes = bytes }
+abbrev pub left_written : StlWritten → List ℕ → AfterWrite
+left_written (Written.Done n) bytes = record { refusal = 0; length = n; bytes = bytes }
+left_written (Written.Refused n) bytes = record { refusal = n; length = 0; bytes = bytes }
 
 -- the slices that the reader is lent
 abbrev pub slices : List ℕ → List Float → List Float → List ℕ → ReadSlices
 slices table ps ns is = record { table = table; positions = ps; normals = ns; indices = is }
 
 -- the reader's answer and the lent slices
-abbrev pub leftRead : StlRead → ReadSlices → AfterRead
-leftRead (Read.Done n) out = record { refusal = 0; vertices = n; indices = n; slices = out }
-leftRead (Read.Refused n) out = record { refusal = n; vertices = 0; indices = 0; slices = out }
+abbrev pub left_read : StlRead → ReadSlices → AfterRead
+left_read (Read.Done n) out = record { refusal = 0; vertices = n; indices = n; slices = out }
+left_read (Read.Refused n) out = record { refusal = n; vertices = 0; indices = 0; slices = out }

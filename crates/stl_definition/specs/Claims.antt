@@ -6,7 +6,7 @@ use Rattle.float_steps.specs.Floats.{f32, bits32}
 use Rattle.lists.specs.Lists.{all}
 use Rattle.lists.specs.Table.{Case, case, agrees}
 use Rattle.stl_definition.specs.Bytes.{word}
-use Rattle.stl_definition.specs.Write.{Held, inTwo, AfterWrite, writeOf}
+use Rattle.stl_definition.specs.Write.{Held, in_two, AfterWrite, write_of}
 use Rattle.stl_definition.specs.Read.{ReadSlices, AfterRead, read_of}
 use Rattle.stl_definition.specs.Evaluation.{evaluation}
 
@@ -25,12 +25,12 @@ solid : ℕ → List (List ℕ) → List ℕ
 solid count facets = filled (115 ∷ 111 ∷ 108 ∷ 105 ∷ 100 ∷ replicate 75 32) 0xFF count facets
 
 -- the bits of nine coordinates: both zeros, subnormals on either side of them, the largest on either side, and 1.0
-edgeBits : List ℕ
-edgeBits = 0 ∷ 0x80000000 ∷ 1 ∷ 0x80000001 ∷ 0x007FFFFF ∷ 0x7F7FFFFF ∷ 0xFF7FFFFF ∷ 0x3F800000 ∷ 0x80000002 ∷ []
+edge_bits : List ℕ
+edge_bits = 0 ∷ 0x80000000 ∷ 1 ∷ 0x80000001 ∷ 0x007FFFFF ∷ 0x7F7FFFFF ∷ 0xFF7FFFFF ∷ 0x3F800000 ∷ 0x80000002 ∷ []
 
 -- nine coordinates, the last with such bits
 ending : ℕ → List ℕ
-ending w = take 8 edgeBits ++ w ∷ []
+ending w = take 8 edge_bits ++ w ∷ []
 
 -- slices of such lengths
 lent : ℕ → ℕ → ℕ → ℕ → ReadSlices
@@ -53,34 +53,34 @@ left r =
 pub reads : List Case
 reads =
     case 72 (refusal (replicate 83 0) roomy ∷ refusal (replicate 84 0) roomy ∷ refusal (plain 1 []) roomy ∷ refusal (plain 0x80000000 []) roomy ∷ []) (72 ∷ 0 ∷ 72 ∷ 72 ∷ [])
-    ∷ case 72 (refusal (plain 1 (edgeBits ∷ [])) roomy ∷ refusal (plain 1 (edgeBits ∷ []) ++ 0 ∷ []) roomy ∷ refusal (take 133 (plain 1 (edgeBits ∷ []))) roomy ∷ []) (0 ∷ 72 ∷ 72 ∷ [])
-    ∷ case 72 (refusal (plain 0 (edgeBits ∷ [])) roomy ∷ refusal (plain 2 (edgeBits ∷ [])) roomy ∷ refusal (plain 0x80000001 (edgeBits ∷ [])) roomy ∷ refusal [] roomy ∷ []) (72 ∷ 72 ∷ 72 ∷ 72 ∷ [])
-    ∷ case 72 (refusal (plain 32001 []) roomy ∷ refusal (plain 2 (edgeBits ∷ ending 0x7F800000 ∷ []) ++ 0 ∷ []) (lent 0 0 0 0) ∷ []) (72 ∷ 72 ∷ [])
+    ∷ case 72 (refusal (plain 1 (edge_bits ∷ [])) roomy ∷ refusal (plain 1 (edge_bits ∷ []) ++ 0 ∷ []) roomy ∷ refusal (take 133 (plain 1 (edge_bits ∷ []))) roomy ∷ []) (0 ∷ 72 ∷ 72 ∷ [])
+    ∷ case 72 (refusal (plain 0 (edge_bits ∷ [])) roomy ∷ refusal (plain 2 (edge_bits ∷ [])) roomy ∷ refusal (plain 0x80000001 (edge_bits ∷ [])) roomy ∷ refusal [] roomy ∷ []) (72 ∷ 72 ∷ 72 ∷ 72 ∷ [])
+    ∷ case 72 (refusal (plain 32001 []) roomy ∷ refusal (plain 2 (edge_bits ∷ ending 0x7F800000 ∷ []) ++ 0 ∷ []) (lent 0 0 0 0) ∷ []) (72 ∷ 72 ∷ [])
     ∷ case 74 (refusal (plain 1 (ending 0x7F800000 ∷ [])) roomy ∷ refusal (plain 1 (ending 0xFF800000 ∷ [])) roomy ∷ refusal (plain 1 (ending 0x7FC00000 ∷ [])) roomy ∷ []) (74 ∷ 74 ∷ 74 ∷ [])
-    ∷ case 74 (refusal (plain 2 (edgeBits ∷ ending 0x7F800001 ∷ [])) (lent 0 0 0 0) ∷ refusal (plain 1 (ending 0x7F7FFFFF ∷ [])) (lent 0 0 0 0) ∷ []) (74 ∷ 75 ∷ [])
-    ∷ case 75 (refusal (plain 1 (edgeBits ∷ [])) (lent 6 9 9 3) ∷ refusal (plain 1 (edgeBits ∷ [])) (lent 5 9 9 3) ∷ []) (0 ∷ 75 ∷ [])
-    ∷ case 75 (refusal (plain 1 (edgeBits ∷ [])) (lent 6 8 9 3) ∷ refusal (plain 1 (edgeBits ∷ [])) (lent 6 9 8 3) ∷ refusal (plain 1 (edgeBits ∷ [])) (lent 6 9 9 2) ∷ []) (75 ∷ 75 ∷ 75 ∷ [])
+    ∷ case 74 (refusal (plain 2 (edge_bits ∷ ending 0x7F800001 ∷ [])) (lent 0 0 0 0) ∷ refusal (plain 1 (ending 0x7F7FFFFF ∷ [])) (lent 0 0 0 0) ∷ []) (74 ∷ 75 ∷ [])
+    ∷ case 75 (refusal (plain 1 (edge_bits ∷ [])) (lent 6 9 9 3) ∷ refusal (plain 1 (edge_bits ∷ [])) (lent 5 9 9 3) ∷ []) (0 ∷ 75 ∷ [])
+    ∷ case 75 (refusal (plain 1 (edge_bits ∷ [])) (lent 6 8 9 3) ∷ refusal (plain 1 (edge_bits ∷ [])) (lent 6 9 8 3) ∷ refusal (plain 1 (edge_bits ∷ [])) (lent 6 9 9 2) ∷ []) (75 ∷ 75 ∷ 75 ∷ [])
     ∷ case 75 (refusal (plain 0 []) (lent 6 0 0 0) ∷ refusal (plain 0 []) (lent 5 9 9 3) ∷ []) (0 ∷ 75 ∷ [])
-    ∷ case 75 (refusal (plain 2 (edgeBits ∷ edgeBits ∷ [])) (lent 6 18 18 6) ∷ refusal (plain 2 (edgeBits ∷ edgeBits ∷ [])) (lent 6 18 18 5) ∷ []) (0 ∷ 75 ∷ [])
+    ∷ case 75 (refusal (plain 2 (edge_bits ∷ edge_bits ∷ [])) (lent 6 18 18 6) ∷ refusal (plain 2 (edge_bits ∷ edge_bits ∷ [])) (lent 6 18 18 5) ∷ []) (0 ∷ 75 ∷ [])
     ∷ []
 
 -- The definitions yield each.
-pub reads-hold : T (all agrees reads)
-unfolding evaluation filled plain edgeBits ending lent roomy refusal reads
-reads-hold = tt
+pub reads_hold : T (all agrees reads)
+unfolding evaluation filled plain edge_bits ending lent roomy refusal reads
+reads_hold = tt
 
 -- what is left of the slices: other makers' bytes are passed over, coordinates come bit by bit, what stands behind is unchanged; a refusal leaves all
 pub lefts : List Case
 lefts =
-    case 0 (left (read_of (solid 1 (edgeBits ∷ [])) (lent 7 10 10 4)))
-    (0 ∷ 3 ∷ 3 ∷ 0 ∷ 0 ∷ 0 ∷ 3 ∷ 3 ∷ 0 ∷ 9 ∷ [] ++ edgeBits ++ bits32 (f32 7) ∷ replicate 9 0 ++ bits32 (f32 7) ∷ 0 ∷ 1 ∷ 2 ∷ 9 ∷ [])
+    case 0 (left (read_of (solid 1 (edge_bits ∷ [])) (lent 7 10 10 4)))
+    (0 ∷ 3 ∷ 3 ∷ 0 ∷ 0 ∷ 0 ∷ 3 ∷ 3 ∷ 0 ∷ 9 ∷ [] ++ edge_bits ++ bits32 (f32 7) ∷ replicate 9 0 ++ bits32 (f32 7) ∷ 0 ∷ 1 ∷ 2 ∷ 9 ∷ [])
     ∷ case 0 (left (read_of (solid 0 []) (lent 7 1 1 1))) (0 ∷ 0 ∷ 0 ∷ 0 ∷ 0 ∷ 0 ∷ 0 ∷ 0 ∷ 0 ∷ 9 ∷ 7 ∷ 7 ∷ 9 ∷ [])
-    ∷ case 75 (left (read_of (plain 1 (edgeBits ∷ [])) (lent 6 1 1 1))) (75 ∷ 0 ∷ 0 ∷ 9 ∷ 9 ∷ 9 ∷ 9 ∷ 9 ∷ 9 ∷ 7 ∷ 7 ∷ 9 ∷ [])
+    ∷ case 75 (left (read_of (plain 1 (edge_bits ∷ [])) (lent 6 1 1 1))) (75 ∷ 0 ∷ 0 ∷ 9 ∷ 9 ∷ 9 ∷ 9 ∷ 9 ∷ 9 ∷ 7 ∷ 7 ∷ 9 ∷ [])
     ∷ []
 
-pub lefts-hold : T (all agrees lefts)
-unfolding evaluation filled plain solid edgeBits lent left lefts
-lefts-hold = tt
+pub lefts_hold : T (all agrees lefts)
+unfolding evaluation filled plain solid edge_bits lent left lefts
+lefts_hold = tt
 
 -- ---- meshes
 
@@ -97,7 +97,7 @@ second = 0x80000000 ∷ 1 ∷ 0x3F800000 ∷ 0x3F800000 ∷ 0 ∷ 0 ∷ 0 ∷ 0 
 
 -- what the writer answers for the points with other normals and indices, and a slice of so many bytes
 wrote : List Float → List ℕ → ℕ → AfterWrite
-wrote ns is room = writeOf (inTwo points ns) is (replicate room 9)
+wrote ns is room = write_of (in_two points ns) is (replicate room 9)
 
 -- the answer and the slice, as numbers
 shown : AfterWrite → List ℕ
@@ -113,13 +113,13 @@ writes =
     case 0 (shown (wrote points (0 ∷ 1 ∷ 2 ∷ 3 ∷ 1 ∷ 0 ∷ []) 185)) (0 ∷ 184 ∷ [] ++ plain 2 (first ∷ second ∷ []) ++ 9 ∷ [])
     ∷ case 0 (shown (wrote points [] 84)) (0 ∷ 84 ∷ replicate 84 0)
     ∷ case 71 (shown (wrote points (0 ∷ 1 ∷ 2 ∷ []) 133)) (71 ∷ 0 ∷ replicate 133 9)
-    ∷ case 14 ((wrote (take 11 points) (0 ∷ 1 ∷ 2 ∷ []) 0).refusal ∷ (writeOf (inTwo (take 11 points) (take 11 points)) (0 ∷ []) []).refusal ∷ []) (14 ∷ 14 ∷ [])
+    ∷ case 14 ((wrote (take 11 points) (0 ∷ 1 ∷ 2 ∷ []) 0).refusal ∷ (write_of (in_two (take 11 points) (take 11 points)) (0 ∷ []) []).refusal ∷ []) (14 ∷ 14 ∷ [])
     ∷ case 21 ((wrote points (0 ∷ 1 ∷ 2 ∷ 9 ∷ []) 0).refusal ∷ (wrote points (0 ∷ 1 ∷ 4 ∷ []) 0).refusal ∷ []) (21 ∷ 22 ∷ [])
     ∷ case 23 ((wrote (replicate 12 nan) (0 ∷ 1 ∷ 2 ∷ []) 0).refusal ∷ (wrote (replicate 12 (f32 0x7F7FFFFF)) (0 ∷ 1 ∷ 2 ∷ []) 0).refusal ∷ []) (23 ∷ 71 ∷ [])
-    ∷ case 24 ((writeOf (inTwo (replicate 12 (f32 0x550637BE)) points) (0 ∷ 1 ∷ 2 ∷ []) []).refusal ∷ (writeOf many [] []).refusal ∷ []) (24 ∷ 13 ∷ [])
-    ∷ case 71 ((writeOf (inTwo [] []) [] (replicate 83 9)).refusal ∷ (writeOf (inTwo [] []) [] (replicate 84 9)).refusal ∷ []) (71 ∷ 0 ∷ [])
+    ∷ case 24 ((write_of (in_two (replicate 12 (f32 0x550637BE)) points) (0 ∷ 1 ∷ 2 ∷ []) []).refusal ∷ (write_of many [] []).refusal ∷ []) (24 ∷ 13 ∷ [])
+    ∷ case 71 ((write_of (in_two [] []) [] (replicate 83 9)).refusal ∷ (write_of (in_two [] []) [] (replicate 84 9)).refusal ∷ []) (71 ∷ 0 ∷ [])
     ∷ []
 
-pub writes-hold : T (all agrees writes)
+pub writes_hold : T (all agrees writes)
 unfolding evaluation filled plain solid points first second wrote shown many writes
-writes-hold = tt
+writes_hold = tt

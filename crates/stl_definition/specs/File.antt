@@ -2,58 +2,58 @@
 use mathlib.Core.List.{List, [], ◌∷◌, ◌++◌, flat_map}
 use Rattle.std.specs.Prelude.{ℕ, ◌+◌, ◌*◌, ◌/◌, length, get_or, replicate, Float}
 use Rattle.std.specs.Float.{nan}
-use Rattle.body_rows.specs.Body.{Triangle, trianglesOf}
-use Rattle.stl_definition.specs.Bytes.{word, floatsBytes}
+use Rattle.body_rows.specs.Body.{Triangle, triangles_of}
+use Rattle.stl_definition.specs.Bytes.{word, floats_bytes}
 
 -- the header
-abbrev pub headerBytes : ℕ
-headerBytes = 80
+abbrev pub header_bytes : ℕ
+header_bytes = 80
 
 -- the header and the count
-abbrev pub headBytes : ℕ
-headBytes = 84
+abbrev pub head_bytes : ℕ
+head_bytes = 84
 
 -- a triangle: its normal, its corners and two bytes
-abbrev pub facetBytes : ℕ
-facetBytes = 50
+abbrev pub facet_bytes : ℕ
+facet_bytes = 50
 
-abbrev pub normalBytes : ℕ
-normalBytes = 12
+abbrev pub normal_bytes : ℕ
+normal_bytes = 12
 
-abbrev pub cornerBytes : ℕ
-cornerBytes = 36
+abbrev pub corner_bytes : ℕ
+corner_bytes = 36
 
-abbrev pub lastBytes : ℕ
-lastBytes = 2
+abbrev pub last_bytes : ℕ
+last_bytes = 2
 
 -- ---- the mesh
 
 -- how many triangles so many indices make
-abbrev pub triangleCount : List ℕ → ℕ
-triangleCount is = length is / 3
+abbrev pub triangle_count : List ℕ → ℕ
+triangle_count is = length is / 3
 
 -- the coordinates of vertex i, of a slice with so many floats to a vertex
-abbrev pub pointIn : ℕ → List Float → ℕ → List Float
-pointIn stride vs i = get_or vs (stride * i) nan ∷ get_or vs (stride * i + 1) nan ∷ get_or vs (stride * i + 2) nan ∷ []
+abbrev pub point_in : ℕ → List Float → ℕ → List Float
+point_in stride vs i = get_or vs (stride * i) nan ∷ get_or vs (stride * i + 1) nan ∷ get_or vs (stride * i + 2) nan ∷ []
 
 -- the nine coordinates of a triangle's corners
 abbrev pub corners : ℕ → List Float → Triangle → List Float
-corners stride vs t = pointIn stride vs t.a ++ pointIn stride vs t.b ++ pointIn stride vs t.c
+corners stride vs t = point_in stride vs t.a ++ point_in stride vs t.b ++ point_in stride vs t.c
 
 -- those of a mesh, triangle by triangle in mesh order
-unfoldable pub cornersOf : ℕ → List Float → List ℕ → List Float
-cornersOf stride vs is = flat_map (corners stride vs) (trianglesOf is)
+unfoldable pub corners_of : ℕ → List Float → List ℕ → List Float
+corners_of stride vs is = flat_map (corners stride vs) (triangles_of is)
 
 -- ---- its file
 
 -- Facet normals and last two bytes are zero.
 unfoldable pub facet : List Float → List ℕ
-facet xs = replicate normalBytes 0 ++ floatsBytes xs ++ replicate lastBytes 0
+facet xs = replicate normal_bytes 0 ++ floats_bytes xs ++ replicate last_bytes 0
 
 -- the file of a mesh: the header is zero, triangles in mesh order
-unfoldable pub fileOf : ℕ → List Float → List ℕ → List ℕ
-fileOf stride vs is = replicate headerBytes 0 ++ word (triangleCount is) ++ flat_map (λ t. facet (corners stride vs t)) (trianglesOf is)
+unfoldable pub file_of : ℕ → List Float → List ℕ → List ℕ
+file_of stride vs is = replicate header_bytes 0 ++ word (triangle_count is) ++ flat_map (λ t. facet (corners stride vs t)) (triangles_of is)
 
 -- how long it is
-abbrev pub fileLength : List ℕ → ℕ
-fileLength is = headBytes + facetBytes * triangleCount is
+abbrev pub file_length : List ℕ → ℕ
+file_length is = head_bytes + facet_bytes * triangle_count is

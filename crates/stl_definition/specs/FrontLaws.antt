@@ -2,7 +2,7 @@
 use Rattle.std.specs.Prelude.{◌≡◌, refl, List, [], ◌∷◌, ◌++◌, ℕ, ◌+◌, ◌≤◌, ◌<◌, length, set, replicate}
 use Rattle.std.proofs.Common.{sym, ◌∙◌, subst, le_antisymm, arith}
 use Rattle.std.proofs.lemmas.List.{length-replicate, replicate-append-replicate}
-use Rattle.slice_append.specs.Appended.{Appended, appended-none, appended_then, appended-long, appended-sets}
+use Rattle.slice_append.specs.Appended.{Appended, appended_none, appended_then, appended_long, appended_sets}
 
 module _ {A : Type 0} where
   -- the items of the first k of n pieces, f k, were written from place o on: E became W
@@ -12,27 +12,27 @@ module _ {A : Type 0} where
     pub long : length W ≡ length E
 
   -- none is written yet
-  pub front-none : (o : ℕ) (f : ℕ → List A) (n : ℕ) (E : List A) → f 0 ≡ [] → Front o f n 0 E E
-  front-none o f n E e = record { low = omega arith; items = subst (λ (xs : List A). Appended o xs E E) (sym e) (appended-none o E); long = refl }
+  pub front_none : (o : ℕ) (f : ℕ → List A) (n : ℕ) (E : List A) → f 0 ≡ [] → Front o f n 0 E E
+  front_none o f n E e = record { low = omega arith; items = subst (λ (xs : List A). Appended o xs E E) (sym e) (appended_none o E); long = refl }
 
   -- one more is
-  pub front-more : {o : ℕ} {f : ℕ → List A} {n k p : ℕ} {ys E W W' : List A} → Front o f n k E W → k < n → f (k + 1) ≡ f k ++ ys → p ≡ o + length (f k)
+  pub front_more : {o : ℕ} {f : ℕ → List A} {n k p : ℕ} {ys E W W' : List A} → Front o f n k E W → k < n → f (k + 1) ≡ f k ++ ys → p ≡ o + length (f k)
       → p + length ys ≤ length E → Appended p ys W W' → Front o f n (k + 1) E W'
-  front-more {o} {E = E} {W' = W'} q h e l room a =
+  front_more {o} {E = E} {W' = W'} q h e l room a =
       let g = q.long in
       record {
         low = omega arith;
         items = subst (λ (xs : List A). Appended o xs E W') (sym e) (appended_then q.items l a);
-        long = appended-long a (omega arith) ∙ g;
+        long = appended_long a (omega arith) ∙ g;
       }
 
   -- all are
-  pub front-all : {o : ℕ} {f : ℕ → List A} {n k : ℕ} {E W : List A} → Front o f n k E W → n ≤ k → Appended o (f n) E W
-  front-all {o} {f} {E = E} {W = W} q h = subst (λ (m : ℕ). Appended o (f m) E W) (le_antisymm q.low h) q.items
+  pub front_all : {o : ℕ} {f : ℕ → List A} {n k : ℕ} {E W : List A} → Front o f n k E W → n ≤ k → Appended o (f n) E W
+  front_all {o} {f} {E = E} {W = W} q h = subst (λ (m : ℕ). Appended o (f m) E W) (le_antisymm q.low h) q.items
 
   -- one item stored
   pub stored : (W : List A) (p : ℕ) (x : A) → p + 1 ≤ length W → Appended p (x ∷ []) W (set W p x)
-  stored W p x h = appended-sets (omega arith) refl
+  stored W p x h = appended_sets (omega arith) refl
 
   -- ---- a front that becomes one item
 
@@ -41,12 +41,12 @@ module _ {A : Type 0} where
   Filled x n k E W = Front 0 (λ j. replicate j x) n k E W
 
   pub filled_none : (x : A) (n : ℕ) (E : List A) → Filled x n 0 E E
-  filled_none x n E = front-none 0 (λ j. replicate j x) n E refl
+  filled_none x n E = front_none 0 (λ j. replicate j x) n E refl
 
   pub filled_more : {x : A} {n k : ℕ} {E W : List A} → Filled x n k E W → k < n → n ≤ length E → Filled x n (k + 1) E (set W k x)
   filled_more {x} {n} {k} {E} {W} q h room =
       let g = q.long in
-      front-more q h (sym (replicate-append-replicate k 1 x)) (omega (arith, length-replicate k x)) (omega arith) (stored W k x (omega arith))
+      front_more q h (sym (replicate-append-replicate k 1 x)) (omega (arith, length-replicate k x)) (omega arith) (stored W k x (omega arith))
 
-  pub filled-all : {x : A} {n k : ℕ} {E W : List A} → Filled x n k E W → n ≤ k → Appended 0 (replicate n x) E W
-  filled-all q h = front-all q h
+  pub filled_all : {x : A} {n k : ℕ} {E W : List A} → Filled x n k E W → n ≤ k → Appended 0 (replicate n x) E W
+  filled_all q h = front_all q h

@@ -1,7 +1,7 @@
 // The call: the file checked, then read into the lent slices.
 
 ghost use Rattle.std.specs.Prelude.{◌≡◌};
-ghost use Rattle.stl_definition.specs.Answers.{leftRead, slices};
+ghost use Rattle.stl_definition.specs.Answers.{left_read, slices};
 ghost use Rattle.stl_definition.specs.CallLaws.{Readable};
 ghost use Rattle.stl_definition.specs.Promises.{WritesBack};
 ghost use Rattle.stl_definition.specs.Read.{read_of};
@@ -47,7 +47,7 @@ fn read_checked(
     indices: &mut [u32],
 ) -> StlRead
     requires { Readable file.now }
-    ensures { leftRead result (slices rows.new positions.new normals.new indices.new)
+    ensures { left_read result (slices rows.new positions.new normals.new indices.new)
         ≡ fitted file.now (slices rows.old positions.old normals.old indices.old) }
 {
     let n = word_at(file, HEADER_BYTES) as usize;
@@ -67,10 +67,10 @@ pub fn read_stl(
     normals: &mut [f32],
     indices: &mut [u32],
 ) -> StlRead
-    ensures indices_after { leftRead result (slices rows.new positions.new normals.new indices.new)
+    ensures indices_after { left_read result (slices rows.new positions.new normals.new indices.new)
         ≡ read_of file.now (slices rows.old positions.old normals.old indices.old) }
-    ensures writes_back { (leftRead result (slices rows.new positions.new normals.new indices.new)).refusal ≡ 0
-        → WritesBack file.now (leftRead result (slices rows.new positions.new normals.new indices.new)) }
+    ensures writes_back { (left_read result (slices rows.new positions.new normals.new indices.new)).refusal ≡ 0
+        → WritesBack file.now (left_read result (slices rows.new positions.new normals.new indices.new)) }
 {
     let n = file_failing(file);
     if n != 0 {

@@ -1,8 +1,8 @@
 -- What writing the triangles of a mesh asks, and what the writer leaves of a mesh that was checked. Assumes nothing.
 use Rattle.std.specs.Prelude.{true, false, List, ℕ, ◌+◌, ◌*◌, ◌≤◌, ◌<◌, ltb, length, get_or, Float}
 use Rattle.lists.specs.Lists.{written}
-use Rattle.stl_definition.specs.File.{fileLength, fileOf}
-use Rattle.stl_definition.specs.Write.{AfterWrite, fileTooLong}
+use Rattle.stl_definition.specs.File.{file_length, file_of}
+use Rattle.stl_definition.specs.Write.{AfterWrite, file_too_long}
 
 -- the corners of a triangle are vertices that are there
 pub record Inside (ps : List Float) (a b c : ℕ) : Type 0 where
@@ -18,12 +18,12 @@ pub record Checked (ps : List Float) (is : List ℕ) : Type 0 where
 -- and there is room for the file
 pub record Writable (ps : List Float) (is out : List ℕ) : Type 0 where
   pub checked : Checked ps is
-  pub room : fileLength is ≤ length out
+  pub room : file_length is ≤ length out
 
 -- the file of a mesh that was checked, or 71
 unfoldable pub fitted : List Float → List ℕ → List ℕ → AfterWrite
 fitted ps is out =
-    elim (ltb (length out) (fileLength is)) [
-      | true ↦ record { refusal = fileTooLong; length = 0; bytes = out }
-      | false ↦ record { refusal = 0; length = fileLength is; bytes = written (fileOf 3 ps is) out }
+    elim (ltb (length out) (file_length is)) [
+      | true ↦ record { refusal = file_too_long; length = 0; bytes = out }
+      | false ↦ record { refusal = 0; length = file_length is; bytes = written (file_of 3 ps is) out }
     ]

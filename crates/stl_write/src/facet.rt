@@ -2,9 +2,9 @@
 
 ghost use Rattle.std.specs.Prelude.{◌+◌, ◌*◌, ◌<◌, ◌≤◌, length, replicate};
 ghost use Rattle.slice_append.specs.Appended.{Appended};
-ghost use Rattle.stl_definition.specs.Bytes.{floatsBytes};
-ghost use Rattle.stl_definition.specs.File.{corners, facet, facetBytes, headBytes, lastBytes, normalBytes, pointIn, triangleCount};
-ghost use Rattle.stl_definition.specs.StepLaws.{triangleAt};
+ghost use Rattle.stl_definition.specs.Bytes.{floats_bytes};
+ghost use Rattle.stl_definition.specs.File.{corners, facet, facet_bytes, head_bytes, last_bytes, normal_bytes, point_in, triangle_count};
+ghost use Rattle.stl_definition.specs.StepLaws.{triangle_at};
 ghost use Rattle.stl_write.specs.Ready.{Inside, Writable};
 
 use crate::bytes::put_words;
@@ -14,8 +14,8 @@ use stl_definition::{FACET_BYTES, HEAD_BYTES};
 // The coordinates of vertex i are written to `out` from place o on.
 fn put_corner(positions: &[f32], i: u32, out: &mut [u8], o: usize)
     requires i_in_bounds { 3 * i + 3 ≤ length positions.now }
-    requires normal_bytes_in_bounds { o + normalBytes ≤ length out.old }
-    ensures { Appended o (floatsBytes (pointIn 3 positions.now i)) out.old out.new }
+    requires normal_bytes_in_bounds { o + normal_bytes ≤ length out.old }
+    ensures { Appended o (floats_bytes (point_in 3 positions.now i)) out.old out.new }
 {
     let k = 3 * i as usize;
     let x = bits_of_f32(positions[k]);
@@ -26,8 +26,8 @@ fn put_corner(positions: &[f32], i: u32, out: &mut [u8], o: usize)
 
 // The last two bytes, which are zero, are written to `out` from place o on.
 fn put_last(out: &mut [u8], o: usize)
-    requires { o + lastBytes ≤ length out.old }
-    ensures { Appended o (replicate lastBytes 0) out.old out.new }
+    requires { o + last_bytes ≤ length out.old }
+    ensures { Appended o (replicate last_bytes 0) out.old out.new }
 {
     out[o] = 0;
     out[o + 1] = 0;
@@ -36,7 +36,7 @@ fn put_last(out: &mut [u8], o: usize)
 // A triangle with the corners a, b and c is written to `out` from place o on; its normal is zero.
 fn put_facet(positions: &[f32], a: u32, b: u32, c: u32, out: &mut [u8], o: usize)
     requires inside { Inside positions.now a b c }
-    requires facet_bytes_in_bounds { o + facetBytes ≤ length out.old }
+    requires facet_bytes_in_bounds { o + facet_bytes ≤ length out.old }
     ensures { Appended o (facet (corners 3 positions.now (record { a = a; b = b; c = c }))) out.old out.new }
 {
     put_words(out, o, 0, 0, 0);
@@ -49,8 +49,8 @@ fn put_facet(positions: &[f32], a: u32, b: u32, c: u32, out: &mut [u8], o: usize
 // Triangle t is written to `out`, behind the head of the file and the triangles before it.
 pub fn put_triangle(positions: &[f32], indices: &[u32], t: usize, out: &mut [u8])
     requires writable { Writable positions.now indices.now out.old }
-    requires t_bound { t < triangleCount indices.now }
-    ensures { Appended (headBytes + facetBytes * t) (facet (corners 3 positions.now (triangleAt indices.now t)))
+    requires t_bound { t < triangle_count indices.now }
+    ensures { Appended (head_bytes + facet_bytes * t) (facet (corners 3 positions.now (triangle_at indices.now t)))
         out.old out.new }
 {
     let k = 3 * t;

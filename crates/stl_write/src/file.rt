@@ -3,13 +3,13 @@
 ghost use Rattle.std.specs.Prelude.{◌≡◌, ◌++◌, ◌≤◌, length, replicate};
 ghost use Rattle.lists.specs.Lists.{written};
 ghost use Rattle.slice_append.specs.Appended.{Appended};
-ghost use Rattle.stl_definition.specs.Answers.{leftWritten};
+ghost use Rattle.stl_definition.specs.Answers.{left_written};
 ghost use Rattle.stl_definition.specs.Bytes.{word};
-ghost use Rattle.stl_definition.specs.CallLaws.{fileLeft};
-ghost use Rattle.stl_definition.specs.File.{fileOf, headBytes, headerBytes, triangleCount};
+ghost use Rattle.stl_definition.specs.CallLaws.{file_left};
+ghost use Rattle.stl_definition.specs.File.{file_of, head_bytes, header_bytes, triangle_count};
 ghost use Rattle.stl_definition.specs.Promises.{ReadsBack};
-ghost use Rattle.stl_definition.specs.StepLaws.{facetsFront};
-ghost use Rattle.stl_definition.specs.Write.{inTwo, writeOf};
+ghost use Rattle.stl_definition.specs.StepLaws.{facets_front};
+ghost use Rattle.stl_definition.specs.Write.{in_two, write_of};
 ghost use Rattle.stl_write.specs.Ready.{Checked, Writable, fitted};
 
 use crate::bytes::{clear_bytes, put_word};
@@ -22,8 +22,8 @@ const FILE_TOO_LONG: u32 = 71;
 
 // The header, which is zero, and the count are written to the front of `out`.
 fn put_head(out: &mut [u8], count: u32)
-    requires { headBytes ≤ length out.old }
-    ensures { Appended 0 (replicate headerBytes 0 ++ word count) out.old out.new }
+    requires { head_bytes ≤ length out.old }
+    ensures { Appended 0 (replicate header_bytes 0 ++ word count) out.old out.new }
 {
     clear_bytes(out, HEADER_BYTES);
     put_word(out, HEADER_BYTES, count);
@@ -32,7 +32,7 @@ fn put_head(out: &mut [u8], count: u32)
 // The triangles are written to `out` behind the head of the file, in mesh order.
 fn put_facets(positions: &[f32], indices: &[u32], out: &mut [u8])
     requires { Writable positions.now indices.now out.old }
-    ensures { Appended headBytes (facetsFront 3 positions.now indices.now (triangleCount indices.now))
+    ensures { Appended head_bytes (facets_front 3 positions.now indices.now (triangle_count indices.now))
         out.old out.new }
 {
     let n = indices.len() / 3;
@@ -46,7 +46,7 @@ fn put_facets(positions: &[f32], indices: &[u32], out: &mut [u8])
 // The file of a mesh is written to the front of `out`.
 fn put_file(positions: &[f32], indices: &[u32], out: &mut [u8])
     requires { Writable positions.now indices.now out.old }
-    ensures { out.new ≡ written (fileOf 3 positions.now indices.now) out.old }
+    ensures { out.new ≡ written (file_of 3 positions.now indices.now) out.old }
 {
     put_head(out, (indices.len() / 3) as u32);
     put_facets(positions, indices, out);
@@ -55,7 +55,7 @@ fn put_file(positions: &[f32], indices: &[u32], out: &mut [u8])
 // The file of a mesh that was checked is written to the front of a slice that has room for it.
 fn write_checked(positions: &[f32], indices: &[u32], out: &mut [u8]) -> StlWritten
     requires { Checked positions.now indices.now }
-    ensures { leftWritten result out.new ≡ fitted positions.now indices.now out.old }
+    ensures { left_written result out.new ≡ fitted positions.now indices.now out.old }
 {
     let length = HEAD_BYTES + FACET_BYTES * (indices.len() / 3);
     if out.len() < length {
@@ -67,10 +67,10 @@ fn write_checked(positions: &[f32], indices: &[u32], out: &mut [u8]) -> StlWritt
 
 // The file of a mesh is written to the front of a slice, and reads back; a refusal leaves the slice as it was.
 pub fn write_stl(positions: &[f32], normals: &[f32], indices: &[u32], out: &mut [u8]) -> StlWritten
-    ensures out_after { leftWritten result out.new
-        ≡ writeOf (inTwo positions.now normals.now) indices.now out.old }
-    ensures reads_back { (leftWritten result out.new).refusal ≡ 0 → ReadsBack positions.now normals.now indices.now
-        (fileLeft (leftWritten result out.new)) }
+    ensures out_after { left_written result out.new
+        ≡ write_of (in_two positions.now normals.now) indices.now out.old }
+    ensures reads_back { (left_written result out.new).refusal ≡ 0 → ReadsBack positions.now normals.now indices.now
+        (file_left (left_written result out.new)) }
 {
     let n = lone_failing(positions, normals, indices);
     if n != 0 {

@@ -7,46 +7,46 @@ use lib.ListN.{length}
 use lib.Ieee.{Float}
 use borrow.Author.Tests.{eq-eqb, ne_eqb}
 use Rattle.point_rules.specs.Points.{key}
-use Rattle.body_rows.specs.Body.{firstFailing}
-use Rattle.body_refusals.specs.BodyChecks.{bodyChecks}
+use Rattle.body_rows.specs.Body.{first_failing}
+use Rattle.body_refusals.specs.BodyChecks.{body_checks}
 use Rattle.body_checks.specs.Accepted.{Passed, passed}
 use Rattle.turn_definition.specs.declared.TurnCounts.{TurnCounts}
 use Rattle.turn_definition.specs.declared.Turned.TheVariants.{Done, Refused}
-use Rattle.turn_definition.specs.Orient.{refuseTurn, turn_of}
-use Rattle.turn_definition.specs.Answers.{left, leftDone, answered, turnDone}
+use Rattle.turn_definition.specs.Orient.{refuse_turn, turn_of}
+use Rattle.turn_definition.specs.Answers.{left, left_done, answered, turn_done}
 use Rattle.turn_volume_rule.specs.Exact.{F32s}
 use Rattle.turn_volume_rule.specs.VolumeRule.{KeepsVolume}
-use Rattle.turn_volume_rule.specs.Rule.{volume-kept}
+use Rattle.turn_volume_rule.specs.Rule.{volume_kept}
 
-module _ (table : List ℕ) (ps ns : List Float) (is W : List ℕ) {refusal : ℕ} (f : refusal ≡ firstFailing (bodyChecks table ps ns is (length W))) where
+module _ (table : List ℕ) (ps ns : List Float) (is W : List ℕ) {refusal : ℕ} (f : refusal ≡ first_failing (body_checks table ps ns is (length W))) where
   -- a body that no check refuses has passed them
-  pub body-passed : refusal ≡ 0 → Passed table ps ns is (length W)
-  body-passed e = passed table ps ns is (length W) (sym f ∙ e)
+  pub body_passed : refusal ≡ 0 → Passed table ps ns is (length W)
+  body_passed e = passed table ps ns is (length W) (sym f ∙ e)
 
   -- the definition turns such a body
-  turn-done : refusal ≡ 0 → turn_of key table ps ns is W ≡ turnDone table ps ns is W
+  turn_done_lem : refusal ≡ 0 → turn_of key table ps ns is W ≡ turn_done table ps ns is W
   unfolding turn_of
-  turn-done e = rw (eq-eqb (firstFailing (bodyChecks table ps ns is (length W))) 0 (sym f ∙ e), turn_of)
+  turn_done_lem e = rw (eq-eqb (first_failing (body_checks table ps ns is (length W))) 0 (sym f ∙ e), turn_of)
 
   -- and refuses any other
-  turn-refused : (refusal ≡ 0 → ⊥) → turn_of key table ps ns is W ≡ refuseTurn (firstFailing (bodyChecks table ps ns is (length W))) ns is W
+  turn_refused : (refusal ≡ 0 → ⊥) → turn_of key table ps ns is W ≡ refuse_turn (first_failing (body_checks table ps ns is (length W))) ns is W
   unfolding turn_of
-  turn-refused e = rw (ne_eqb (firstFailing (bodyChecks table ps ns is (length W))) 0 (λ q. e (f ∙ q)), turn_of)
+  turn_refused e = rw (ne_eqb (first_failing (body_checks table ps ns is (length W))) 0 (λ q. e (f ∙ q)), turn_of)
 
   -- such a body is turned
-  pub call-done : {c : TurnCounts} {ns' : List Float} {is' W' : List ℕ} → refusal ≡ 0 → leftDone c ns' is' W' ≡ turnDone table ps ns is W
+  pub call_done : {c : TurnCounts} {ns' : List Float} {is' W' : List ℕ} → refusal ≡ 0 → left_done c ns' is' W' ≡ turn_done table ps ns is W
       → left (Done c) ns' is' W' ≡ answered (turn_of key table ps ns is W)
-  call-done e t = ap answered (t ∙ sym (turn-done e))
+  call_done e t = ap answered (t ∙ sym (turn_done_lem e))
 
   -- and keeps the volume rule
-  pub call_kept : {c : TurnCounts} {ns' : List Float} {is' W' : List ℕ} → F32s ps → refusal ≡ 0 → leftDone c ns' is' W' ≡ turnDone table ps ns is W
+  pub call_kept : {c : TurnCounts} {ns' : List Float} {is' W' : List ℕ} → F32s ps → refusal ≡ 0 → left_done c ns' is' W' ≡ turn_done table ps ns is W
       → KeepsVolume key table ps ns is ns' is'
-  call_kept {c} {ns'} {is'} {W'} k e t = volume-kept key table ps ns is W (leftDone c ns' is' W') k (t ∙ sym (turn-done e)) refl
+  call_kept {c} {ns'} {is'} {W'} k e t = volume_kept key table ps ns is W (left_done c ns' is' W') k (t ∙ sym (turn_done_lem e)) refl
 
   -- any other is refused
-  pub call-refused : (refusal ≡ 0 → ⊥) → left (Refused refusal) ns is W ≡ answered (turn_of key table ps ns is W)
-  unfolding refuseTurn
-  call-refused e =
+  pub call_refused : (refusal ≡ 0 → ⊥) → left (Refused refusal) ns is W ≡ answered (turn_of key table ps ns is W)
+  unfolding refuse_turn
+  call_refused e =
       ap (λ (b : Bool). left (elim b [ true ↦ Done (record { turned = 0; against = 0 }) | false ↦ Refused refusal ]) ns is W) (sym (ne_eqb refusal 0 e))
-      ∙ ap (λ (k : ℕ). answered (refuseTurn k ns is W)) f
-      ∙ ap answered (sym (turn-refused e))
+      ∙ ap (λ (k : ℕ). answered (refuse_turn k ns is W)) f
+      ∙ ap answered (sym (turn_refused e))

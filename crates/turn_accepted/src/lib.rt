@@ -2,7 +2,7 @@
 
 ghost use Rattle.std.specs.Prelude.{◌≡◌, length};
 ghost use Rattle.body_checks.specs.Accepted.{Passed};
-ghost use Rattle.turn_definition.specs.Answers.{leftDone, turnDone};
+ghost use Rattle.turn_definition.specs.Answers.{left_done, turn_done};
 
 use join_definition::JOIN_WORDS;
 use turn_definition::TurnCounts;
@@ -17,8 +17,8 @@ pub fn turn_accepted(
     work: &mut [u64],
 ) -> TurnCounts
     requires { Passed rows.now positions.now normals.old indices.old (length work.old) }
-    ensures { leftDone result normals.new indices.new work.new
-        ≡ turnDone rows.now positions.now normals.old indices.old work.old }
+    ensures { left_done result normals.new indices.new work.new
+        ≡ turn_done rows.now positions.now normals.old indices.old work.old }
 {
     let v = body_rows::total_vertices(rows);
     let m = body_rows::row_count(rows);

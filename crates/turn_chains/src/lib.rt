@@ -2,7 +2,7 @@
 
 ghost use Rattle.std.specs.Prelude.{◌≡◌, ◌+◌, ◌*◌};
 ghost use Rattle.turn_walk.specs.Uses.{far};
-ghost use Rattle.turn_walk.specs.Area.{usesOf};
+ghost use Rattle.turn_walk.specs.Area.{uses_of};
 ghost use Rattle.turn_walk.specs.Chains.{Chainable, UseAt, PairAt, ChainNext, Chained, linked};
 
 use edge_uses::EQUAL_ENDS;
@@ -20,7 +20,7 @@ fn clear_heads(w: &mut [u64], n: usize, m: usize)
 // The row of the first use of the edge of use `i`.
 pub fn far_row(w: &[u64], n: usize, m: usize, i: usize) -> usize
     requires { UseAt n m i w.now }
-    ensures { result ≡ far (usesOf n w.now) i }
+    ensures { result ≡ far (uses_of n w.now) i }
 {
     let first = w[i] as usize;
     w[n + first] as usize

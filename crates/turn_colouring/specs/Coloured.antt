@@ -4,14 +4,14 @@ use Rattle.body_rows.specs.Patches.{shapes}
 use Rattle.point_rules.specs.Rule.{names}
 use Rattle.point_rules.specs.Points.{key}
 use Rattle.join_definition.specs.Join.{joined}
-use Rattle.turn_definition.specs.Orient.{walksOf}
+use Rattle.turn_definition.specs.Orient.{walks_of}
 
 -- where the colours stand in the work area of a body of v vertices, m rows and n indices
-abbrev pub rowColoursAt : ℕ → ℕ → ℕ → ℕ
-rowColoursAt v m n = 4 * v + 6 * m + 6 * n
+abbrev pub row_colours_at : ℕ → ℕ → ℕ → ℕ
+row_colours_at v m n = 4 * v + 6 * m + 6 * n
 
 -- what colouring the rows leaves: the definition's colours and contradictions, and all behind the words that 31 counts as it was
 pub record Coloured (table : List ℕ) (ps : List Float) (is : List ℕ) (v m : ℕ) (W E : List ℕ) (against : ℕ) : Type 0 where
-  pub colours : take m (drop (rowColoursAt v m (length is)) E) ≡ (walksOf (shapes table ps is) (joined (names key ps))).colours
-  pub total : against ≡ (walksOf (shapes table ps is) (joined (names key ps))).against
+  pub colours : take m (drop (row_colours_at v m (length is)) E) ≡ (walks_of (shapes table ps is) (joined (names key ps))).colours
+  pub total : against ≡ (walks_of (shapes table ps is) (joined (names key ps))).against
   pub rest : drop (16 * length is + 16 * m + 4 * v) E ≡ drop (16 * length is + 16 * m + 4 * v) W

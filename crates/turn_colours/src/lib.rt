@@ -2,15 +2,15 @@
 
 ghost use Rattle.std.specs.Prelude.{◌≡◌, ◌+◌, ◌-◌, ◌*◌, ◌<◌, ◌≤◌, length, get_or};
 ghost use Rattle.turn_walk.specs.Walk.{unvisited, opposite};
-ghost use Rattle.turn_walk.specs.Area.{queueAt};
-ghost use Rattle.turn_walk.specs.Group.{RowAt, Uncoloured, Invertible, GroupInverted, coloursOf};
+ghost use Rattle.turn_walk.specs.Area.{queue_at};
+ghost use Rattle.turn_walk.specs.Group.{RowAt, Uncoloured, Invertible, GroupInverted, colours_of};
 
 use turn_walk::{BOTH_COLOURS, COLOURS, UNVISITED, USE_REGIONS};
 
 // The colour of row `x`: 0 if no walk has met it, 1 if it stays as it is, 2 if it is reversed.
 pub fn colour(w: &[u64], n: usize, m: usize, x: usize) -> u64
     requires { RowAt n m x w.now }
-    ensures { result ≡ get_or (coloursOf n m w.now) x unvisited }
+    ensures { result ≡ get_or (colours_of n m w.now) x unvisited }
 {
     let colours = USE_REGIONS * n + COLOURS * m;
     w[colours + x]
@@ -19,7 +19,7 @@ pub fn colour(w: &[u64], n: usize, m: usize, x: usize) -> u64
 // Row `k` of the queue.
 pub fn queued(w: &[u64], n: usize, m: usize, k: usize) -> usize
     requires { RowAt n m k w.now }
-    ensures { result ≡ get_or w.now (queueAt n m + k) 0 }
+    ensures { result ≡ get_or w.now (queue_at n m + k) 0 }
 {
     let queue = USE_REGIONS * n + m;
     w[queue + k] as usize

@@ -7,18 +7,18 @@ use Rattle.body_rows.specs.Body.{rows_of, patches_of}
 use Rattle.turn_definition.specs.declared.TurnCounts.{TurnCounts}
 use Rattle.turn_definition.specs.declared.Turned.{Turned}
 use Rattle.turn_definition.specs.declared.Turned.TheVariants.{Done, Refused}
-use Rattle.turn_definition.specs.Orient.{AfterTurn, walksOf, turnBody}
+use Rattle.turn_definition.specs.Orient.{AfterTurn, walks_of, turn_body}
 
 -- ---- an accepted body
 
 -- an accepted body turned, by the definition
-abbrev pub turnDone : List ℕ → List Float → List Float → List ℕ → List ℕ → AfterTurn
-turnDone table ps ns is work =
-    turnBody (rows_of table) (patches_of (rows_of table) ps ns is) (walksOf (patches_of (rows_of table) ps ns is) (joined (names key ps))) work
+abbrev pub turn_done : List ℕ → List Float → List Float → List ℕ → List ℕ → AfterTurn
+turn_done table ps ns is work =
+    turn_body (rows_of table) (patches_of (rows_of table) ps ns is) (walks_of (patches_of (rows_of table) ps ns is) (joined (names key ps))) work
 
 -- the counts, and what the lent slices hold
-abbrev pub leftDone : TurnCounts → List Float → List ℕ → List ℕ → AfterTurn
-leftDone c ns is work = record { refusal = 0; turned = c.turned; against = c.against; normals = ns; indices = is; work = work }
+abbrev pub left_done : TurnCounts → List Float → List ℕ → List ℕ → AfterTurn
+left_done c ns is work = record { refusal = 0; turned = c.turned; against = c.against; normals = ns; indices = is; work = work }
 
 -- ---- the call
 

@@ -4,21 +4,21 @@ use Rattle.lists.specs.Lists.{all}
 use Rattle.lists.specs.Table.{Case, case, agrees}
 use Rattle.float_steps.specs.Floats.{bits32}
 use Rattle.point_rules.specs.Points.{key}
-use Rattle.body_rows.specs.Given.{Given, at, below, row, triangle, triangleIn, givenTable, givenPositions, givenIndices, K6-reversed, K7}
+use Rattle.body_rows.specs.Given.{Given, at, below, row, triangle, triangle_in, given_table, given_positions, given_indices, K6-reversed, K7}
 use Rattle.turn_definition.specs.Orient.{AfterTurn, turn_of}
 use Rattle.turn_definition.specs.Evaluation.{evaluation}
 
 -- a body turned, its normals being its positions once more
-unfoldable pub turnGiven : List Given → AfterTurn
-turnGiven gs = turn_of key (givenTable gs) (givenPositions gs) (givenPositions gs) (givenIndices gs) (replicate 999 7)
+unfoldable pub turn_given : List Given → AfterTurn
+turn_given gs = turn_of key (given_table gs) (given_positions gs) (given_positions gs) (given_indices gs) (replicate 999 7)
 
 -- turned, against, and the indices left
 turned : List Given → List ℕ
-turned gs = let t = turnGiven gs in t.turned ∷ t.against ∷ t.indices
+turned gs = let t = turn_given gs in t.turned ∷ t.against ∷ t.indices
 
 -- the bits of the first normals left
 normals : ℕ → List Given → List ℕ
-normals n gs = take n (map bits32 (turnGiven gs).normals)
+normals n gs = take n (map bits32 (turn_given gs).normals)
 
 -- four rows that use one edge, all the same way: each later one is paired with row 0, and not with the row before it
 pinwheel : List Given
@@ -41,7 +41,7 @@ möbius =
 
 -- two flat rows that run the same way along an edge, in one shell or in two
 flat : ℕ → ℕ → List Given
-flat r s = triangleIn r 0 (at 0 0 0) (at 2 0 0) (at 0 2 0) ∷ triangleIn s 1 (at 0 0 0) (at 2 0 0) (below 0 2 0) ∷ []
+flat r s = triangle_in r 0 (at 0 0 0) (at 2 0 0) (at 0 2 0) ∷ triangle_in s 1 (at 0 0 0) (at 2 0 0) (below 0 2 0) ∷ []
 
 -- two flat rows that agree
 agreeing : List Given
@@ -79,6 +79,6 @@ claims =
     ∷ []
 
 -- The definitions yield each.
-pub claims-hold : T (all agrees claims)
-unfolding evaluation turnGiven turned normals pinwheel möbius flat agreeing weighed apart claims
-claims-hold = tt
+pub claims_hold : T (all agrees claims)
+unfolding evaluation turn_given turned normals pinwheel möbius flat agreeing weighed apart claims
+claims_hold = tt

@@ -13,20 +13,20 @@ swapped (a ∷ b ∷ []) = a ∷ b ∷ []
 swapped (a ∷ b ∷ c ∷ is) = a ∷ c ∷ b ∷ swapped is
 
 -- as many as before
-pub length-swapped : (is : List ℕ) → length (swapped is) ≡ length is
+pub length_swapped : (is : List ℕ) → length (swapped is) ≡ length is
 unfolding swapped
-length-swapped [] = refl
-length-swapped (a ∷ []) = refl
-length-swapped (a ∷ b ∷ []) = refl
-length-swapped (a ∷ b ∷ c ∷ is) = let h = length-swapped is in omega arith
+length_swapped [] = refl
+length_swapped (a ∷ []) = refl
+length_swapped (a ∷ b ∷ []) = refl
+length_swapped (a ∷ b ∷ c ∷ is) = let h = length_swapped is in omega arith
 
 -- A coloured row has corners 1 and 2 of each triangle swapped and its normals negated, those of unused vertices too.
-unfoldable pub turnedPatch : ℕ → Patch → Patch
-turnedPatch c p =
+unfoldable pub turned_patch : ℕ → Patch → Patch
+turned_patch c p =
     cond (eqb c coloured) (record { row = p.row; positions = p.positions; normals = map neg p.normals; indices = swapped p.indices }) p
 
 -- each patch by its row's colour
-unfoldable pub turnedBody : List ℕ → List Patch → List Patch
-turnedBody [] ps = ps
-turnedBody (c ∷ cs) [] = []
-turnedBody (c ∷ cs) (p ∷ ps) = turnedPatch c p ∷ turnedBody cs ps
+unfoldable pub turned_body : List ℕ → List Patch → List Patch
+turned_body [] ps = ps
+turned_body (c ∷ cs) [] = []
+turned_body (c ∷ cs) (p ∷ ps) = turned_patch c p ∷ turned_body cs ps

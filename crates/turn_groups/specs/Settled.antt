@@ -3,9 +3,9 @@ use Rattle.std.specs.Prelude.{◌≡◌, cond, List, [], ℕ, ◌+◌, ◌*◌, 
 use Rattle.body_rows.specs.Patches.{shapes}
 use Rattle.patch_geometry.specs.Geometry.{zero64}
 use Rattle.turn_walk.specs.Walk.{inverted}
-use Rattle.turn_walk.specs.Area.{queueAt, coloursAt, areaEnd, WrittenBetween}
-use Rattle.turn_walk.specs.Group.{queueOf, coloursOf, Colours, Rooted, walkFrom}
-use Rattle.turn_definition.specs.Inversion.{volumeFrom, inverts}
+use Rattle.turn_walk.specs.Area.{queue_at, colours_at, area_end, WrittenBetween}
+use Rattle.turn_walk.specs.Group.{queue_of, colours_of, Colours, Rooted, walk_from}
+use Rattle.turn_definition.specs.Inversion.{volume_from, inverts}
 use Rattle.turn_definition.specs.Groups.{add_group}
 use Rattle.turn_inversion.specs.Measured.{Measurable, GroupMeasurable}
 
@@ -16,11 +16,11 @@ pub record Judgeable (table : List ℕ) (ps : List Float) (is W : List ℕ) (n m
 
 -- what it leaves: the group's colours inverted if V says so; only colours were written
 pub record Judged (table : List ℕ) (ps : List Float) (is : List ℕ) (n m t : ℕ) (W E : List ℕ) : Type 0 where
-  pub colours : coloursOf n m E
-      ≡ cond (inverts (shapes table ps is) (coloursOf n m W) (queueOf n m t W) (volumeFrom (shapes table ps is) (coloursOf n m W) zero64 (queueOf n m t W)))
-      (inverted (queueOf n m t W) (coloursOf n m W)) (coloursOf n m W)
+  pub colours : colours_of n m E
+      ≡ cond (inverts (shapes table ps is) (colours_of n m W) (queue_of n m t W) (volume_from (shapes table ps is) (colours_of n m W) zero64 (queue_of n m t W)))
+      (inverted (queue_of n m t W) (colours_of n m W)) (colours_of n m W)
   pub known : Colours n m E
-  pub within : WrittenBetween (coloursAt n m) (areaEnd n m) W E
+  pub within : WrittenBetween (colours_at n m) (area_end n m) W E
 
 -- what settling the group of a root asks
 pub record Settleable (table : List ℕ) (ps : List Float) (is W : List ℕ) (n m root a : ℕ) : Type 0 where
@@ -29,8 +29,8 @@ pub record Settleable (table : List ℕ) (ps : List Float) (is W : List ℕ) (n 
 
 -- what it leaves: the definition's colours and contradictions; only queue and colours were written
 pub record Settled (table : List ℕ) (ps : List Float) (is : List ℕ) (n m root a : ℕ) (W E : List ℕ) (against : ℕ) : Type 0 where
-  pub colours : coloursOf n m E ≡ (add_group (shapes table ps is) [] (walkFrom n m root a W)).colours
-  pub total : against ≡ (walkFrom n m root a W).against
+  pub colours : colours_of n m E ≡ (add_group (shapes table ps is) [] (walk_from n m root a W)).colours
+  pub total : against ≡ (walk_from n m root a W).against
   pub known : Colours n m E
   pub few : against ≤ a + m * n
-  pub within : WrittenBetween (queueAt n m) (areaEnd n m) W E
+  pub within : WrittenBetween (queue_at n m) (area_end n m) W E

@@ -3,11 +3,11 @@
 ghost use Rattle.std.specs.Prelude.{◌≡◌};
 ghost use Rattle.body_rows.specs.Patches.{shapes};
 ghost use Rattle.lists.specs.Lists.{sum_of};
-ghost use Rattle.patch_measures.specs.Volume.{patchVolume};
+ghost use Rattle.patch_measures.specs.Volume.{patch_volume};
 ghost use Rattle.patch_geometry.specs.Geometry.{zero64};
-ghost use Rattle.turn_walk.specs.Group.{queueOf, coloursOf};
-ghost use Rattle.turn_definition.specs.Inversion.{patchAt, volumeFrom, inverts};
-ghost use Rattle.turn_inversion.specs.Measured.{RowMeasurable, GroupMeasurable, weightOf, RowWeighable, GroupWeighable};
+ghost use Rattle.turn_walk.specs.Group.{queue_of, colours_of};
+ghost use Rattle.turn_definition.specs.Inversion.{patch_at, volume_from, inverts};
+ghost use Rattle.turn_inversion.specs.Measured.{RowMeasurable, GroupMeasurable, weight_of, RowWeighable, GroupWeighable};
 
 use turn_walk::{COLOURED, INDEX_BASES, PLAIN, USE_REGIONS, VERTEX_BASES};
 
@@ -23,8 +23,8 @@ fn row_volume(
     flip: bool,
 ) -> f64
     requires { RowMeasurable rows.now positions.now indices.now w.now n m x }
-    ensures { result ≡ patchVolume (patchAt (shapes rows.now positions.now indices.now) x).positions
-        (patchAt (shapes rows.now positions.now indices.now) x).indices flip }
+    ensures { result ≡ patch_volume (patch_at (shapes rows.now positions.now indices.now) x).positions
+        (patch_at (shapes rows.now positions.now indices.now) x).indices flip }
 {
     let v = 3 * w[USE_REGIONS * n + VERTEX_BASES * m + x] as usize;
     let vend = v + 3 * body_rows::vertices(rows, x) as usize;
@@ -44,8 +44,8 @@ pub fn group_volume(
     t: usize,
 ) -> f64
     requires { GroupMeasurable rows.now positions.now indices.now w.now n m t }
-    ensures { result ≡ volumeFrom (shapes rows.now positions.now indices.now) (coloursOf n m w.now) zero64
-        (queueOf n m t w.now) }
+    ensures { result ≡ volume_from (shapes rows.now positions.now indices.now) (colours_of n m w.now) zero64
+        (queue_of n m t w.now) }
 {
     let mut v = 0.0f64;
     let mut k = 0usize;
@@ -61,7 +61,7 @@ pub fn group_volume(
 // The indices of row x if its colour is c, else 0.
 fn weight(rows: &[u32], w: &[u64], n: usize, m: usize, x: usize, c: u64) -> u32
     requires { RowWeighable rows.now w.now n m x }
-    ensures { result ≡ weightOf rows.now (coloursOf n m w.now) c x }
+    ensures { result ≡ weight_of rows.now (colours_of n m w.now) c x }
 {
     if turn_colours::colour(w, n, m, x) == c {
         return body_rows::indices(rows, x);
@@ -72,7 +72,7 @@ fn weight(rows: &[u32], w: &[u64], n: usize, m: usize, x: usize, c: u64) -> u32
 // How many indices the rows of colour c among the first t of the queue hold.
 fn weigh(rows: &[u32], w: &[u64], n: usize, m: usize, t: usize, c: u64) -> u64
     requires { GroupWeighable rows.now w.now n m t }
-    ensures { result ≡ sum_of (weightOf rows.now (coloursOf n m w.now) c) (queueOf n m t w.now) }
+    ensures { result ≡ sum_of (weight_of rows.now (colours_of n m w.now) c) (queue_of n m t w.now) }
 {
     let mut sum = 0u64;
     let mut k = 0usize;
@@ -95,10 +95,10 @@ pub fn inverts_group(
     t: usize,
 ) -> bool
     requires { GroupMeasurable rows.now positions.now indices.now w.now n m t }
-    ensures { result ≡ inverts (shapes rows.now positions.now indices.now) (coloursOf n m w.now)
-        (queueOf n m t w.now)
-        (volumeFrom (shapes rows.now positions.now indices.now) (coloursOf n m w.now) zero64
-        (queueOf n m t w.now)) }
+    ensures { result ≡ inverts (shapes rows.now positions.now indices.now) (colours_of n m w.now)
+        (queue_of n m t w.now)
+        (volume_from (shapes rows.now positions.now indices.now) (colours_of n m w.now) zero64
+        (queue_of n m t w.now)) }
 {
     let v = group_volume(rows, positions, indices, w, n, m, t);
     if v < 0.0 {

@@ -5,8 +5,8 @@
 ghost use Rattle.std.specs.Prelude.{◌≡◌, cond, ◌-◌};
 ghost use Rattle.turn_walk.specs.Walk.{opposite};
 ghost use Rattle.turn_walk.specs.Uses.{agrees, across};
-ghost use Rattle.turn_walk.specs.Area.{usesOf};
-ghost use Rattle.turn_walk.specs.Chains.{UseAt, LinkAt, linkFrom};
+ghost use Rattle.turn_walk.specs.Area.{uses_of};
+ghost use Rattle.turn_walk.specs.Chains.{UseAt, LinkAt, link_from};
 ghost use Rattle.turn_walk.specs.Group.{WantAt};
 
 use turn_chains::far_row;
@@ -16,7 +16,7 @@ use turn_walk::{FAR_LINKS, OWN_LINKS, RUNS};
 // The colour that a row of colour `c` wants across the pair of use `i`: its own if the two uses run oppositely.
 pub fn wanted(w: &[u64], n: usize, m: usize, i: usize, c: u64) -> u64
     requires { WantAt n m i c w.now }
-    ensures { result ≡ cond (agrees (usesOf n w.now) i) c (opposite c) }
+    ensures { result ≡ cond (agrees (uses_of n w.now) i) c (opposite c) }
 {
     let runs = RUNS * n;
     let first = w[i] as usize;
@@ -29,7 +29,7 @@ pub fn wanted(w: &[u64], n: usize, m: usize, i: usize, c: u64) -> u64
 // The row to which the pair of use `i` leads from row `x`.
 pub fn other_row(w: &[u64], n: usize, m: usize, x: usize, i: usize) -> usize
     requires { UseAt n m i w.now }
-    ensures { result ≡ (across (usesOf n w.now) x i).row }
+    ensures { result ≡ (across (uses_of n w.now) x i).row }
 {
     let a = w[n + i] as usize;
     if a == x {
@@ -41,7 +41,7 @@ pub fn other_row(w: &[u64], n: usize, m: usize, x: usize, i: usize) -> usize
 // The link after `p` in the chain of row `x`.
 pub fn next_link(w: &[u64], n: usize, m: usize, x: usize, p: usize) -> usize
     requires { LinkAt n m x p w.now }
-    ensures { result ≡ linkFrom (usesOf n w.now) x p (n - p) }
+    ensures { result ≡ link_from (uses_of n w.now) x p (n - p) }
 {
     let i = p - 1;
     let a = w[n + i] as usize;

@@ -7,18 +7,18 @@ use lib.ListN.{length, get_or, set, take, drop, length-set, length-drop, take-ap
 use lib.Seq.{sets, sets-eq, take-add, set-get_or, length-take-le}
 use borrow.Author.Tests.{eq-eqb, ne_eqb}
 use lib.Ieee.{Float, nan, neg}
-use Rattle.lists.specs.Sets.{getD-sets-beyond, sets-append, three-stored}
-use Rattle.lists.specs.Stretches.{stretch-more}
-use Rattle.turn_definition.specs.Reversal.{swapped, length-swapped}
+use Rattle.lists.specs.Sets.{get_d_sets_beyond, sets_append, three_stored}
+use Rattle.lists.specs.Stretches.{stretch_more}
+use Rattle.turn_definition.specs.Reversal.{swapped, length_swapped}
 use Rattle.turn_reversal.specs.Reversed.{Triangles, Stretch, RowStretches, RowReversed}
 
 -- the stretch from `from` up to k, and the item at k
-stretch-to : {A : Type 0} (xs : List A) (from k : ℕ) (d : A) → from ≤ k → k < length xs → take (k + 1 - from) (drop from xs) ≡ take (k - from) (drop from xs) ++ get_or xs k d ∷ []
-stretch-to xs from k d l h =
+stretch_to : {A : Type 0} (xs : List A) (from k : ℕ) (d : A) → from ≤ k → k < length xs → take (k + 1 - from) (drop from xs) ≡ take (k - from) (drop from xs) ++ get_or xs k d ∷ []
+stretch_to xs from k d l h =
     let e : k + 1 - from ≡ k - from + 1 = omega arith in
     let q : from + (k - from) ≡ k = omega arith in
     ap (λ n. take n (drop from xs)) e
-    ∙ stretch-more xs from (k - from) d (omega arith)
+    ∙ stretch_more xs from (k - from) d (omega arith)
     ∙ ap (λ n. take (k - from) (drop from xs) ++ get_or xs n d ∷ []) q
 
 -- `negate` with the numbers before k negated: N became w
@@ -28,17 +28,17 @@ pub record Negating (N : List Float) (from to k : ℕ) (w : List Float) : Type 0
   pub list : w ≡ sets N from (map neg (take (k - from) (drop from N)))
   pub long : length w ≡ length N
 
-pub negating-none : {N : List Float} {from to : ℕ} → Stretch N from to → Negating N from to from N
-negating-none {N} {from} {to} s =
+pub negating_none : {N : List Float} {from to : ℕ} → Stretch N from to → Negating N from to from N
+negating_none {N} {from} {to} s =
     let e : 0 ≡ from - from = omega arith in
     record { low = omega arith; high = s.ordered; list = ap (λ n. sets N from (map neg (take n (drop from N)))) e; long = refl }
 
-pub negating-more : {N w : List Float} {from to k : ℕ} → Stretch N from to → Negating N from to k w → k < to → Negating N from to (k + 1) (set w k (neg (get_or w k nan)))
-negating-more {N} {w} {from} {to} {k} s n h =
+pub negating_more : {N w : List Float} {from to k : ℕ} → Stretch N from to → Negating N from to k w → k < to → Negating N from to (k + 1) (set w k (neg (get_or w k nan)))
+negating_more {N} {w} {from} {to} {k} s n h =
     let xs = take (k - from) (drop from N) in
     let l : length xs ≡ k - from = length-take-le (k - from) (drop from N) (omega (arith, length-drop from N, s.inside, n.low)) in
     let at : from + length (map neg xs) ≡ k = omega (arith, l, length-map xs neg, n.low) in
-    let x : get_or w k nan ≡ get_or N k nan = ap (λ v. get_or v k nan) n.list ∙ getD-sets-beyond N from (map neg xs) k nan (omega (arith, at)) in
+    let x : get_or w k nan ≡ get_or N k nan = ap (λ v. get_or v k nan) n.list ∙ get_d_sets_beyond N from (map neg xs) k nan (omega (arith, at)) in
     record {
       low = omega (arith, n.low);
       high = omega arith;
@@ -46,25 +46,25 @@ negating-more {N} {w} {from} {to} {k} s n h =
           ap (λ y. set w k (neg y)) x
           ∙ ap (λ v. set v k (neg (get_or N k nan))) n.list
           ∙ ap (λ m. sets (sets N from (map neg xs)) m (neg (get_or N k nan) ∷ [])) (sym at)
-          ∙ sym (sets-append N from (map neg xs) (neg (get_or N k nan) ∷ []))
-          ∙ ap (sets N from) (sym (map-append neg xs (get_or N k nan ∷ [])) ∙ ap (map neg) (sym (stretch-to N from k nan n.low (omega (arith, s.inside)))));
+          ∙ sym (sets_append N from (map neg xs) (neg (get_or N k nan) ∷ []))
+          ∙ ap (sets N from) (sym (map-append neg xs (get_or N k nan ∷ [])) ∙ ap (map neg) (sym (stretch_to N from k nan n.low (omega (arith, s.inside)))));
       long = simp length-set n.long;
     }
 
-pub negating-all : {N w : List Float} {from to k : ℕ} → Negating N from to k w → to ≤ k → w ≡ sets N from (map neg (take (to - from) (drop from N)))
-negating-all {N} {w} {from} {to} {k} n h =
+pub negating_all : {N w : List Float} {from to k : ℕ} → Negating N from to k w → to ≤ k → w ≡ sets N from (map neg (take (to - from) (drop from N)))
+negating_all {N} {w} {from} {to} {k} n h =
     let e : k - from ≡ to - from = omega (arith, n.high) in
     n.list ∙ ap (λ m. sets N from (map neg (take m (drop from N)))) e
 
 -- ---- corners
 
 -- whole triangles, and one more
-swapped-more : (is : List ℕ) (a b c : ℕ) → length is % 3 ≡ 0 → swapped (is ++ a ∷ b ∷ c ∷ []) ≡ swapped is ++ a ∷ c ∷ b ∷ []
+swapped_more : (is : List ℕ) (a b c : ℕ) → length is % 3 ≡ 0 → swapped (is ++ a ∷ b ∷ c ∷ []) ≡ swapped is ++ a ∷ c ∷ b ∷ []
 unfolding swapped
-swapped-more [] a b c e = refl
-swapped-more (x ∷ []) a b c e = absurd (omega arith)
-swapped-more (x ∷ y ∷ []) a b c e = absurd (omega arith)
-swapped-more (x ∷ y ∷ z ∷ is) a b c e = ap (λ l. x ∷ z ∷ y ∷ l) (swapped-more is a b c (omega arith))
+swapped_more [] a b c e = refl
+swapped_more (x ∷ []) a b c e = absurd (omega arith)
+swapped_more (x ∷ y ∷ []) a b c e = absurd (omega arith)
+swapped_more (x ∷ y ∷ z ∷ is) a b c e = ap (λ l. x ∷ z ∷ y ∷ l) (swapped_more is a b c (omega arith))
 
 -- `swap_corners` with the triangles before index k done: N became w
 pub record Swapping (N : List ℕ) (from to k : ℕ) (w : List ℕ) : Type 0 where
@@ -75,9 +75,9 @@ pub record Swapping (N : List ℕ) (from to k : ℕ) (w : List ℕ) : Type 0 whe
   pub list : w ≡ sets N from (swapped (take (k - from) (drop from N)))
   pub long : length w ≡ length N
 
-pub swapping-none : {N : List ℕ} {from to : ℕ} → Triangles N from to → Swapping N from to from N
+pub swapping_none : {N : List ℕ} {from to : ℕ} → Triangles N from to → Swapping N from to from N
 unfolding swapped
-swapping-none {N} {from} {to} t =
+swapping_none {N} {from} {to} t =
     let e : 0 ≡ from - from = omega arith in
     record { low = omega arith; high = t.ordered; before = omega arith; after = t.whole; list = ap (λ n. sets N from (swapped (take n (drop from N)))) e; long = refl }
 
@@ -85,15 +85,15 @@ module _ {N w : List ℕ} {from to k : ℕ} (t : Triangles N from to) (s : Swapp
   pub three : k + 3 ≤ length w
   three = omega (arith, s.after, t.inside, s.long)
 
-  pub swapping-more : Swapping N from to (k + 3) (set (set w (k + 1) (get_or w (k + 2) 0)) (k + 2) (get_or w (k + 1) 0))
-  swapping-more =
+  pub swapping_more : Swapping N from to (k + 3) (set (set w (k + 1) (get_or w (k + 2) 0)) (k + 2) (get_or w (k + 1) 0))
+  swapping_more =
       record {
         low = omega (arith, s.low);
         high = omega (arith, s.after);
         before = omega (arith, s.before, s.low);
         after = omega (arith, s.after);
-        list = stored ∙ ap (λ v. sets v k (a ∷ c ∷ b ∷ [])) s.list ∙ ap (λ m. sets (sets N from (swapped xs)) m (a ∷ c ∷ b ∷ [])) (sym at) ∙ sym (sets-append N from (swapped xs) (a ∷ c ∷ b ∷ []))
-            ∙ ap (sets N from) (sym (swapped-more xs a b c whole) ∙ ap swapped (sym next));
+        list = stored ∙ ap (λ v. sets v k (a ∷ c ∷ b ∷ [])) s.list ∙ ap (λ m. sets (sets N from (swapped xs)) m (a ∷ c ∷ b ∷ [])) (sym at) ∙ sym (sets_append N from (swapped xs) (a ∷ c ∷ b ∷ []))
+            ∙ ap (sets N from) (sym (swapped_more xs a b c whole) ∙ ap swapped (sym next));
         long = simp length-set s.long;
       }
     where
@@ -116,17 +116,17 @@ module _ {N w : List ℕ} {from to k : ℕ} (t : Triangles N from to) (s : Swapp
       whole = ap (λ n. n % 3) l ∙ s.before
 
       at : from + length (swapped xs) ≡ k
-      at = omega (arith, l, length-swapped xs, s.low)
+      at = omega (arith, l, length_swapped xs, s.low)
 
       read : (j : ℕ) → k ≤ j → get_or w j 0 ≡ get_or N j 0
-      read j h = ap (λ v. get_or v j 0) s.list ∙ getD-sets-beyond N from (swapped xs) j 0 (omega (arith, at))
+      read j h = ap (λ v. get_or v j 0) s.list ∙ get_d_sets_beyond N from (swapped xs) j 0 (omega (arith, at))
 
       stored : set (set w (k + 1) (get_or w (k + 2) 0)) (k + 2) (get_or w (k + 1) 0) ≡ sets w k (a ∷ c ∷ b ∷ [])
       stored =
           ap (λ x. set (set w (k + 1) x) (k + 2) (get_or w (k + 1) 0)) (read (k + 2) (omega arith))
           ∙ ap (λ x. set (set w (k + 1) c) (k + 2) x) (read (k + 1) (omega arith))
           ∙ ap (λ v. set (set v (k + 1) c) (k + 2) b) (sym (set-get_or w k 0) ∙ ap (set w k) (read k (omega arith)))
-          ∙ three-stored w k a c b
+          ∙ three_stored w k a c b
 
       next : take (k + 3 - from) (drop from N) ≡ xs ++ a ∷ b ∷ c ∷ []
       next =
@@ -134,15 +134,15 @@ module _ {N w : List ℕ} {from to k : ℕ} (t : Triangles N from to) (s : Swapp
           let p : k + 1 + 1 ≡ k + 2 = omega arith in
           let q : k + 2 + 1 ≡ k + 3 = omega arith in
           ap (λ n. take (n - from) (drop from N)) (sym q)
-          ∙ stretch-to N from (k + 2) 0 (omega (arith, s.low)) i
+          ∙ stretch_to N from (k + 2) 0 (omega (arith, s.low)) i
           ∙ ap (λ n. take (n - from) (drop from N) ++ c ∷ []) (sym p)
-          ∙ ap (λ v. v ++ c ∷ []) (stretch-to N from (k + 1) 0 (omega (arith, s.low)) (omega arith))
-          ∙ ap (λ v. (v ++ b ∷ []) ++ c ∷ []) (stretch-to N from k 0 s.low (omega arith))
+          ∙ ap (λ v. v ++ c ∷ []) (stretch_to N from (k + 1) 0 (omega (arith, s.low)) (omega arith))
+          ∙ ap (λ v. (v ++ b ∷ []) ++ c ∷ []) (stretch_to N from k 0 s.low (omega arith))
           ∙ append_assoc (xs ++ a ∷ []) (b ∷ []) (c ∷ [])
           ∙ append_assoc xs (a ∷ []) (b ∷ c ∷ [])
 
-pub swapping-all : {N w : List ℕ} {from to k : ℕ} → Swapping N from to k w → to ≤ k → w ≡ sets N from (swapped (take (to - from) (drop from N)))
-swapping-all {N} {w} {from} {to} {k} s h =
+pub swapping_all : {N w : List ℕ} {from to k : ℕ} → Swapping N from to k w → to ≤ k → w ≡ sets N from (swapped (take (to - from) (drop from N)))
+swapping_all {N} {w} {from} {to} {k} s h =
     let e : k - from ≡ to - from = omega (arith, s.high) in
     s.list ∙ ap (λ m. sets N from (swapped (take m (drop from N)))) e
 
@@ -167,10 +167,10 @@ row_kept {c} {v} {vend} {i} {iend} {ns} {is} s n =
       count = rw b;
     }
 
-pub row-turned : {c v vend i iend : ℕ} {ns ns' : List Float} {is is' : List ℕ} → c ≡ 2
+pub row_turned : {c v vend i iend : ℕ} {ns ns' : List Float} {is is' : List ℕ} → c ≡ 2
     → is' ≡ sets is i (swapped (take (iend - i) (drop i is))) → ns' ≡ sets ns v (map neg (take (vend - v) (drop v ns)))
     → RowReversed c v vend i iend ns is ns' is' 1
-row-turned {c} {v} {vend} {i} {iend} {ns} {ns'} {is} {is'} e ei en =
+row_turned {c} {v} {vend} {i} {iend} {ns} {ns'} {is} {is'} e ei en =
     let a = eq-eqb c 2 e in
     let b = eq-eqb 2 c (sym e) in
     record { normals = rw a en; indices = rw a ei; count = rw b }

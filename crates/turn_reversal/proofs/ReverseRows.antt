@@ -8,14 +8,14 @@ use lib.ListN.{length, get_or, take, drop, length-append, length-drop, drop_of_l
 use lib.Seq.{sets, sets-eq, length-sets, drop-cons, drop-drop, get_or-take, get_or-drop, take_at, drop_at, drop-append-add, length-take-le}
 use lib.Dec.{eqb}
 use lib.Ieee.{Float, neg}
-use Rattle.lists.specs.Lists.{countIf, sum_of}
-use Rattle.lists.specs.Any.{sum-front}
-use Rattle.body_rows.specs.Body.{Row, rows_of, allVertices, allIndices}
-use Rattle.body_rows.specs.Rows.{no_row, rowAt, verticesBefore, indicesBefore}
-use Rattle.body_rows.specs.Patches.{vertices-next, indices-next}
+use Rattle.lists.specs.Lists.{count_if, sum_of}
+use Rattle.lists.specs.Any.{sum_front}
+use Rattle.body_rows.specs.Body.{Row, rows_of, all_vertices, all_indices}
+use Rattle.body_rows.specs.Rows.{no_row, row_at, vertices_before, indices_before}
+use Rattle.body_rows.specs.Patches.{vertices_next, indices_next}
 use Rattle.turn_walk.specs.Walk.{coloured}
-use Rattle.turn_definition.specs.Reversal.{swapped, length-swapped}
-use Rattle.turn_reversal.specs.Reversed.{changed, changedRows, coordinates, indexCount, RowStretches, RowReversed, Reversible, Reversed}
+use Rattle.turn_definition.specs.Reversal.{swapped, length_swapped}
+use Rattle.turn_reversal.specs.Reversed.{changed, changed_rows, coordinates, index_count, RowStretches, RowReversed, Reversible, Reversed}
 
 -- ---- one slice, whatever its items
 
@@ -24,14 +24,14 @@ pub record Changing {A : Type 0} (f : List A → List A) (size : Row → ℕ) (c
   pub done : List A
   pub count : length done ≡ from
   pub list : xs ≡ done ++ drop from X
-  pub rest : done ++ changedRows f size (drop k cs) (drop k rows) (drop from X) ≡ changedRows f size cs rows X
+  pub rest : done ++ changed_rows f size (drop k cs) (drop k rows) (drop from X) ≡ changed_rows f size cs rows X
 
-pub changing-none : {A : Type 0} (f : List A → List A) (size : Row → ℕ) (cs : List ℕ) (rows : List Row) (X : List A) → Changing f size cs rows X 0 0 X
-changing-none f size cs rows X = record { done = []; count = refl; list = refl; rest = refl }
+pub changing_none : {A : Type 0} (f : List A → List A) (size : Row → ℕ) (cs : List ℕ) (rows : List Row) (X : List A) → Changing f size cs rows X 0 0 X
+changing_none f size cs rows X = record { done = []; count = refl; list = refl; rest = refl }
 
 -- a change of a stretch keeps its length
-changed-long : {A : Type 0} (f : List A → List A) → ((ys : List A) → length (f ys) ≡ length ys) → (c : ℕ) (ys : List A) → length (changed f c ys) ≡ length ys
-changed-long f l c ys = go (eqb c coloured)
+changed_long : {A : Type 0} (f : List A → List A) → ((ys : List A) → length (f ys) ≡ length ys) → (c : ℕ) (ys : List A) → length (changed f c ys) ≡ length ys
+changed_long f l c ys = go (eqb c coloured)
   where
     go : (b : Bool) → length (cond b (f ys) ys) ≡ length ys
     go true = l ys
@@ -40,148 +40,148 @@ changed-long f l c ys = go (eqb c coloured)
 module _ {A : Type 0} {f : List A → List A} {size : Row → ℕ} {cs : List ℕ} {rows : List Row} {X xs : List A} {k from : ℕ} (keeps : (ys : List A) → length (f ys) ≡ length ys)
     (h : Changing f size cs rows X k from xs) where
   -- what is not yet changed is as it was
-  drop-same : drop from xs ≡ drop from X
-  drop-same = ap (drop from) h.list ∙ drop_at h.done (drop from X) from h.count
+  drop_same : drop from xs ≡ drop from X
+  drop_same = ap (drop from) h.list ∙ drop_at h.done (drop from X) from h.count
 
-  pub changing-more : {n c : ℕ} {r : Row} {ys : List A} → c ∷ drop (k + 1) cs ≡ drop k cs → r ∷ drop (k + 1) rows ≡ drop k rows → size r ≡ n → from + n ≤ length X
+  pub changing_more : {n c : ℕ} {r : Row} {ys : List A} → c ∷ drop (k + 1) cs ≡ drop k cs → r ∷ drop (k + 1) rows ≡ drop k rows → size r ≡ n → from + n ≤ length X
       → ys ≡ sets xs from (changed f c (take n (drop from xs))) → Changing f size cs rows X (k + 1) (from + n) ys
-  unfolding changedRows
-  changing-more {n} {c} {r} {ys} ec er en room e =
+  unfolding changed_rows
+  changing_more {n} {c} {r} {ys} ec er en room e =
       record {
         done = h.done ++ new;
-        count = omega (arith, h.count, length-append h.done new, new-long);
+        count = omega (arith, h.count, length-append h.done new, new_long);
         list =
             e
-            ∙ ap (λ v. sets xs from (changed f c (take n v))) drop-same
+            ∙ ap (λ v. sets xs from (changed f c (take n v))) drop_same
             ∙ ap (λ v. sets v from new) h.list
             ∙ stored
             ∙ sym (append_assoc h.done new (drop (from + n) X));
         rest =
-            append_assoc h.done new (changedRows f size (drop (k + 1) cs) (drop (k + 1) rows) (drop (from + n) X))
-            ∙ ap (λ v. h.done ++ (new ++ changedRows f size (drop (k + 1) cs) (drop (k + 1) rows) v)) (sym (drop-drop n from X))
-            ∙ ap (λ m. h.done ++ (changed f c (take m (drop from X)) ++ changedRows f size (drop (k + 1) cs) (drop (k + 1) rows) (drop m (drop from X)))) (sym en)
-            ∙ ap (λ v. h.done ++ changedRows f size (c ∷ drop (k + 1) cs) v (drop from X)) er
-            ∙ ap (λ v. h.done ++ changedRows f size v (drop k rows) (drop from X)) ec
+            append_assoc h.done new (changed_rows f size (drop (k + 1) cs) (drop (k + 1) rows) (drop (from + n) X))
+            ∙ ap (λ v. h.done ++ (new ++ changed_rows f size (drop (k + 1) cs) (drop (k + 1) rows) v)) (sym (drop-drop n from X))
+            ∙ ap (λ m. h.done ++ (changed f c (take m (drop from X)) ++ changed_rows f size (drop (k + 1) cs) (drop (k + 1) rows) (drop m (drop from X)))) (sym en)
+            ∙ ap (λ v. h.done ++ changed_rows f size (c ∷ drop (k + 1) cs) v (drop from X)) er
+            ∙ ap (λ v. h.done ++ changed_rows f size v (drop k rows) (drop from X)) ec
             ∙ h.rest;
       }
     where
       new : List A
       new = changed f c (take n (drop from X))
 
-      new-long : length new ≡ n
-      new-long = changed-long f keeps c (take n (drop from X)) ∙ length-take-le n (drop from X) (omega (arith, length-drop from X))
+      new_long : length new ≡ n
+      new_long = changed_long f keeps c (take n (drop from X)) ∙ length-take-le n (drop from X) (omega (arith, length-drop from X))
 
       long : length (h.done ++ drop from X) ≡ length X
       long = let l : from ≤ length X = omega arith in length-append h.done (drop from X) ∙ omega (arith, h.count, length-drop from X)
 
       stored : sets (h.done ++ drop from X) from new ≡ h.done ++ (new ++ drop (from + n) X)
       stored =
-          sets-eq new (h.done ++ drop from X) from (omega (arith, new-long, long))
+          sets-eq new (h.done ++ drop from X) from (omega (arith, new_long, long))
           ∙ ap (λ v. v ++ new ++ drop (from + length new) (h.done ++ drop from X)) (take_at h.done (drop from X) from h.count)
           ∙ ap (λ m. h.done ++ new ++ drop (m + length new) (h.done ++ drop from X)) (sym h.count)
-          ∙ ap (λ v. h.done ++ new ++ v) (drop-append-add h.done (drop from X) (length new) ∙ ap (λ m. drop m (drop from X)) new-long ∙ drop-drop n from X)
+          ∙ ap (λ v. h.done ++ new ++ v) (drop-append-add h.done (drop from X) (length new) ∙ ap (λ m. drop m (drop from X)) new_long ∙ drop-drop n from X)
           ∙ append_assoc h.done new (drop (from + n) X)
 
-pub changing-all : {A : Type 0} {f : List A → List A} {size : Row → ℕ} {cs : List ℕ} {rows : List Row} {X xs : List A} {k from : ℕ} → Changing f size cs rows X k from xs → length cs ≤ k
-    → xs ≡ changedRows f size cs rows X
-unfolding changedRows
-changing-all {A} {f} {size} {cs} {rows} {X} {xs} {k} {from} h l =
-    h.list ∙ ap (λ v. h.done ++ changedRows f size v (drop k rows) (drop from X)) (sym (drop_of_length-le cs l)) ∙ h.rest
+pub changing_all : {A : Type 0} {f : List A → List A} {size : Row → ℕ} {cs : List ℕ} {rows : List Row} {X xs : List A} {k from : ℕ} → Changing f size cs rows X k from xs → length cs ≤ k
+    → xs ≡ changed_rows f size cs rows X
+unfolding changed_rows
+changing_all {A} {f} {size} {cs} {rows} {X} {xs} {k} {from} h l =
+    h.list ∙ ap (λ v. h.done ++ changed_rows f size v (drop k rows) (drop from X)) (sym (drop_of_length-le cs l)) ∙ h.rest
 
 -- ---- both slices
 
 -- the colours of the rows
-abbrev pub coloursIn : List ℕ → List ℕ → ℕ → List ℕ
-coloursIn table W colours = take (length (rows_of table)) (drop colours W)
+abbrev pub colours_in : List ℕ → List ℕ → ℕ → List ℕ
+colours_in table W colours = take (length (rows_of table)) (drop colours W)
 
 -- `reverse_rows` with the rows before row k done
 pub record Reversing (table W : List ℕ) (colours : ℕ) (N : List Float) (I : List ℕ) (k v i turned : ℕ) (ns : List Float) (is : List ℕ) : Type 0 where
   pub low : k ≤ length (rows_of table)
-  pub at-v : v ≡ 3 * verticesBefore (rows_of table) k
-  pub at_i : i ≡ indicesBefore (rows_of table) k
-  pub normals : Changing (map neg) coordinates (coloursIn table W colours) (rows_of table) N k v ns
-  pub indices : Changing swapped indexCount (coloursIn table W colours) (rows_of table) I k i is
-  pub count : turned + countIf (eqb coloured) (drop k (coloursIn table W colours)) ≡ countIf (eqb coloured) (coloursIn table W colours)
+  pub at_v : v ≡ 3 * vertices_before (rows_of table) k
+  pub at_i : i ≡ indices_before (rows_of table) k
+  pub normals : Changing (map neg) coordinates (colours_in table W colours) (rows_of table) N k v ns
+  pub indices : Changing swapped index_count (colours_in table W colours) (rows_of table) I k i is
+  pub count : turned + count_if (eqb coloured) (drop k (colours_in table W colours)) ≡ count_if (eqb coloured) (colours_in table W colours)
   pub few : turned ≤ k
-  pub long-normals : length ns ≡ length N
-  pub long-indices : length is ≡ length I
+  pub long_normals : length ns ≡ length N
+  pub long_indices : length is ≡ length I
 
-pub reversing-none : (table W : List ℕ) (colours : ℕ) (N : List Float) (I : List ℕ) → Reversing table W colours N I 0 0 0 0 N I
-unfolding verticesBefore indicesBefore allVertices allIndices sum_of
-reversing-none table W colours N I =
+pub reversing_none : (table W : List ℕ) (colours : ℕ) (N : List Float) (I : List ℕ) → Reversing table W colours N I 0 0 0 0 N I
+unfolding vertices_before indices_before all_vertices all_indices sum_of
+reversing_none table W colours N I =
     record {
       low = omega arith;
-      at-v = refl;
+      at_v = refl;
       at_i = refl;
-      normals = changing-none (map neg) coordinates (coloursIn table W colours) (rows_of table) N;
-      indices = changing-none swapped indexCount (coloursIn table W colours) (rows_of table) I;
+      normals = changing_none (map neg) coordinates (colours_in table W colours) (rows_of table) N;
+      indices = changing_none swapped index_count (colours_in table W colours) (rows_of table) I;
       count = omega arith;
       few = omega arith;
-      long-normals = refl;
-      long-indices = refl;
+      long_normals = refl;
+      long_indices = refl;
     }
 
 module _ {table W : List ℕ} {colours : ℕ} {N : List Float} {I : List ℕ} {k v i turned : ℕ} {ns : List Float} {is : List ℕ} (r : Reversible table N I W colours)
     (h : Reversing table W colours N I k v i turned ns is) (more : k < length (rows_of table)) where
-  vertices-front : verticesBefore (rows_of table) (k + 1) ≤ allVertices (rows_of table)
-  unfolding verticesBefore allVertices
-  vertices-front = sum-front (λ r. r.vertices) (rows_of table) (k + 1)
+  vertices_front : vertices_before (rows_of table) (k + 1) ≤ all_vertices (rows_of table)
+  unfolding vertices_before all_vertices
+  vertices_front = sum_front (λ r. r.vertices) (rows_of table) (k + 1)
 
-  indices-front : indicesBefore (rows_of table) (k + 1) ≤ allIndices (rows_of table)
-  unfolding indicesBefore allIndices
-  indices-front = sum-front (λ r. r.indices) (rows_of table) (k + 1)
+  indices_front : indices_before (rows_of table) (k + 1) ≤ all_indices (rows_of table)
+  unfolding indices_before all_indices
+  indices_front = sum_front (λ r. r.indices) (rows_of table) (k + 1)
 
-  pub normals-end : v + 3 * (rowAt table k).vertices ≤ length N
-  normals-end = omega (arith, h.at-v, vertices-next table k more, vertices-front, r.all-normals)
+  pub normals_end : v + 3 * (row_at table k).vertices ≤ length N
+  normals_end = omega (arith, h.at_v, vertices_next table k more, vertices_front, r.all_normals)
 
-  pub indices-end : i + (rowAt table k).indices ≤ length I
-  indices-end = omega (arith, h.at_i, indices-next table k more, indices-front, r.all-indices)
+  pub indices_end : i + (row_at table k).indices ≤ length I
+  indices_end = omega (arith, h.at_i, indices_next table k more, indices_front, r.all_indices_lem)
 
-  row_here : rowAt table k ∷ drop (k + 1) (rows_of table) ≡ drop k (rows_of table)
-  unfolding rowAt
+  row_here : row_at table k ∷ drop (k + 1) (rows_of table) ≡ drop k (rows_of table)
+  unfolding row_at
   row_here = let e : suc k ≡ k + 1 = omega arith in sym (drop-cons (rows_of table) k no_row more ∙ ap (λ n. get_or (rows_of table) k no_row ∷ drop n (rows_of table)) e)
 
-  colours-long : length (coloursIn table W colours) ≡ length (rows_of table)
-  colours-long = length-take-le (length (rows_of table)) (drop colours W) (omega (arith, length-drop colours W, r.room))
+  colours_long : length (colours_in table W colours) ≡ length (rows_of table)
+  colours_long = length-take-le (length (rows_of table)) (drop colours W) (omega (arith, length-drop colours W, r.room))
 
-  colour-here : {c : ℕ} → c ≡ get_or W (colours + k) 0 → c ∷ drop (k + 1) (coloursIn table W colours) ≡ drop k (coloursIn table W colours)
-  colour-here {c} e =
+  colour_here : {c : ℕ} → c ≡ get_or W (colours + k) 0 → c ∷ drop (k + 1) (colours_in table W colours) ≡ drop k (colours_in table W colours)
+  colour_here {c} e =
       let f : suc k ≡ k + 1 = omega arith in
-      let q : get_or (coloursIn table W colours) k 0 ≡ c = get_or-take (length (rows_of table)) (drop colours W) k 0 more ∙ get_or-drop colours W k 0 ∙ sym e in
+      let q : get_or (colours_in table W colours) k 0 ≡ c = get_or-take (length (rows_of table)) (drop colours W) k 0 more ∙ get_or-drop colours W k 0 ∙ sym e in
       sym
-      (drop-cons (coloursIn table W colours) k 0 (omega (arith, colours-long))
-      ∙ ap (λ n. get_or (coloursIn table W colours) k 0 ∷ drop n (coloursIn table W colours)) f
-      ∙ ap (λ x. x ∷ drop (k + 1) (coloursIn table W colours)) q)
+      (drop-cons (colours_in table W colours) k 0 (omega (arith, colours_long))
+      ∙ ap (λ n. get_or (colours_in table W colours) k 0 ∷ drop n (colours_in table W colours)) f
+      ∙ ap (λ x. x ∷ drop (k + 1) (colours_in table W colours)) q)
 
-  pub row-stretches : {vend iend : ℕ} → vend ≡ v + 3 * (rowAt table k).vertices → iend ≡ i + (rowAt table k).indices → RowStretches ns is v vend i iend
-  row-stretches {vend} {iend} ev ei =
-      let c : iend - i ≡ (rowAt table k).indices = omega arith in
+  pub row_stretches : {vend iend : ℕ} → vend ≡ v + 3 * (row_at table k).vertices → iend ≡ i + (row_at table k).indices → RowStretches ns is v vend i iend
+  row_stretches {vend} {iend} ev ei =
+      let c : iend - i ≡ (row_at table k).indices = omega arith in
       record {
-        normals = record { ordered = omega arith; inside = omega (arith, normals-end, h.long-normals) };
-        indices = record { ordered = omega arith; whole = ap (λ n. n % 3) c ∙ r.threes k more; inside = omega (arith, indices-end, h.long-indices) };
+        normals = record { ordered = omega arith; inside = omega (arith, normals_end, h.long_normals) };
+        indices = record { ordered = omega arith; whole = ap (λ n. n % 3) c ∙ r.threes k more; inside = omega (arith, indices_end, h.long_indices) };
       }
 
-  pub reversing-more : {vend iend c t : ℕ} {ns' : List Float} {is' : List ℕ} → vend ≡ v + 3 * (rowAt table k).vertices → iend ≡ i + (rowAt table k).indices → c ≡ get_or W (colours + k) 0
+  pub reversing_more : {vend iend c t : ℕ} {ns' : List Float} {is' : List ℕ} → vend ≡ v + 3 * (row_at table k).vertices → iend ≡ i + (row_at table k).indices → c ≡ get_or W (colours + k) 0
       → RowReversed c v vend i iend ns is ns' is' t → Reversing table W colours N I (k + 1) vend iend (turned + t) ns' is'
-  unfolding countIf
-  reversing-more {vend} {iend} {c} {t} {ns'} {is'} ev ei ec q =
-      let a : vend - v ≡ 3 * (rowAt table k).vertices = omega arith in
-      let b : iend - i ≡ (rowAt table k).indices = omega arith in
+  unfolding count_if
+  reversing_more {vend} {iend} {c} {t} {ns'} {is'} ev ei ec q =
+      let a : vend - v ≡ 3 * (row_at table k).vertices = omega arith in
+      let b : iend - i ≡ (row_at table k).indices = omega arith in
       let one = go (eqb coloured c) in
       record {
         low = omega arith;
-        at-v = omega (arith, h.at-v, vertices-next table k more);
-        at_i = omega (arith, h.at_i, indices-next table k more);
+        at_v = omega (arith, h.at_v, vertices_next table k more);
+        at_i = omega (arith, h.at_i, indices_next table k more);
         normals =
-            subst (λ n. Changing (map neg) coordinates (coloursIn table W colours) (rows_of table) N (k + 1) n ns') (sym ev)
-            (changing-more (λ ys. length-map ys neg) h.normals (colour-here ec) row_here refl normals-end (q.normals ∙ ap (λ n. sets ns v (changed (map neg) c (take n (drop v ns)))) a));
+            subst (λ n. Changing (map neg) coordinates (colours_in table W colours) (rows_of table) N (k + 1) n ns') (sym ev)
+            (changing_more (λ ys. length-map ys neg) h.normals (colour_here ec) row_here refl normals_end (q.normals ∙ ap (λ n. sets ns v (changed (map neg) c (take n (drop v ns)))) a));
         indices =
-            subst (λ n. Changing swapped indexCount (coloursIn table W colours) (rows_of table) I (k + 1) n is') (sym ei)
-            (changing-more length-swapped h.indices (colour-here ec) row_here refl indices-end (q.indices ∙ ap (λ n. sets is i (changed swapped c (take n (drop i is)))) b));
-        count = omega (arith, h.count, q.count, one (countIf (eqb coloured) (drop (k + 1) (coloursIn table W colours))), ap (countIf (eqb coloured)) (sym (colour-here ec)));
+            subst (λ n. Changing swapped index_count (colours_in table W colours) (rows_of table) I (k + 1) n is') (sym ei)
+            (changing_more length_swapped h.indices (colour_here ec) row_here refl indices_end (q.indices ∙ ap (λ n. sets is i (changed swapped c (take n (drop i is)))) b));
+        count = omega (arith, h.count, q.count, one (count_if (eqb coloured) (drop (k + 1) (colours_in table W colours))), ap (count_if (eqb coloured)) (sym (colour_here ec)));
         few = omega (arith, h.few, q.count, small (eqb coloured c));
-        long-normals = ap length q.normals ∙ length-sets ns v (changed (map neg) c (take (vend - v) (drop v ns))) ∙ h.long-normals;
-        long-indices = ap length q.indices ∙ length-sets is i (changed swapped c (take (iend - i) (drop i is))) ∙ h.long-indices;
+        long_normals = ap length q.normals ∙ length-sets ns v (changed (map neg) c (take (vend - v) (drop v ns))) ∙ h.long_normals;
+        long_indices = ap length q.indices ∙ length-sets is i (changed swapped c (take (iend - i) (drop i is))) ∙ h.long_indices;
       }
     where
       go : (b : Bool) (n : ℕ) → cond b (suc n) n ≡ n + cond b 1 0
@@ -192,14 +192,14 @@ module _ {table W : List ℕ} {colours : ℕ} {N : List Float} {I : List ℕ} {k
       small true = omega arith
       small false = omega arith
 
-pub reversing-all : {table W : List ℕ} {colours : ℕ} {N : List Float} {I : List ℕ} {k v i turned : ℕ} {ns : List Float} {is : List ℕ} → Reversible table N I W colours
+pub reversing_all : {table W : List ℕ} {colours : ℕ} {N : List Float} {I : List ℕ} {k v i turned : ℕ} {ns : List Float} {is : List ℕ} → Reversible table N I W colours
     → Reversing table W colours N I k v i turned ns is → length (rows_of table) ≤ k
-    → Reversed (coloursIn table W colours) table N I ns is turned
-unfolding countIf
-reversing-all {table} {W} {colours} {N} {I} {k} {v} {i} {turned} {ns} {is} r h l =
-    let e : length (coloursIn table W colours) ≤ k = omega (arith, length-take-le (length (rows_of table)) (drop colours W) (omega (arith, length-drop colours W, r.room))) in
+    → Reversed (colours_in table W colours) table N I ns is turned
+unfolding count_if
+reversing_all {table} {W} {colours} {N} {I} {k} {v} {i} {turned} {ns} {is} r h l =
+    let e : length (colours_in table W colours) ≤ k = omega (arith, length-take-le (length (rows_of table)) (drop colours W) (omega (arith, length-drop colours W, r.room))) in
     record {
-      normals = changing-all h.normals e;
-      indices = changing-all h.indices e;
-      count = omega (arith, h.count, ap (countIf (eqb coloured)) (drop_of_length-le (coloursIn table W colours) e));
+      normals = changing_all h.normals e;
+      indices = changing_all h.indices e;
+      count = omega (arith, h.count, ap (count_if (eqb coloured)) (drop_of_length-le (colours_in table W colours) e));
     }

@@ -6,14 +6,14 @@ use native.Mathlib.Omega.{arith}
 use native.Mathlib.Nat.{mul-le-mul_right, add-mul, one-mul}
 use lib.ListN.{length, get_or}
 use Rattle.turn_walk.specs.Walk.{Walk, walk}
-use Rattle.turn_walk.specs.Uses.{Uses, pairsBy}
-use Rattle.turn_walk.specs.Area.{WrittenBetween, usesOf}
+use Rattle.turn_walk.specs.Uses.{Uses, pairs_by}
+use Rattle.turn_walk.specs.Area.{WrittenBetween, uses_of}
 use Rattle.turn_walk.specs.Chains.{Paired}
-use Rattle.turn_walk.specs.Group.{walk_of, Rooted, begun, walkFrom, GroupWalked, UnderWay, Stage, VisitAt, visitOf, Started}
+use Rattle.turn_walk.specs.Group.{walk_of, Rooted, begun, walk_from, GroupWalked, UnderWay, Stage, VisitAt, visit_of, Started}
 use Rattle.turn_walk.specs.Frames.{within_none, within_more}
-use Rattle.turn_walk.specs.Links.{pairs-uses, paired-kept}
-use Rattle.turn_walk.specs.Kept.{queue-at, queue_long}
-use Rattle.turn_walk.specs.Steps.{walk_step, walk-stop}
+use Rattle.turn_walk.specs.Links.{pairs_uses, paired_kept}
+use Rattle.turn_walk.specs.Kept.{queue_at, queue_long}
+use Rattle.turn_walk.specs.Steps.{walk_step, walk_stop}
 
 once_more : (k n : ℕ) → (k + 1) * n ≡ k * n + n
 once_more k n = simp (add-mul, one-mul)
@@ -26,19 +26,19 @@ pub record Walking (n m a : ℕ) (W : List ℕ) (s : Walk) (found against k : �
   pub under : UnderWay n m found E
   pub paired : Paired n m E
   pub low : k ≤ found
-  pub goes_on : walk (pairsBy (usesOf n E)) (m - k) k (walk_of n m found against E) ≡ s
+  pub goes_on : walk (pairs_by (uses_of n E)) (m - k) k (walk_of n m found against E) ≡ s
   pub few : against ≤ a + k * n
   pub within : WrittenBetween (5 * n + m) (5 * n + 3 * m) W E
   pub long : length E ≡ length W
 
 -- the group's root is found, and no row is visited
-pub walking-none : {n m root a : ℕ} {W E : List ℕ} → Rooted n m root a W → Started n m root W E → Walking n m a E (walk (pairsBy (usesOf n E)) m 0 (walk_of n m 1 a E)) 1 a 0 E
-walking-none {n} {m} {root} {a} {W} {E} r b =
+pub walking_none : {n m root a : ℕ} {W E : List ℕ} → Rooted n m root a W → Started n m root W E → Walking n m a E (walk (pairs_by (uses_of n E)) m 0 (walk_of n m 1 a E)) 1 a 0 E
+walking_none {n} {m} {root} {a} {W} {E} r b =
     record {
       under = b.under;
       paired = b.paired;
       low = omega arith;
-      goes_on = ap (λ (j : ℕ). walk (pairsBy (usesOf n E)) j 0 (walk_of n m 1 a E)) all;
+      goes_on = ap (λ (j : ℕ). walk (pairs_by (uses_of n E)) j 0 (walk_of n m 1 a E)) all;
       few = omega arith;
       within = within_none (5 * n + m) (5 * n + 3 * m) E;
       long = refl;
@@ -49,8 +49,8 @@ walking-none {n} {m} {root} {a} {W} {E} r b =
 
 module _ {n m a found against k : ℕ} {W E : List ℕ} {s : Walk} (g : Walking n m a W s found against k E) (l : k < found) where
   -- the next row can be visited
-  pub walking-next : {root : ℕ} {W₀ : List ℕ} → Rooted n m root a W₀ → VisitAt n m found against (get_or E (5 * n + m + k) 0) E
-  walking-next r =
+  pub walking_next : {root : ℕ} {W₀ : List ℕ} → Rooted n m root a W₀ → VisitAt n m found against (get_or E (5 * n + m + k) 0) E
+  walking_next r =
       record {
         paired = g.paired;
         under = g.under;
@@ -60,21 +60,21 @@ module _ {n m a found against k : ℕ} {W E : List ℕ} {s : Walk} (g : Walking 
       }
 
   -- and is
-  pub walking-more : {r b : ℕ} {F : List ℕ} → Stage n m found r b (against + n) E F (visitOf n m found against (get_or E (5 * n + m + k) 0) E)
+  pub walking_more : {r b : ℕ} {F : List ℕ} → Stage n m found r b (against + n) E F (visit_of n m found against (get_or E (5 * n + m + k) 0) E)
       → length F ≡ length E → Walking n m a W s r b (k + 1) F
-  walking-more {r} {b} {F} d lf =
+  walking_more {r} {b} {F} d lf =
       record {
         under = d.under;
-        paired = paired-kept g.paired d.within.front lf;
+        paired = paired_kept g.paired d.within.front lf;
         low = omega (arith, d.grew);
         goes_on =
-            ap (λ (u : Uses). walk (pairsBy u) (m - (k + 1)) (k + 1) (walk_of n m r b F)) (pairs-uses n m E F d.within.front)
-            ∙ ap (walk (pairsBy (usesOf n E)) (m - (k + 1)) (k + 1)) d.state
-            ∙ ap (λ (x : ℕ). walk (pairsBy (usesOf n E)) (m - (k + 1)) (k + 1) (visitOf n m found against x E)) (sym (queue-at n m found E k l))
+            ap (λ (u : Uses). walk (pairs_by u) (m - (k + 1)) (k + 1) (walk_of n m r b F)) (pairs_uses n m E F d.within.front)
+            ∙ ap (walk (pairs_by (uses_of n E)) (m - (k + 1)) (k + 1)) d.state
+            ∙ ap (λ (x : ℕ). walk (pairs_by (uses_of n E)) (m - (k + 1)) (k + 1) (visit_of n m found against x E)) (sym (queue_at n m found E k l))
             ∙ sym
-            (walk_step (pairsBy (usesOf n E)) (m - (k + 1)) k (walk_of n m found against E)
+            (walk_step (pairs_by (uses_of n E)) (m - (k + 1)) k (walk_of n m found against E)
             (omega (arith, queue_long n m found E g.under.room g.under.queue.low)))
-            ∙ ap (λ (j : ℕ). walk (pairsBy (usesOf n E)) j k (walk_of n m found against E)) fuel
+            ∙ ap (λ (j : ℕ). walk (pairs_by (uses_of n E)) j k (walk_of n m found against E)) fuel
             ∙ g.goes_on;
         few = omega (arith, g.few, once_more k n, d.few);
         within = within_more g.within d.within;
@@ -85,20 +85,20 @@ module _ {n m a found against k : ℕ} {W E : List ℕ} {s : Walk} (g : Walking 
       fuel = omega (arith, g.under.queue.low)
 
 -- all rows found are visited
-module _ {n m root a found against k : ℕ} {W₀ W E : List ℕ} (b : Started n m root W₀ W) (g : Walking n m a W (walk (pairsBy (usesOf n W)) m 0 (walk_of n m 1 a W)) found against k E)
+module _ {n m root a found against k : ℕ} {W₀ W E : List ℕ} (b : Started n m root W₀ W) (g : Walking n m a W (walk (pairs_by (uses_of n W)) m 0 (walk_of n m 1 a W)) found against k E)
     (l : found ≤ k) where
-  result : walk_of n m found against E ≡ walkFrom n m root a W₀
+  result : walk_of n m found against E ≡ walk_from n m root a W₀
   result =
       sym
-      (walk-stop (pairsBy (usesOf n E)) (m - k) k (walk_of n m found against E)
+      (walk_stop (pairs_by (uses_of n E)) (m - k) k (walk_of n m found against E)
       (omega (arith, queue_long n m found E g.under.room g.under.queue.low)))
       ∙ g.goes_on
-      ∙ ap (walk (pairsBy (usesOf n W)) m 0) (b.state a)
-      ∙ ap (λ (u : Uses). walk (pairsBy u) m 0 (begun n m root a W₀)) (pairs-uses n m W₀ W b.within.front)
+      ∙ ap (walk (pairs_by (uses_of n W)) m 0) (b.state a)
+      ∙ ap (λ (u : Uses). walk (pairs_by u) m 0 (begun n m root a W₀)) (pairs_uses n m W₀ W b.within.front)
 
   -- so it is the walk of the definition
-  pub walking-all : GroupWalked n m root a found against W₀ E
-  walking-all =
+  pub walking_all : GroupWalked n m root a found against W₀ E
+  walking_all =
       record {
         count = sym (queue_long n m found E g.under.room g.under.queue.low) ∙ ap (λ (w : Walk). length w.rows) result;
         rows = ap (λ (w : Walk). w.rows) result;

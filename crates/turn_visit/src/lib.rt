@@ -1,7 +1,7 @@
 // The walk of one group over the chained pairs, in the work area (turn_walk/specs/Area.antt names where each part of it stands).
 
 ghost use Rattle.std.specs.Prelude.{◌+◌};
-ghost use Rattle.turn_walk.specs.Group.{Rooted, GroupWalked, Stage, VisitAt, visitOf};
+ghost use Rattle.turn_walk.specs.Group.{Rooted, GroupWalked, Stage, VisitAt, visit_of};
 
 use turn_meet::{Tally, meet_row, start_group};
 use turn_neighbours::{next_link, other_row, wanted};
@@ -10,7 +10,7 @@ use turn_walk::{COLOURS, USE_REGIONS};
 // The neighbours of row `x` are met, pairs in recorded order.
 fn visit_row(w: &mut [u64], n: usize, m: usize, t: usize, a: u64, x: usize) -> Tally
     requires { VisitAt n m t a x w.old }
-    ensures { Stage n m t result.found result.against (a + n) w.old w.new (visitOf n m t a x w.old) }
+    ensures { Stage n m t result.found result.against (a + n) w.old w.new (visit_of n m t a x w.old) }
 {
     let heads = USE_REGIONS * n;
     let colours = USE_REGIONS * n + COLOURS * m;

@@ -9,32 +9,32 @@ use Rattle.std.specs.Float.{nan, inf, fin, binary32}
 use Rattle.std.specs.Float.Ieee.{fits}
 use Rattle.std.specs.Float.Ieee.Scale as Scale
 use Rattle.float_steps.specs.Floats as Floats
-use Rattle.float_steps.specs.Patterns.{test-holds}
+use Rattle.float_steps.specs.Patterns.{test_holds}
 use Rattle.lists.specs.Lists.{any, sum_of}
 use Rattle.lists.specs.Any.{any_none}
-use Rattle.body_rows.specs.Body.{Row, Patch, rows_of, patches_of, allVertices, allIndices, firstFailing}
-use Rattle.body_refusals.specs.PatchChecks.{badIndices}
-use Rattle.body_patch_checks.specs.PatchTests.{notFinite}
-use Rattle.body_refusals.specs.BodyChecks.{bodyChecks}
-use Rattle.turn_definition.specs.Inversion.{patchAt}
-use Rattle.turn_definition.specs.Orient.{AfterTurn, refuseTurn, turn_of, turnBody, walksOf}
+use Rattle.body_rows.specs.Body.{Row, Patch, rows_of, patches_of, all_vertices, all_indices, first_failing}
+use Rattle.body_refusals.specs.PatchChecks.{bad_indices}
+use Rattle.body_patch_checks.specs.PatchTests.{not_finite}
+use Rattle.body_refusals.specs.BodyChecks.{body_checks}
+use Rattle.turn_definition.specs.Inversion.{patch_at}
+use Rattle.turn_definition.specs.Orient.{AfterTurn, refuse_turn, turn_of, turn_body, walks_of}
 use Rattle.point_rules.specs.Rule.{Rule, names}
 use Rattle.join_definition.specs.Join.{joined}
-use Rattle.turn_volume_rule.specs.Exact.{whole_of, whole_at, largest, largestOf}
+use Rattle.turn_volume_rule.specs.Exact.{whole_of, whole_at, largest, largest_of}
 use Rattle.float_rounding.specs.Tri.{Coord}
-use Rattle.turn_volume_rule.specs.Det.{coord, whole-size, size-under, Corner}
+use Rattle.turn_volume_rule.specs.Det.{coord, whole_size, size_under, Corner}
 use Rattle.turn_volume_rule.specs.Sums.{Corners}
 use Rattle.turn_volume_rule.specs.Pairs.{all_of}
 use Rattle.turn_volume_rule.specs.Sign as Sign
 use Rattle.turn_volume_rule.specs.Sign.{All}
 
 -- a body that turn does not refuse has passed its checks
-pub accepted : (rule : Rule) (table : List ℕ) (ps ns : List Float) (is work : List ℕ) → (turn_of rule table ps ns is work).refusal ≡ 0 → firstFailing (bodyChecks table ps ns is (length work)) ≡ 0
-unfolding turn_of refuseTurn
+pub accepted : (rule : Rule) (table : List ℕ) (ps ns : List Float) (is work : List ℕ) → (turn_of rule table ps ns is work).refusal ≡ 0 → first_failing (body_checks table ps ns is (length work)) ≡ 0
+unfolding turn_of refuse_turn
 accepted rule table ps ns is work h =
-    let n = firstFailing (bodyChecks table ps ns is (length work)) in
+    let n = first_failing (body_checks table ps ns is (length work)) in
     let patches = patches_of (rows_of table) ps ns is in
-    go n (turnBody (rows_of table) patches (walksOf patches (joined (names rule ps))) work) (refuseTurn n ns is work) refl (eqb n 0) (eqb→eq n 0) h
+    go n (turn_body (rows_of table) patches (walks_of patches (joined (names rule ps))) work) (refuse_turn n ns is work) refl (eqb n 0) (eqb→eq n 0) h
   where
     pick : AfterTurn → AfterTurn → Bool → AfterTurn
     pick x y b = elim b [ true ↦ x | false ↦ y ]
@@ -50,31 +50,31 @@ pub record PatchOf (most : ℕ) (p : Patch) : Type 0 where
   pub few : length p.indices ≤ most
   pub fit : (k : ℕ) → k < length p.positions → T (fits binary32 (get_or p.positions k nan))
 
-take-fits : (n : ℕ) (ps : List Float) → ((k : ℕ) → k < length ps → T (fits binary32 (get_or ps k nan))) → n ≤ length ps
+take_fits : (n : ℕ) (ps : List Float) → ((k : ℕ) → k < length ps → T (fits binary32 (get_or ps k nan))) → n ≤ length ps
     → (k : ℕ) → k < length (take n ps) → T (fits binary32 (get_or (take n ps) k nan))
-take-fits n ps f l k h =
+take_fits n ps f l k h =
     let j : k < n = omega (arith, length-take-le n ps l) in
     subst (λ (x : Float). T (fits binary32 x)) (sym (get_or-take n ps k nan j)) (f k (omega arith))
 
-drop-fits : (n : ℕ) (ps : List Float) → ((k : ℕ) → k < length ps → T (fits binary32 (get_or ps k nan)))
+drop_fits : (n : ℕ) (ps : List Float) → ((k : ℕ) → k < length ps → T (fits binary32 (get_or ps k nan)))
     → (k : ℕ) → k < length (drop n ps) → T (fits binary32 (get_or (drop n ps) k nan))
-drop-fits n ps f k h = subst (λ (x : Float). T (fits binary32 x)) (sym (get_or-drop n ps k nan)) (f (n + k) (omega (arith, length-drop n ps)))
+drop_fits n ps f k h = subst (λ (x : Float). T (fits binary32 x)) (sym (get_or-drop n ps k nan)) (f (n + k) (omega (arith, length-drop n ps)))
 
-pub patch-of : (rows : List Row) (ps ns : List Float) (is : List ℕ) (most : ℕ) → ((k : ℕ) → k < length ps → T (fits binary32 (get_or ps k nan))) → 3 * allVertices rows ≤ length ps
-    → allIndices rows ≤ length is → allIndices rows ≤ most
-    → (n : ℕ) → n < length (patches_of rows ps ns is) → PatchOf most (patchAt (patches_of rows ps ns is) n)
-unfolding patches_of patchAt allVertices allIndices sum_of
-patch-of [] ps ns is most f v i m n h = absurd (not-suc-le-zero h)
-patch-of (r ∷ rs) ps ns is most f v i m zero h =
+pub patch_of : (rows : List Row) (ps ns : List Float) (is : List ℕ) (most : ℕ) → ((k : ℕ) → k < length ps → T (fits binary32 (get_or ps k nan))) → 3 * all_vertices rows ≤ length ps
+    → all_indices rows ≤ length is → all_indices rows ≤ most
+    → (n : ℕ) → n < length (patches_of rows ps ns is) → PatchOf most (patch_at (patches_of rows ps ns is) n)
+unfolding patches_of patch_at all_vertices all_indices sum_of
+patch_of [] ps ns is most f v i m n h = absurd (not-suc-le-zero h)
+patch_of (r ∷ rs) ps ns is most f v i m zero h =
     let l : 3 * r.vertices ≤ length ps = omega arith in
     record {
       coordinates = length-take-le (3 * r.vertices) ps l;
       count = length-take-le r.indices is (omega arith);
       few = omega (arith, length-take-le r.indices is (omega arith));
-      fit = take-fits (3 * r.vertices) ps f l;
+      fit = take_fits (3 * r.vertices) ps f l;
     }
-patch-of (r ∷ rs) ps ns is most f v i m (suc n) h =
-    patch-of rs (drop (3 * r.vertices) ps) (drop (3 * r.vertices) ns) (drop r.indices is) most (drop-fits (3 * r.vertices) ps f)
+patch_of (r ∷ rs) ps ns is most f v i m (suc n) h =
+    patch_of rs (drop (3 * r.vertices) ps) (drop (3 * r.vertices) ns) (drop r.indices is) most (drop_fits (3 * r.vertices) ps f)
     (omega (arith, length-drop (3 * r.vertices) ps)) (omega (arith, length-drop r.indices is)) (omega arith) n (le_of_suc-le-suc h)
 
 -- ---- its vertices
@@ -88,20 +88,20 @@ pub record Vertex (ps : List Float) (i : ℕ) : Type 0 where
   pub z : Number (get_or ps (3 * i + 2) nan)
 
 -- the kit's test of a finite value says the same
-finite-is : (x : Float) → Floats.finite x ≡ true → T (Scale.finite x)
+finite_is : (x : Float) → Floats.finite x ≡ true → T (Scale.finite x)
 unfolding Floats.finite
-finite-is nan h = test-holds false h
-finite-is (inf s) h = test-holds false h
-finite-is (fin s m e) h = tt
+finite_is nan h = test_holds false h
+finite_is (inf s) h = test_holds false h
+finite_is (fin s m e) h = tt
 
-module _ (most : ℕ) (p : Patch) (o : PatchOf most p) (inside : badIndices p ≡ false) (numbers : any notFinite (p.positions ++ p.normals) ≡ false) where
+module _ (most : ℕ) (p : Patch) (o : PatchOf most p) (inside : bad_indices p ≡ false) (numbers : any not_finite (p.positions ++ p.normals) ≡ false) where
   number : (k : ℕ) → k < length p.positions → Number (get_or p.positions k nan)
   number k h = record {
     fits = o.fit k h;
-    finite = finite-is (get_or p.positions k nan)
+    finite = finite_is (get_or p.positions k nan)
         (not-false (Floats.finite (get_or p.positions k nan))
-        (subst (λ (x : Float). notFinite x ≡ false) (get_or-append p.positions p.normals nan k h)
-        (any_none notFinite (p.positions ++ p.normals) nan numbers k (omega (arith, length-append p.positions p.normals)))));
+        (subst (λ (x : Float). not_finite x ≡ false) (get_or-append p.positions p.normals nan k h)
+        (any_none not_finite (p.positions ++ p.normals) nan numbers k (omega (arith, length-append p.positions p.normals)))));
   }
 
   vertex : (i : ℕ) → leb p.row.vertices i ≡ false → Vertex p.positions i
@@ -111,34 +111,34 @@ module _ (most : ℕ) (p : Patch) (o : PatchOf most p) (inside : badIndices p �
       record { x = number (3 * i) (omega arith); y = number (3 * i + 1) (omega arith); z = number (3 * i + 2) (omega arith) }
 
   pub vertices : All (Vertex p.positions) p.indices
-  unfolding badIndices
+  unfolding bad_indices
   vertices = all_of p.indices 0 (λ k h. vertex (get_or p.indices k 0) (any_none (λ i. leb p.row.vertices i) p.indices 0 inside k h))
 
 -- ---- the largest coordinate
-number-coord : (M : ℕ) (x : Float) → Number x → nat_abs (whole_of 149 x) ≤ M → Coord M x
-number-coord M x n l = coord M x n.fits n.finite (subst (λ (k : ℕ). k ≤ M) (whole-size x) l)
+number_coord : (M : ℕ) (x : Float) → Number x → nat_abs (whole_of 149 x) ≤ M → Coord M x
+number_coord M x n l = coord M x n.fits n.finite (subst (λ (k : ℕ). k ≤ M) (whole_size x) l)
 
-number-under : (x : Float) → Number x → nat_abs (whole_of 149 x) ≤ 2 ^ 277
-number-under x n = subst (λ (k : ℕ). k ≤ 2 ^ 277) (sym (whole-size x)) (size-under x n.fits n.finite)
+number_under : (x : Float) → Number x → nat_abs (whole_of 149 x) ≤ 2 ^ 277
+number_under x n = subst (λ (k : ℕ). k ≤ 2 ^ 277) (sym (whole_size x)) (size_under x n.fits n.finite)
 
 pub corner : (M : ℕ) (ps : List Float) (i : ℕ) → Vertex ps i → largest (whole_at ps i) ≤ M → Corner M ps i
 unfolding largest whole_at
 corner M ps i c l = record {
-  x = number-coord M (get_or ps (3 * i) nan) c.x (le_trans (le-max_left _ _) l);
-  y = number-coord M (get_or ps (3 * i + 1) nan) c.y (le_trans (le-max_left _ _) (le_trans (le-max_right _ _) l));
-  z = number-coord M (get_or ps (3 * i + 2) nan) c.z (le_trans (le-max_right _ _) (le_trans (le-max_right _ _) l));
+  x = number_coord M (get_or ps (3 * i) nan) c.x (le_trans (le-max_left _ _) l);
+  y = number_coord M (get_or ps (3 * i + 1) nan) c.y (le_trans (le-max_left _ _) (le_trans (le-max_right _ _) l));
+  z = number_coord M (get_or ps (3 * i + 2) nan) c.z (le_trans (le-max_right _ _) (le_trans (le-max_right _ _) l));
 }
 
-pub corner-under : (ps : List Float) (i : ℕ) → Vertex ps i → largest (whole_at ps i) ≤ 2 ^ 277
+pub corner_under : (ps : List Float) (i : ℕ) → Vertex ps i → largest (whole_at ps i) ≤ 2 ^ 277
 unfolding largest whole_at
-corner-under ps i c = max-le (number-under _ c.x) (max-le (number-under _ c.y) (number-under _ c.z))
+corner_under ps i c = max-le (number_under _ c.x) (max-le (number_under _ c.y) (number_under _ c.z))
 
-pub corners : (M : ℕ) (ps : List Float) (is : List ℕ) → All (Vertex ps) is → largestOf ps is ≤ M → Corners M ps is
-unfolding largestOf
+pub corners : (M : ℕ) (ps : List Float) (is : List ℕ) → All (Vertex ps) is → largest_of ps is ≤ M → Corners M ps is
+unfolding largest_of
 corners M ps [] g l = Sign.none
 corners M ps (i ∷ is) (Sign.more c g) l = Sign.more (corner M ps i c (le_trans (le-max_left _ _) l)) (corners M ps is g (le_trans (le-max_right _ _) l))
 
-pub corners-under : (ps : List Float) (is : List ℕ) → All (Vertex ps) is → largestOf ps is ≤ 2 ^ 277
-unfolding largestOf
-corners-under ps [] g = lit≤ tt
-corners-under ps (i ∷ is) (Sign.more c g) = max-le (corner-under ps i c) (corners-under ps is g)
+pub corners_under : (ps : List Float) (is : List ℕ) → All (Vertex ps) is → largest_of ps is ≤ 2 ^ 277
+unfolding largest_of
+corners_under ps [] g = lit≤ tt
+corners_under ps (i ∷ is) (Sign.more c g) = max-le (corner_under ps i c) (corners_under ps is g)

@@ -8,11 +8,11 @@ use Rattle.point_rules.specs.Rule.{names}
 use Rattle.join_definition.specs.Join.{joined}
 use Rattle.point_rules.specs.Points.{key}
 use Rattle.body_rows.specs.Body.{Patch, rows_of, patches_of}
-use Rattle.body_rows.specs.Given.{Given, at, row, triangle, givenTable, givenPositions, givenIndices, K6-reversed}
+use Rattle.body_rows.specs.Given.{Given, at, row, triangle, given_table, given_positions, given_indices, K6-reversed}
 use Rattle.turn_definition.specs.Groups.{Group}
-use Rattle.turn_definition.specs.Orient.{walksOf}
-use Rattle.turn_definition.specs.Claims.{turnGiven}
-use Rattle.turn_volume_rule.specs.Exact.{exactRows, trianglesIn, largestIn, bound, volumeLeft, ruleHolds}
+use Rattle.turn_definition.specs.Orient.{walks_of}
+use Rattle.turn_definition.specs.Claims.{turn_given}
+use Rattle.turn_volume_rule.specs.Exact.{exact_rows, triangles_in, largest_in, bound, volume_left, rule_holds}
 use Rattle.turn_volume_rule.specs.Evaluation.{evaluation}
 
 -- 1 for a number below 0
@@ -22,27 +22,27 @@ sign (negsuc n) = 1
 
 -- a body's patches, before
 before : List Given → List Patch
-before gs = patches_of (rows_of (givenTable gs)) (givenPositions gs) (givenPositions gs) (givenIndices gs)
+before gs = patches_of (rows_of (given_table gs)) (given_positions gs) (given_positions gs) (given_indices gs)
 
 -- and as turn leaves them
 after : List Given → List Patch
-after gs = let t = turnGiven gs in patches_of (rows_of (givenTable gs)) (givenPositions gs) t.normals t.indices
+after gs = let t = turn_given gs in patches_of (rows_of (given_table gs)) (given_positions gs) t.normals t.indices
 
 -- its groups
 groups : List Given → List Group
-groups gs = (walksOf (before gs) (joined (names key (givenPositions gs)))).groups
+groups gs = (walks_of (before gs) (joined (names key (given_positions gs)))).groups
 
 -- each group's rows and colours, the bits of V, T, whether the rule holds
 shape : List Given → List ℕ
-shape gs = flat_map (λ g. g.rows ++ g.colours ++ bits64 g.volume ∷ trianglesIn (before gs) g.rows ∷ cond (ruleHolds (before gs) (after gs) g) 1 0 ∷ []) (groups gs)
+shape gs = flat_map (λ g. g.rows ++ g.colours ++ bits64 g.volume ∷ triangles_in (before gs) g.rows ∷ cond (rule_holds (before gs) (after gs) g) 1 0 ∷ []) (groups gs)
 
 -- M in 2 ^ -149; six times E in (2 ^ -149) ^ 3 with its sign; the bound, and the exact volume left with its sign, in sixths of 2 ^ -1074
 exact : List Given → List ℕ
 exact gs =
     flat_map
     (λ g.
-    let e = exactRows (before gs) g.rows g.colours in
-    largestIn (before gs) g.rows ∷ nat_abs e ∷ sign e ∷ bound (before gs) g ∷ nat_abs (volumeLeft (after gs) g) ∷ sign (volumeLeft (after gs) g) ∷ [])
+    let e = exact_rows (before gs) g.rows g.colours in
+    largest_in (before gs) g.rows ∷ nat_abs e ∷ sign e ∷ bound (before gs) g ∷ nat_abs (volume_left (after gs) g) ∷ sign (volume_left (after gs) g) ∷ [])
     (groups gs)
 
 -- a tetrahedron of edge 2 on two rows, the second of which runs the wrong way, and a flat row apart
@@ -65,6 +65,6 @@ claims =
     ∷ []
 
 -- The definitions yield each.
-pub claims-hold : T (all agrees claims)
-unfolding evaluation turnGiven sign before after groups shape exact K6-reversed two claims
-claims-hold = tt
+pub claims_hold : T (all agrees claims)
+unfolding evaluation turn_given sign before after groups shape exact K6-reversed two claims
+claims_hold = tt

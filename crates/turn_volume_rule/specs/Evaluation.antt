@@ -5,25 +5,25 @@ use Rattle.turn_volume_rule.specs.Exact.{
   whole_of,
   is_whole,
   whole_at,
-  exactDet,
-  exactTriangles,
-  exactRows,
+  exact_det,
+  exact_triangles,
+  exact_rows,
   largest,
-  largestOf,
-  trianglesIn,
-  largestIn,
-  exactVolume,
+  largest_of,
+  triangles_in,
+  largest_in,
+  exact_volume,
   bound,
-  volumeOf,
-  withinBound,
-  exactLeft,
-  volumeLeft,
-  leftOutward,
-  ruleHolds,
+  volume_of,
+  within_bound,
+  exact_left,
+  volume_left,
+  left_outward,
+  rule_holds,
 }
 
 -- every definition that computes
 unfoldable pub evaluation : ℕ
-unfolding Turning.evaluation whole_of is_whole whole_at exactDet exactTriangles exactRows largest largestOf trianglesIn largestIn exactVolume bound volumeOf withinBound exactLeft volumeLeft leftOutward
-    ruleHolds
+unfolding Turning.evaluation whole_of is_whole whole_at exact_det exact_triangles exact_rows largest largest_of triangles_in largest_in exact_volume bound volume_of within_bound exact_left volume_left left_outward
+    rule_holds
 evaluation = 0

@@ -21,7 +21,7 @@ nil : Float
 nil = fin false 0 (pos 0)
 
 -- It is false.
-pub unpremised-false : Unpremised → ⊥
+pub unpremised_false : Unpremised → ⊥
 unfolding evaluation KeepsVolume Unpremised small nil
-unpremised-false rule =
+unpremised_false rule =
     rule key (0 ∷ 0 ∷ 0 ∷ 3 ∷ 3 ∷ 7 ∷ []) (small ∷ nil ∷ nil ∷ nil ∷ small ∷ nil ∷ nil ∷ nil ∷ small ∷ []) (replicate 9 nil) (0 ∷ 1 ∷ 2 ∷ []) (replicate 76 0) refl

@@ -5,80 +5,80 @@ use mathlib.Core.List.{List, [], ◌∷◌, map}
 use Rattle.std.proofs.Math.ListN.{get_or}
 use Rattle.std.proofs.Math.IntN.{*ℤ_comm, neg_ℤ-+ℤ}
 use Rattle.std.specs.Float.Ieee.{neg}
-use Rattle.body_rows.specs.Body.{Patch, Triangle, trianglesOf}
-use Rattle.turn_definition.specs.Inversion.{patchAt}
-use Rattle.turn_definition.specs.Reversal.{swapped, turnedPatch, turnedBody}
+use Rattle.body_rows.specs.Body.{Patch, Triangle, triangles_of}
+use Rattle.turn_definition.specs.Inversion.{patch_at}
+use Rattle.turn_definition.specs.Reversal.{swapped, turned_patch, turned_body}
 use Rattle.turn_walk.specs.Walk.{coloured, unvisited, opposite}
-use Rattle.turn_volume_rule.specs.Exact.{Whole, whole_at, exactDet, exactTriangles, exactRows, exactLeft}
-use Rattle.turn_volume_rule.specs.Ints.{Is, above, below, is-neg, is-add, is-sub, is_mul, is_same, is-cast}
+use Rattle.turn_volume_rule.specs.Exact.{Whole, whole_at, exact_det, exact_triangles, exact_rows, exact_left}
+use Rattle.turn_volume_rule.specs.Ints.{Is, above, below, is_neg, is_add, is_sub, is_mul, is_same, is_cast}
 
 -- ---- what is needed of whole numbers
-pub is-self : (z : ℤ) → Is z (above z) (below z)
-is-self (pos n) = record { eq = omega arith }
-is-self (negsuc n) = record { eq = omega arith }
+pub is_self : (z : ℤ) → Is z (above z) (below z)
+is_self (pos n) = record { eq = omega arith }
+is_self (negsuc n) = record { eq = omega arith }
 
-mul-neg : (y z : ℤ) → y *ℤ neg_ℤ z ≡ neg_ℤ (y *ℤ z)
-mul-neg y z = is_same (y *ℤ neg_ℤ z) (neg_ℤ (y *ℤ z)) (is_mul y (neg_ℤ z) (is-self y) (is-neg z (is-self z))) (is-neg (y *ℤ z) (is_mul y z (is-self y) (is-self z)))
+mul_neg : (y z : ℤ) → y *ℤ neg_ℤ z ≡ neg_ℤ (y *ℤ z)
+mul_neg y z = is_same (y *ℤ neg_ℤ z) (neg_ℤ (y *ℤ z)) (is_mul y (neg_ℤ z) (is_self y) (is_neg z (is_self z))) (is_neg (y *ℤ z) (is_mul y z (is_self y) (is_self z)))
 
-sub-swap : (y z : ℤ) → y -ℤ z ≡ neg_ℤ (z -ℤ y)
-sub-swap y z = is_same (y -ℤ z) (neg_ℤ (z -ℤ y)) (is-sub y z (is-self y) (is-self z))
-    (is-cast (neg_ℤ (z -ℤ y)) _ _ (is-neg (z -ℤ y) (is-sub z y (is-self z) (is-self y))) (omega arith))
+sub_swap : (y z : ℤ) → y -ℤ z ≡ neg_ℤ (z -ℤ y)
+sub_swap y z = is_same (y -ℤ z) (neg_ℤ (z -ℤ y)) (is_sub y z (is_self y) (is_self z))
+    (is_cast (neg_ℤ (z -ℤ y)) _ _ (is_neg (z -ℤ y) (is_sub z y (is_self z) (is_self y))) (omega arith))
 
-neg-three : (x y z : ℤ) → (neg_ℤ x -ℤ neg_ℤ y) +ℤ neg_ℤ z ≡ neg_ℤ ((x -ℤ y) +ℤ z)
-neg-three x y z = is_same ((neg_ℤ x -ℤ neg_ℤ y) +ℤ neg_ℤ z) (neg_ℤ ((x -ℤ y) +ℤ z))
-    (is-add (neg_ℤ x -ℤ neg_ℤ y) (neg_ℤ z) (is-sub (neg_ℤ x) (neg_ℤ y) (is-neg x (is-self x)) (is-neg y (is-self y))) (is-neg z (is-self z)))
-    (is-neg ((x -ℤ y) +ℤ z) (is-add (x -ℤ y) z (is-sub x y (is-self x) (is-self y)) (is-self z)))
+neg_three : (x y z : ℤ) → (neg_ℤ x -ℤ neg_ℤ y) +ℤ neg_ℤ z ≡ neg_ℤ ((x -ℤ y) +ℤ z)
+neg_three x y z = is_same ((neg_ℤ x -ℤ neg_ℤ y) +ℤ neg_ℤ z) (neg_ℤ ((x -ℤ y) +ℤ z))
+    (is_add (neg_ℤ x -ℤ neg_ℤ y) (neg_ℤ z) (is_sub (neg_ℤ x) (neg_ℤ y) (is_neg x (is_self x)) (is_neg y (is_self y))) (is_neg z (is_self z)))
+    (is_neg ((x -ℤ y) +ℤ z) (is_add (x -ℤ y) z (is_sub x y (is_self x) (is_self y)) (is_self z)))
 
 -- ---- corners 1 and 2 swapped
-cross-swap : (p q r s : ℤ) → p *ℤ q -ℤ r *ℤ s ≡ neg_ℤ (s *ℤ r -ℤ q *ℤ p)
-cross-swap p q r s = sub-swap (p *ℤ q) (r *ℤ s) ∙ (λ i. neg_ℤ (*ℤ_comm r s i -ℤ *ℤ_comm p q i))
+cross_swap : (p q r s : ℤ) → p *ℤ q -ℤ r *ℤ s ≡ neg_ℤ (s *ℤ r -ℤ q *ℤ p)
+cross_swap p q r s = sub_swap (p *ℤ q) (r *ℤ s) ∙ (λ i. neg_ℤ (*ℤ_comm r s i -ℤ *ℤ_comm p q i))
 
-term-swap : (a p q r s : ℤ) → a *ℤ (p *ℤ q -ℤ r *ℤ s) ≡ neg_ℤ (a *ℤ (s *ℤ r -ℤ q *ℤ p))
-term-swap a p q r s = ap (λ (z : ℤ). a *ℤ z) (cross-swap p q r s) ∙ mul-neg a (s *ℤ r -ℤ q *ℤ p)
+term_swap : (a p q r s : ℤ) → a *ℤ (p *ℤ q -ℤ r *ℤ s) ≡ neg_ℤ (a *ℤ (s *ℤ r -ℤ q *ℤ p))
+term_swap a p q r s = ap (λ (z : ℤ). a *ℤ z) (cross_swap p q r s) ∙ mul_neg a (s *ℤ r -ℤ q *ℤ p)
 
-pub det-swap : (a b c : Whole) → exactDet a c b ≡ neg_ℤ (exactDet a b c)
-unfolding exactDet
-det-swap a b c =
-    (λ i. (term-swap a.x c.y b.z c.z b.y i -ℤ term-swap a.y c.x b.z c.z b.x i) +ℤ term-swap a.z c.x b.y c.y b.x i)
-    ∙ neg-three (a.x *ℤ ((b.y *ℤ c.z) -ℤ (b.z *ℤ c.y))) (a.y *ℤ ((b.x *ℤ c.z) -ℤ (b.z *ℤ c.x))) (a.z *ℤ ((b.x *ℤ c.y) -ℤ (b.y *ℤ c.x)))
+pub det_swap : (a b c : Whole) → exact_det a c b ≡ neg_ℤ (exact_det a b c)
+unfolding exact_det
+det_swap a b c =
+    (λ i. (term_swap a.x c.y b.z c.z b.y i -ℤ term_swap a.y c.x b.z c.z b.x i) +ℤ term_swap a.z c.x b.y c.y b.x i)
+    ∙ neg_three (a.x *ℤ ((b.y *ℤ c.z) -ℤ (b.z *ℤ c.y))) (a.y *ℤ ((b.x *ℤ c.z) -ℤ (b.z *ℤ c.x))) (a.z *ℤ ((b.x *ℤ c.y) -ℤ (b.y *ℤ c.x)))
 
-pub triangles-flip : (ps : List Float) (flip : Bool) (ts : List Triangle) → exactTriangles ps (not flip) ts ≡ neg_ℤ (exactTriangles ps flip ts)
-unfolding exactTriangles
-triangles-flip ps flip [] = refl
-triangles-flip ps true (t ∷ ts) =
-    (λ i. twice i +ℤ triangles-flip ps true ts i)
-    ∙ sym (neg_ℤ-+ℤ (exactDet (whole_at ps t.a) (whole_at ps t.c) (whole_at ps t.b)) (exactTriangles ps true ts))
+pub triangles_flip : (ps : List Float) (flip : Bool) (ts : List Triangle) → exact_triangles ps (not flip) ts ≡ neg_ℤ (exact_triangles ps flip ts)
+unfolding exact_triangles
+triangles_flip ps flip [] = refl
+triangles_flip ps true (t ∷ ts) =
+    (λ i. twice i +ℤ triangles_flip ps true ts i)
+    ∙ sym (neg_ℤ-+ℤ (exact_det (whole_at ps t.a) (whole_at ps t.c) (whole_at ps t.b)) (exact_triangles ps true ts))
   where
-    twice : exactDet (whole_at ps t.a) (whole_at ps t.b) (whole_at ps t.c) ≡ neg_ℤ (exactDet (whole_at ps t.a) (whole_at ps t.c) (whole_at ps t.b))
-    twice = det-swap (whole_at ps t.a) (whole_at ps t.c) (whole_at ps t.b)
-triangles-flip ps false (t ∷ ts) =
-    (λ i. det-swap (whole_at ps t.a) (whole_at ps t.b) (whole_at ps t.c) i +ℤ triangles-flip ps false ts i)
-    ∙ sym (neg_ℤ-+ℤ (exactDet (whole_at ps t.a) (whole_at ps t.b) (whole_at ps t.c)) (exactTriangles ps false ts))
+    twice : exact_det (whole_at ps t.a) (whole_at ps t.b) (whole_at ps t.c) ≡ neg_ℤ (exact_det (whole_at ps t.a) (whole_at ps t.c) (whole_at ps t.b))
+    twice = det_swap (whole_at ps t.a) (whole_at ps t.c) (whole_at ps t.b)
+triangles_flip ps false (t ∷ ts) =
+    (λ i. det_swap (whole_at ps t.a) (whole_at ps t.b) (whole_at ps t.c) i +ℤ triangles_flip ps false ts i)
+    ∙ sym (neg_ℤ-+ℤ (exact_det (whole_at ps t.a) (whole_at ps t.b) (whole_at ps t.c)) (exact_triangles ps false ts))
 
-pub triangles-swapped : (ps : List Float) (is : List ℕ) → exactTriangles ps false (trianglesOf (swapped is)) ≡ exactTriangles ps true (trianglesOf is)
-unfolding exactTriangles trianglesOf swapped
-triangles-swapped ps [] = refl
-triangles-swapped ps (a ∷ []) = refl
-triangles-swapped ps (a ∷ b ∷ []) = refl
-triangles-swapped ps (a ∷ b ∷ c ∷ is) = ap (λ (z : ℤ). exactDet (whole_at ps a) (whole_at ps c) (whole_at ps b) +ℤ z) (triangles-swapped ps is)
+pub triangles_swapped : (ps : List Float) (is : List ℕ) → exact_triangles ps false (triangles_of (swapped is)) ≡ exact_triangles ps true (triangles_of is)
+unfolding exact_triangles triangles_of swapped
+triangles_swapped ps [] = refl
+triangles_swapped ps (a ∷ []) = refl
+triangles_swapped ps (a ∷ b ∷ []) = refl
+triangles_swapped ps (a ∷ b ∷ c ∷ is) = ap (λ (z : ℤ). exact_det (whole_at ps a) (whole_at ps c) (whole_at ps b) +ℤ z) (triangles_swapped ps is)
 
 -- ---- a row of the turned body
-pub turned-at : (cs : List ℕ) (ps : List Patch) (n : ℕ) → n < length ps → patchAt (turnedBody cs ps) n ≡ turnedPatch (get_or cs n unvisited) (patchAt ps n)
-unfolding patchAt turnedBody turnedPatch
-turned-at [] ps n h = refl
-turned-at (c ∷ cs) [] n h = absurd (not-suc-le-zero h)
-turned-at (c ∷ cs) (p ∷ ps) zero h = refl
-turned-at (c ∷ cs) (p ∷ ps) (suc n) h = turned-at cs ps n (le_of_suc-le-suc h)
+pub turned_at : (cs : List ℕ) (ps : List Patch) (n : ℕ) → n < length ps → patch_at (turned_body cs ps) n ≡ turned_patch (get_or cs n unvisited) (patch_at ps n)
+unfolding patch_at turned_body turned_patch
+turned_at [] ps n h = refl
+turned_at (c ∷ cs) [] n h = absurd (not-suc-le-zero h)
+turned_at (c ∷ cs) (p ∷ ps) zero h = refl
+turned_at (c ∷ cs) (p ∷ ps) (suc n) h = turned_at cs ps n (le_of_suc-le-suc h)
 
-abbrev pub exactPatch : Patch → Bool → ℤ
-exactPatch p flip = exactTriangles p.positions flip (trianglesOf p.indices)
+abbrev pub exact_patch : Patch → Bool → ℤ
+exact_patch p flip = exact_triangles p.positions flip (triangles_of p.indices)
 
-turned-exact : (c : ℕ) (p : Patch) → exactPatch (turnedPatch c p) false ≡ exactPatch p (eqb c coloured)
-unfolding turnedPatch
-turned-exact c p = go (eqb c coloured)
+turned_exact : (c : ℕ) (p : Patch) → exact_patch (turned_patch c p) false ≡ exact_patch p (eqb c coloured)
+unfolding turned_patch
+turned_exact c p = go (eqb c coloured)
   where
-    go : (b : Bool) → exactPatch (cond b (record { row = p.row; positions = p.positions; normals = map neg p.normals; indices = swapped p.indices }) p) false ≡ exactPatch p b
-    go true = triangles-swapped p.positions p.indices
+    go : (b : Bool) → exact_patch (cond b (record { row = p.row; positions = p.positions; normals = map neg p.normals; indices = swapped p.indices }) p) false ≡ exact_patch p b
+    go true = triangles_swapped p.positions p.indices
     go false = refl
 
 -- ---- the rows of a group: their colours, and the same inverted or not
@@ -101,31 +101,31 @@ abbrev pub opposed : Bool → ℤ → ℤ
 opposed flip z = cond flip (neg_ℤ z) z
 
 module _ (patches : List Patch) (cols final : List ℕ) (flip : Bool) where
-  row-left : (n : ℕ) → Settled patches cols final flip n → exactPatch (patchAt (turnedBody final patches) n) false
-      ≡ opposed flip (exactPatch (patchAt patches n) (eqb (get_or cols n unvisited) coloured))
-  row-left n s =
-      ap (λ (p : Patch). exactPatch p false) (turned-at final patches n s.row)
-      ∙ turned-exact (get_or final n unvisited) (patchAt patches n)
-      ∙ ap (λ (b : Bool). exactPatch (patchAt patches n) b) (flag (get_or cols n unvisited) (get_or final n unvisited) flip s.two s.left)
+  row_left : (n : ℕ) → Settled patches cols final flip n → exact_patch (patch_at (turned_body final patches) n) false
+      ≡ opposed flip (exact_patch (patch_at patches n) (eqb (get_or cols n unvisited) coloured))
+  row_left n s =
+      ap (λ (p : Patch). exact_patch p false) (turned_at final patches n s.row)
+      ∙ turned_exact (get_or final n unvisited) (patch_at patches n)
+      ∙ ap (λ (b : Bool). exact_patch (patch_at patches n) b) (flag (get_or cols n unvisited) (get_or final n unvisited) flip s.two s.left)
       ∙ go flip
     where
-      go : (f : Bool) → exactPatch (patchAt patches n) (cond f (not (eqb (get_or cols n unvisited) coloured)) (eqb (get_or cols n unvisited) coloured))
-          ≡ opposed f (exactPatch (patchAt patches n) (eqb (get_or cols n unvisited) coloured))
-      go true = triangles-flip (patchAt patches n).positions (eqb (get_or cols n unvisited) coloured) (trianglesOf (patchAt patches n).indices)
+      go : (f : Bool) → exact_patch (patch_at patches n) (cond f (not (eqb (get_or cols n unvisited) coloured)) (eqb (get_or cols n unvisited) coloured))
+          ≡ opposed f (exact_patch (patch_at patches n) (eqb (get_or cols n unvisited) coloured))
+      go true = triangles_flip (patch_at patches n).positions (eqb (get_or cols n unvisited) coloured) (triangles_of (patch_at patches n).indices)
       go false = refl
 
-  opposed-add : (f : Bool) (y z : ℤ) → opposed f y +ℤ opposed f z ≡ opposed f (y +ℤ z)
-  opposed-add true y z = sym (neg_ℤ-+ℤ y z)
-  opposed-add false y z = refl
+  opposed_add : (f : Bool) (y z : ℤ) → opposed f y +ℤ opposed f z ≡ opposed f (y +ℤ z)
+  opposed_add true y z = sym (neg_ℤ-+ℤ y z)
+  opposed_add false y z = refl
 
-  opposed-zero : (f : Bool) → pos 0 ≡ opposed f (pos 0)
-  opposed-zero true = refl
-  opposed-zero false = refl
+  opposed_zero : (f : Bool) → pos 0 ≡ opposed f (pos 0)
+  opposed_zero true = refl
+  opposed_zero false = refl
 
   pub rows_left : (rows : List ℕ) → All (Settled patches cols final flip) rows
-      → exactLeft (turnedBody final patches) rows ≡ opposed flip (exactRows patches rows (map (λ n. get_or cols n unvisited) rows))
-  unfolding exactLeft exactRows
-  rows_left [] g = opposed-zero flip
+      → exact_left (turned_body final patches) rows ≡ opposed flip (exact_rows patches rows (map (λ n. get_or cols n unvisited) rows))
+  unfolding exact_left exact_rows
+  rows_left [] g = opposed_zero flip
   rows_left (n ∷ ns) (more s g) =
-      (λ i. row-left n s i +ℤ rows_left ns g i)
-      ∙ opposed-add flip (exactPatch (patchAt patches n) (eqb (get_or cols n unvisited) coloured)) (exactRows patches ns (map (λ n. get_or cols n unvisited) ns))
+      (λ i. row_left n s i +ℤ rows_left ns g i)
+      ∙ opposed_add flip (exact_patch (patch_at patches n) (eqb (get_or cols n unvisited) coloured)) (exact_rows patches ns (map (λ n. get_or cols n unvisited) ns))

@@ -8,7 +8,7 @@
 --   (2 ^ -149) ^ 3 is 2 ^ 627 times 2 ^ -1074, so E is one of sixths of 2 ^ -1074 too;
 --   T × T × M × M × M / 2 ^ 50, with M a whole number of 2 ^ -149, is 6 × T × T × M × M × M × 2 ^ 577 of them, since 627 − 50 = 577.
 --
--- So V and E are compared as the whole numbers `volumeOf` and `exactVolume`, and the bound is the whole number `bound`.
+-- So V and E are compared as the whole numbers `volume_of` and `exact_volume`, and the bound is the whole number `bound`.
 use Rattle.std.specs.Prelude.{◌≡◌, List, ◌∷◌, ℕ, ◌<◌, T, length, Float}
 use Rattle.lists.specs.Lists.{all}
 use Rattle.point_rules.specs.Rule.{Rule, names}
@@ -17,9 +17,9 @@ use Rattle.body_rows.specs.Body.{Patch, rows_of, patches_of}
 use Rattle.turn_definition.specs.declared.Turned.{Turned}
 use Rattle.turn_definition.specs.declared.Turned.TheVariants.{Done, Refused}
 use Rattle.turn_definition.specs.Groups.{Group}
-use Rattle.turn_definition.specs.Orient.{walksOf, turn_of}
-use Rattle.turn_definition.specs.Inversion.{patchAt}
-use Rattle.turn_volume_rule.specs.Exact.{F32s, ruleHolds}
+use Rattle.turn_definition.specs.Orient.{walks_of, turn_of}
+use Rattle.turn_definition.specs.Inversion.{patch_at}
+use Rattle.turn_volume_rule.specs.Exact.{F32s, rule_holds}
 
 -- A body's slices before and after, its points joined by a rule. For every group: V lies within the bound of E, and if E is further from zero than the bound,
 -- the exact volume of the group as it is left is E, sign dropped.
@@ -27,7 +27,7 @@ unfoldable pub KeepsVolume : Rule → List ℕ → List Float → List Float →
 KeepsVolume rule table ps ns is ns' is' =
     let before = patches_of (rows_of table) ps ns is in
     let after = patches_of (rows_of table) ps ns' is' in
-    T (all (ruleHolds before after) (walksOf before (joined (names rule ps))).groups)
+    T (all (rule_holds before after) (walks_of before (joined (names rule ps))).groups)
 
 -- In every body that turn accepts, whatever the joining rule, every group keeps the rule. The premise is what a slice of f32 holds; the calls have none.
 unfoldable pub VolumeRule : Type 0
@@ -51,4 +51,4 @@ pub data InSome (n : ℕ) : List Group → Type 0 where
 
 -- The rule speaks of every triangle: every row with indices is in some group.
 unfoldable pub EveryRow : Type 0
-EveryRow = (patches : List Patch) (points : List ℕ) (n : ℕ) → n < length patches → 0 < length (patchAt patches n).indices → InSome n (walksOf patches points).groups
+EveryRow = (patches : List Patch) (points : List ℕ) (n : ℕ) → n < length patches → 0 < length (patch_at patches n).indices → InSome n (walks_of patches points).groups

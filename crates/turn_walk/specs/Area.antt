@@ -10,32 +10,32 @@ abbrev pub rows_at : ℕ → ℕ
 rows_at n = n
 
 -- where their runs stand
-abbrev pub runsAt : ℕ → ℕ
-runsAt n = 2 * n
+abbrev pub runs_at : ℕ → ℕ
+runs_at n = 2 * n
 
 -- where the links stand that lead on at a use's own row
-abbrev pub ownLinksAt : ℕ → ℕ
-ownLinksAt n = 3 * n
+abbrev pub own_links_at : ℕ → ℕ
+own_links_at n = 3 * n
 
 -- where those stand that lead on at the first use's row
-abbrev pub farLinksAt : ℕ → ℕ
-farLinksAt n = 4 * n
+abbrev pub far_links_at : ℕ → ℕ
+far_links_at n = 4 * n
 
 -- where each row's link to its first pair stands
-abbrev pub headsAt : ℕ → ℕ
-headsAt n = 5 * n
+abbrev pub heads_at : ℕ → ℕ
+heads_at n = 5 * n
 
 -- where the rows that a walk has found stand
-abbrev pub queueAt : ℕ → ℕ → ℕ
-queueAt n m = 5 * n + m
+abbrev pub queue_at : ℕ → ℕ → ℕ
+queue_at n m = 5 * n + m
 
 -- where the colours stand
-abbrev pub coloursAt : ℕ → ℕ → ℕ
-coloursAt n m = 5 * n + 2 * m
+abbrev pub colours_at : ℕ → ℕ → ℕ
+colours_at n m = 5 * n + 2 * m
 
 -- where the last region ends
-abbrev pub areaEnd : ℕ → ℕ → ℕ
-areaEnd n m = 5 * n + 3 * m
+abbrev pub area_end : ℕ → ℕ → ℕ
+area_end n m = 5 * n + 3 * m
 
 -- W became E, and only the words from a up to b were written
 pub record WrittenBetween (a b : ℕ) (W E : List ℕ) : Type 0 where
@@ -43,10 +43,10 @@ pub record WrittenBetween (a b : ℕ) (W E : List ℕ) : Type 0 where
   pub rest : drop b E ≡ drop b W
 
 -- the uses that stand in the work area
-abbrev pub usesOf : ℕ → List ℕ → Uses
-usesOf n W = record { count = n; first = take n W; row = take n (drop (rows_at n) W); run = take n (drop (runsAt n) W) }
+abbrev pub uses_of : ℕ → List ℕ → Uses
+uses_of n W = record { count = n; first = take n W; row = take n (drop (rows_at n) W); run = take n (drop (runs_at n) W) }
 
 -- every first use is a use, and every row is a row
 pub record Sound (n m : ℕ) (W : List ℕ) : Type 0 where
-  pub firsts : (i : ℕ) → i < n → get_or (usesOf n W).first i 0 < n
-  pub rows : (i : ℕ) → i < n → own (usesOf n W) i < m
+  pub firsts : (i : ℕ) → i < n → get_or (uses_of n W).first i 0 < n
+  pub rows : (i : ℕ) → i < n → own (uses_of n W) i < m

@@ -3,7 +3,7 @@ use Rattle.std.specs.Prelude.{Bool, true, false, List, [], ◌∷◌, ◌++◌, 
 use Rattle.lists.specs.Lists.{all}
 use Rattle.lists.specs.Table.{Case, case, agrees}
 use Rattle.turn_walk.specs.Walk.{Pair, Walk, unvisited, plain, walk, inverted}
-use Rattle.turn_walk.specs.Uses.{Uses, pairsBy}
+use Rattle.turn_walk.specs.Uses.{Uses, pairs_by}
 use Rattle.turn_walk.specs.Evaluation.{evaluation}
 
 -- a pair of two rows
@@ -44,13 +44,13 @@ circle = pair 0 2 false ∷ pair 0 1 false ∷ pair 1 2 false ∷ []
 pub claims : List Case
 claims =
     case 7 (walked 2 contradiction) (2 ∷ 0 ∷ 1 ∷ 1 ∷ 1 ∷ [])
-    ∷ case 7 (walked 2 (pairsBy contradicting)) (2 ∷ 0 ∷ 1 ∷ 1 ∷ 1 ∷ [])
+    ∷ case 7 (walked 2 (pairs_by contradicting)) (2 ∷ 0 ∷ 1 ∷ 1 ∷ 1 ∷ [])
     ∷ case 18 (walked 5 branches) (0 ∷ 0 ∷ 1 ∷ 2 ∷ 3 ∷ 4 ∷ 1 ∷ 1 ∷ 2 ∷ 2 ∷ 1 ∷ [])
     ∷ case 19 (walked 4 circle) (2 ∷ 0 ∷ 2 ∷ 1 ∷ 1 ∷ 2 ∷ 2 ∷ 0 ∷ [])
     ∷ case 20 (let w = from 4 circle in inverted w.rows w.colours) (2 ∷ 1 ∷ 1 ∷ 0 ∷ [])
     ∷ []
 
 -- The definitions yield each.
-pub claims-hold : T (all agrees claims)
+pub claims_hold : T (all agrees claims)
 unfolding evaluation pair from walked contradiction contradicting branches circle claims
-claims-hold = tt
+claims_hold = tt

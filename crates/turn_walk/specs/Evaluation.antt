@@ -2,9 +2,9 @@
 use Rattle.std.specs.Prelude.{ℕ}
 use Rattle.lists.specs.Evaluation as Lists
 use Rattle.turn_walk.specs.Walk.{meet, neighbours, visit, walk, inverted}
-use Rattle.turn_walk.specs.Uses.{records, agrees, pair_at, pairsFrom}
+use Rattle.turn_walk.specs.Uses.{records, agrees, pair_at, pairs_from}
 
 -- every definition that computes
 unfoldable pub evaluation : ℕ
-unfolding Lists.evaluation meet neighbours visit walk inverted records agrees pair_at pairsFrom
+unfolding Lists.evaluation meet neighbours visit walk inverted records agrees pair_at pairs_from
 evaluation = 0

@@ -11,17 +11,17 @@ unfolding walk
 walk_step ps fuel done w l = rw (lt-ltb done (length w.rows) l, walk)
 
 -- a walk ends when all rows found are visited
-pub walk-stop : (ps : List Pair) (fuel done : ℕ) (w : Walk) → length w.rows ≤ done → walk ps fuel done w ≡ w
+pub walk_stop : (ps : List Pair) (fuel done : ℕ) (w : Walk) → length w.rows ≤ done → walk ps fuel done w ≡ w
 unfolding walk
-walk-stop ps zero done w l = refl
-walk-stop ps (suc fuel) done w l = rw (le-ltb done (length w.rows) l, walk)
+walk_stop ps zero done w l = refl
+walk_stop ps (suc fuel) done w l = rw (le-ltb done (length w.rows) l, walk)
 
 -- a wanted colour is one of the two: it is not unvisited,
-pub want-some : (c : ℕ) (b : Bool) → 0 < c → c ≤ 2 → 0 < cond b c (opposite c)
-want-some c true h k = h
-want-some c false h k = omega arith
+pub want_some : (c : ℕ) (b : Bool) → 0 < c → c ≤ 2 → 0 < cond b c (opposite c)
+want_some c true h k = h
+want_some c false h k = omega arith
 
 -- nor beyond them
-pub want-known : (c : ℕ) (b : Bool) → 0 < c → c ≤ 2 → cond b c (opposite c) ≤ 2
-want-known c true h k = k
-want-known c false h k = omega arith
+pub want_known : (c : ℕ) (b : Bool) → 0 < c → c ≤ 2 → cond b c (opposite c) ≤ 2
+want_known c true h k = k
+want_known c false h k = omega arith

@@ -17,8 +17,8 @@ pub record Uses : Type 0 where
   pub run : List ℕ
 
 -- the run of a use whose ends are equal
-abbrev pub endsEqual : ℕ
-endsEqual = 2
+abbrev pub ends_equal : ℕ
+ends_equal = 2
 
 -- the row of use i
 abbrev pub own : Uses → ℕ → ℕ
@@ -30,7 +30,7 @@ far u i = get_or u.row (get_or u.first i 0) 0
 
 -- use i records a pair: its ends differ, and its row is another than the first use's
 unfoldable pub records : Uses → ℕ → Bool
-records u i = cond (eqb (get_or u.run i 0) endsEqual) false (not (eqb (own u i) (far u i)))
+records u i = cond (eqb (get_or u.run i 0) ends_equal) false (not (eqb (own u i) (far u i)))
 
 -- use i and the first use of its edge run oppositely
 unfoldable pub agrees : Uses → ℕ → Bool
@@ -46,13 +46,13 @@ ahead none ps = ps
 ahead (some p) ps = p ∷ ps
 
 -- the pairs of the d uses from i on, in order
-unfoldable pub pairsFrom : Uses → ℕ → ℕ → List Pair
-pairsFrom u i zero = []
-pairsFrom u i (suc d) = ahead (pair_at u i) (pairsFrom u (i + 1) d)
+unfoldable pub pairs_from : Uses → ℕ → ℕ → List Pair
+pairs_from u i zero = []
+pairs_from u i (suc d) = ahead (pair_at u i) (pairs_from u (i + 1) d)
 
 -- the pairs of all uses, in recorded order
-abbrev pub pairsBy : Uses → List Pair
-pairsBy u = pairsFrom u 0 u.count
+abbrev pub pairs_by : Uses → List Pair
+pairs_by u = pairs_from u 0 u.count
 
 -- the pair of use i touches row x
 unfoldable pub touches : Uses → ℕ → ℕ → Bool
@@ -63,77 +63,77 @@ unfoldable pub across : Uses → ℕ → ℕ → Neighbour
 across u x i = record { row = cond (eqb (own u i) x) (far u i) (own u i); agreeing = agrees u i }
 
 -- where the pairs of row x among the d uses from i on lead, in order
-unfoldable pub acrossFrom : Uses → ℕ → ℕ → ℕ → List Neighbour
-acrossFrom u x i zero = []
-acrossFrom u x i (suc d) = cond (touches u x i) (across u x i ∷ acrossFrom u x (i + 1) d) (acrossFrom u x (i + 1) d)
+unfoldable pub across_from : Uses → ℕ → ℕ → ℕ → List Neighbour
+across_from u x i zero = []
+across_from u x i (suc d) = cond (touches u x i) (across u x i ∷ across_from u x (i + 1) d) (across_from u x (i + 1) d)
 
 -- ---- tests of a use
 
 module _ (u : Uses) (i : ℕ) where
   -- equal ends record no pair
-  pub records-skip : get_or u.run i 0 ≡ endsEqual → records u i ≡ false
+  pub records_skip : get_or u.run i 0 ≡ ends_equal → records u i ≡ false
   unfolding records
-  records-skip e = rw (eq-eqb (get_or u.run i 0) endsEqual e)
+  records_skip e = rw (eq-eqb (get_or u.run i 0) ends_equal e)
 
   -- nor does a use on the first use's row
-  pub records-same : own u i ≡ far u i → records u i ≡ false
+  pub records_same : own u i ≡ far u i → records u i ≡ false
   unfolding records
-  records-same e = rw (eq-eqb (own u i) (far u i) e) (go (eqb (get_or u.run i 0) endsEqual))
+  records_same e = rw (eq-eqb (own u i) (far u i) e) (go (eqb (get_or u.run i 0) ends_equal))
     where
       go : (b : Bool) → cond b false (not true) ≡ false
       go true = refl
       go false = refl
 
   -- any other use does
-  pub records-yes : (get_or u.run i 0 ≡ endsEqual → ⊥) → (own u i ≡ far u i → ⊥) → records u i ≡ true
+  pub records_yes : (get_or u.run i 0 ≡ ends_equal → ⊥) → (own u i ≡ far u i → ⊥) → records u i ≡ true
   unfolding records
-  records-yes e f = rw (ne_eqb (get_or u.run i 0) endsEqual e, ne_eqb (own u i) (far u i) f)
+  records_yes e f = rw (ne_eqb (get_or u.run i 0) ends_equal e, ne_eqb (own u i) (far u i) f)
 
   -- the two rows of a pair differ
-  pub records-apart : records u i ≡ true → own u i ≡ far u i → ⊥
-  records-apart e q = let z : ◌≡◌ {A = ℕ} 0 1 = ap (λ (b : Bool). cond b 0 1) (sym e ∙ records-same q) in omega arith
+  pub records_apart : records u i ≡ true → own u i ≡ far u i → ⊥
+  records_apart e q = let z : ◌≡◌ {A = ℕ} 0 1 = ap (λ (b : Bool). cond b 0 1) (sym e ∙ records_same q) in omega arith
 
   -- what records no pair touches no row
-  pub touch-none : (x : ℕ) → records u i ≡ false → touches u x i ≡ false
+  pub touch_none : (x : ℕ) → records u i ≡ false → touches u x i ≡ false
   unfolding touches
-  touch-none x e = rw e
+  touch_none x e = rw e
 
   -- a pair touches the use's own row
-  pub touch-own : (x : ℕ) → records u i ≡ true → own u i ≡ x → touches u x i ≡ true
+  pub touch_own : (x : ℕ) → records u i ≡ true → own u i ≡ x → touches u x i ≡ true
   unfolding touches
-  touch-own x e f = rw (e, eq-eqb (own u i) x f)
+  touch_own x e f = rw (e, eq-eqb (own u i) x f)
 
   -- and the first use's row
-  pub touch-far : (x : ℕ) → records u i ≡ true → far u i ≡ x → touches u x i ≡ true
+  pub touch_far : (x : ℕ) → records u i ≡ true → far u i ≡ x → touches u x i ≡ true
   unfolding touches
-  touch-far x e f = rw (e, eq-eqb (far u i) x f) (go (eqb (own u i) x))
+  touch_far x e f = rw (e, eq-eqb (far u i) x f) (go (eqb (own u i) x))
     where
       go : (b : Bool) → cond b true true ≡ true
       go true = refl
       go false = refl
 
   -- and no other
-  pub touch-other : (x : ℕ) → (own u i ≡ x → ⊥) → (far u i ≡ x → ⊥) → touches u x i ≡ false
+  pub touch_other : (x : ℕ) → (own u i ≡ x → ⊥) → (far u i ≡ x → ⊥) → touches u x i ≡ false
   unfolding touches
-  touch-other x e f = rw (ne_eqb (own u i) x e, ne_eqb (far u i) x f) (go (records u i))
+  touch_other x e f = rw (ne_eqb (own u i) x e, ne_eqb (far u i) x f) (go (records u i))
     where
       go : (b : Bool) → cond b false false ≡ false
       go true = refl
       go false = refl
 
   -- a use that touches a row records a pair
-  pub touch-records : (x : ℕ) → touches u x i ≡ true → records u i ≡ true
+  pub touch_records : (x : ℕ) → touches u x i ≡ true → records u i ≡ true
   unfolding touches
-  touch-records x = go (records u i) (cond (eqb (own u i) x) true (eqb (far u i) x))
+  touch_records x = go (records u i) (cond (eqb (own u i) x) true (eqb (far u i) x))
     where
       go : (b c : Bool) → cond b c false ≡ true → b ≡ true
       go true c e = refl
       go false c e = e
 
   -- a pair that touches a row which is not the use's own touches it as the first use's
-  pub touch-not-own : (x : ℕ) → touches u x i ≡ true → (own u i ≡ x → ⊥) → far u i ≡ x
+  pub touch_not_own : (x : ℕ) → touches u x i ≡ true → (own u i ≡ x → ⊥) → far u i ≡ x
   unfolding touches
-  touch-not-own x e h = eqb-true (far u i) x (go (records u i) (eqb (far u i) x) (rw (ne_eqb (own u i) x h) at e))
+  touch_not_own x e h = eqb-true (far u i) x (go (records u i) (eqb (far u i) x) (rw (ne_eqb (own u i) x h) at e))
     where
       go : (b c : Bool) → cond b c false ≡ true → c ≡ true
       go true c e = e
@@ -141,95 +141,95 @@ module _ (u : Uses) (i : ℕ) where
       go false false e = e
 
   -- from its own row a pair leads to the first use's
-  pub across-own : (x : ℕ) → own u i ≡ x → (across u x i).row ≡ far u i
+  pub across_own : (x : ℕ) → own u i ≡ x → (across u x i).row ≡ far u i
   unfolding across
-  across-own x e = rw (eq-eqb (own u i) x e)
+  across_own x e = rw (eq-eqb (own u i) x e)
 
   -- and from there to its own
-  pub across-far : (x : ℕ) → (own u i ≡ x → ⊥) → (across u x i).row ≡ own u i
+  pub across_far : (x : ℕ) → (own u i ≡ x → ⊥) → (across u x i).row ≡ own u i
   unfolding across
-  across-far x e = rw (ne_eqb (own u i) x e)
+  across_far x e = rw (ne_eqb (own u i) x e)
 
   -- either way it agrees or not
-  pub across-agreeing : (x : ℕ) → (across u x i).agreeing ≡ agrees u i
+  pub across_agreeing : (x : ℕ) → (across u x i).agreeing ≡ agrees u i
   unfolding across
-  across-agreeing x = refl
+  across_agreeing x = refl
 
   -- two that run alike disagree
-  pub agrees-not : get_or u.run (get_or u.first i 0) 0 ≡ get_or u.run i 0 → agrees u i ≡ false
+  pub agrees_not : get_or u.run (get_or u.first i 0) 0 ≡ get_or u.run i 0 → agrees u i ≡ false
   unfolding agrees
-  agrees-not e = rw (eq-eqb (get_or u.run (get_or u.first i 0) 0) (get_or u.run i 0) e)
+  agrees_not e = rw (eq-eqb (get_or u.run (get_or u.first i 0) 0) (get_or u.run i 0) e)
 
   -- two that run oppositely agree
-  pub agrees-yes : (get_or u.run (get_or u.first i 0) 0 ≡ get_or u.run i 0 → ⊥) → agrees u i ≡ true
+  pub agrees_yes : (get_or u.run (get_or u.first i 0) 0 ≡ get_or u.run i 0 → ⊥) → agrees u i ≡ true
   unfolding agrees
-  agrees-yes e = rw (ne_eqb (get_or u.run (get_or u.first i 0) 0) (get_or u.run i 0) e)
+  agrees_yes e = rw (ne_eqb (get_or u.run (get_or u.first i 0) 0) (get_or u.run i 0) e)
 
 -- ---- the neighbours of a row
 
 -- no pairs lead nowhere
-neighbours-none : (x : ℕ) → neighbours x [] ≡ []
+neighbours_none : (x : ℕ) → neighbours x [] ≡ []
 unfolding neighbours
-neighbours-none x = refl
+neighbours_none x = refl
 
 -- a pair that starts the list, by the tests of the definition
 module _ (x : ℕ) (p : Pair) (ps : List Pair) where
-  neighbours-first : p.first ≡ x → neighbours x (p ∷ ps) ≡ record { row = p.later; agreeing = p.agreeing } ∷ neighbours x ps
+  neighbours_first : p.first ≡ x → neighbours x (p ∷ ps) ≡ record { row = p.later; agreeing = p.agreeing } ∷ neighbours x ps
   unfolding neighbours
-  neighbours-first e = rw (eq-eqb p.first x e)
+  neighbours_first e = rw (eq-eqb p.first x e)
 
-  neighbours-later : (p.first ≡ x → ⊥) → p.later ≡ x → neighbours x (p ∷ ps) ≡ record { row = p.first; agreeing = p.agreeing } ∷ neighbours x ps
+  neighbours_later : (p.first ≡ x → ⊥) → p.later ≡ x → neighbours x (p ∷ ps) ≡ record { row = p.first; agreeing = p.agreeing } ∷ neighbours x ps
   unfolding neighbours
-  neighbours-later f e = rw (ne_eqb p.first x f, eq-eqb p.later x e)
+  neighbours_later f e = rw (ne_eqb p.first x f, eq-eqb p.later x e)
 
-  neighbours-other : (p.first ≡ x → ⊥) → (p.later ≡ x → ⊥) → neighbours x (p ∷ ps) ≡ neighbours x ps
+  neighbours_other : (p.first ≡ x → ⊥) → (p.later ≡ x → ⊥) → neighbours x (p ∷ ps) ≡ neighbours x ps
   unfolding neighbours
-  neighbours-other f e = rw (ne_eqb p.first x f, ne_eqb p.later x e)
+  neighbours_other f e = rw (ne_eqb p.first x f, ne_eqb p.later x e)
 
 -- The neighbours of row x among the pairs are where the row's pairs lead, in the same order.
-pub neighbours-across : (u : Uses) (x i d : ℕ) → neighbours x (pairsFrom u i d) ≡ acrossFrom u x i d
-unfolding pairsFrom acrossFrom pair_at across
-neighbours-across u x i zero = neighbours-none x
-neighbours-across u x i (suc d) = go (records u i) refl (ℕ_discrete (far u i) x) (ℕ_discrete (own u i) x) (neighbours-across u x (i + 1) d)
+pub neighbours_across : (u : Uses) (x i d : ℕ) → neighbours x (pairs_from u i d) ≡ across_from u x i d
+unfolding pairs_from across_from pair_at across
+neighbours_across u x i zero = neighbours_none x
+neighbours_across u x i (suc d) = go (records u i) refl (ℕ_discrete (far u i) x) (ℕ_discrete (own u i) x) (neighbours_across u x (i + 1) d)
   where
     here : Pair
     here = record { first = far u i; later = own u i; agreeing = agrees u i }
 
-    go : (b : Bool) → records u i ≡ b → Dec (far u i ≡ x) → Dec (own u i ≡ x) → neighbours x (pairsFrom u (i + 1) d) ≡ acrossFrom u x (i + 1) d
-        → neighbours x (ahead (cond b (some here) none) (pairsFrom u (i + 1) d))
-        ≡ cond (touches u x i) (across u x i ∷ acrossFrom u x (i + 1) d) (acrossFrom u x (i + 1) d)
-    go false e f o ih = rw (touch-none u i x e) ih
+    go : (b : Bool) → records u i ≡ b → Dec (far u i ≡ x) → Dec (own u i ≡ x) → neighbours x (pairs_from u (i + 1) d) ≡ across_from u x (i + 1) d
+        → neighbours x (ahead (cond b (some here) none) (pairs_from u (i + 1) d))
+        ≡ cond (touches u x i) (across u x i ∷ across_from u x (i + 1) d) (across_from u x (i + 1) d)
+    go false e f o ih = rw (touch_none u i x e) ih
     go true e (yes f) o ih =
-        rw (touch-far u i x e f)
-        (neighbours-first x here (pairsFrom u (i + 1) d) f ∙ (λ k. record { row = sym (across-far u i x (λ z. records-apart u i e (z ∙ sym f))) k; agreeing = agrees u i } ∷ ih k))
+        rw (touch_far u i x e f)
+        (neighbours_first x here (pairs_from u (i + 1) d) f ∙ (λ k. record { row = sym (across_far u i x (λ z. records_apart u i e (z ∙ sym f))) k; agreeing = agrees u i } ∷ ih k))
     go true e (no f) (yes o) ih =
-        rw (touch-own u i x e o)
-        (neighbours-later x here (pairsFrom u (i + 1) d) f o ∙ (λ k. record { row = sym (across-own u i x o) k; agreeing = agrees u i } ∷ ih k))
-    go true e (no f) (no o) ih = rw (touch-other u i x o f) (neighbours-other x here (pairsFrom u (i + 1) d) f o ∙ ih)
+        rw (touch_own u i x e o)
+        (neighbours_later x here (pairs_from u (i + 1) d) f o ∙ (λ k. record { row = sym (across_own u i x o) k; agreeing = agrees u i } ∷ ih k))
+    go true e (no f) (no o) ih = rw (touch_other u i x o f) (neighbours_other x here (pairs_from u (i + 1) d) f o ∙ ih)
 
 -- nothing gives nothing
-map-none : {A : Type 0} (f : A → Option Pair) → [] ≡ filter_map f []
+map_none : {A : Type 0} (f : A → Option Pair) → [] ≡ filter_map f []
 unfolding filter_map
-map-none f = refl
+map_none f = refl
 
 -- what f gives for the first item stands ahead of the rest
-map-ahead : {A : Type 0} (f : A → Option Pair) (x : A) (xs : List A) → filter_map f (x ∷ xs) ≡ ahead (f x) (filter_map f xs)
+map_ahead : {A : Type 0} (f : A → Option Pair) (x : A) (xs : List A) → filter_map f (x ∷ xs) ≡ ahead (f x) (filter_map f xs)
 unfolding filter_map
-map-ahead f x xs = go (f x) refl
+map_ahead f x xs = go (f x) refl
   where
     go : (q : Option Pair) → f x ≡ q → filter_map f (x ∷ xs) ≡ ahead q (filter_map f xs)
     go none e = rw (e, filter_map)
     go (some y) e = rw (e, filter_map)
 
 -- The pairs of uses from i on are those that f gives for a list, if f gives for each item what its use records.
-pub pairs-match : {A : Type 0} (u : Uses) (f : A → Option Pair) (xs : List A) (i : ℕ)
-    → ((k : ℕ) (x : A) → item_at xs k ≡ some x → pair_at u (i + k) ≡ f x) → pairsFrom u i (length xs) ≡ filter_map f xs
-unfolding pairsFrom item_at
-pairs-match u f [] i h = map-none f
-pairs-match u f (x ∷ xs) i h =
-    ap (λ (o : Option Pair). ahead o (pairsFrom u (i + 1) (length xs))) (ap (pair_at u) here ∙ h 0 x refl)
-    ∙ ap (ahead (f x)) (pairs-match u f xs (i + 1) (λ k y e. ap (pair_at u) (there k) ∙ h (suc k) y e))
-    ∙ sym (map-ahead f x xs)
+pub pairs_match : {A : Type 0} (u : Uses) (f : A → Option Pair) (xs : List A) (i : ℕ)
+    → ((k : ℕ) (x : A) → item_at xs k ≡ some x → pair_at u (i + k) ≡ f x) → pairs_from u i (length xs) ≡ filter_map f xs
+unfolding pairs_from item_at
+pairs_match u f [] i h = map_none f
+pairs_match u f (x ∷ xs) i h =
+    ap (λ (o : Option Pair). ahead o (pairs_from u (i + 1) (length xs))) (ap (pair_at u) here ∙ h 0 x refl)
+    ∙ ap (ahead (f x)) (pairs_match u f xs (i + 1) (λ k y e. ap (pair_at u) (there k) ∙ h (suc k) y e))
+    ∙ sym (map_ahead f x xs)
   where
     here : i ≡ i + 0
     here = omega arith

@@ -1,5 +1,5 @@
 -- `finish` writes what the program is to print of what was read. Assumes nothing.
-use Rattle.bench_run.specs.Lengths.{ran-answered}
+use Rattle.bench_run.specs.Lengths.{ran_answered}
 use Rattle.bench.proofs.Lengths.{lengths}
 use borrow.Author.Rules.{rules}
 use Rattle.bench.proofs.finish.Statement.{statement}
@@ -75,7 +75,7 @@ same_length : tie.Need-same-length
 same_length c = search rules
 
 returns : tie.Need-returns
-returns c = (ran-answered _ _ _ _ _ _ _ _ _ _ _ _ lengths _ c.before.before.before.before.before.before.before.before.before.before.before.before.before.before.before.before.before.before.before.before.before.before.before.before.before.before.before.before.before.before.before.before.before.before.before.before.before.before.before.before.before.before.before.before.limits.ensures _ _ _ c.before.before.before.before.before.before.before.before.before.before.before.before.before.before.before.before.before.before.before.before.before.before.finish-input.ensures.0, c.before.before.before.before.before.before.before.before.before.before.before.before.before.before.before.before.before.before.before.before.before.before.finish-input.ensures.1)
+returns c = (ran_answered _ _ _ _ _ _ _ _ _ _ _ _ lengths _ c.before.before.before.before.before.before.before.before.before.before.before.before.before.before.before.before.before.before.before.before.before.before.before.before.before.before.before.before.before.before.before.before.before.before.before.before.before.before.before.before.before.before.before.before.limits.ensures _ _ _ c.before.before.before.before.before.before.before.before.before.before.before.before.before.before.before.before.before.before.before.before.before.before.finish-input.ensures.0, c.before.before.before.before.before.before.before.before.before.before.before.before.before.before.before.before.before.before.before.before.before.before.finish-input.ensures.1)
 
 pub finish_spec : {M : Type 1} → statement M
 finish_spec = tie.close (tie.spec limits-requires slice-aggregate-finish-input slice-aggregate-finish-input-2 slice-aggregate-finish-input-3 slice-aggregate-finish-input-4 slice-aggregate-finish-input-5 slice-aggregate-finish-input-6 slice-aggregate-finish-input-7 slice-aggregate-finish-input-8 slice-aggregate-finish-input-9 slice-aggregate-finish-input-10 slice-aggregate-finish-input-11 slice-aggregate-finish-input-12 slice-aggregate-finish-input-13 slice-aggregate-finish-input-14 slice-aggregate-finish-input-15 slice-aggregate-finish-input-16 slice-aggregate-finish-input-17 slice-aggregate-finish-input-18 slice-aggregate-finish-input-19 slice-aggregate-finish-input-20 finish-input-requires same_length returns)

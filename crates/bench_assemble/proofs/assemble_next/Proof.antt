@@ -1,5 +1,5 @@
 -- `assemble_next` meets its contract. Assumes nothing.
-use Rattle.bench_assemble.proofs.AssembleLaws.{assembled-text}
+use Rattle.bench_assemble.proofs.AssembleLaws.{assembled_text_lem}
 use borrow.Author.Rules.{rules}
 use Rattle.bench_assemble.proofs.assemble_next.Statement.{statement}
 use Rattle.bench_assemble.proofs.assemble_next.Tie as tie
@@ -35,7 +35,7 @@ same-length-8 : tie.Need-same-length-8
 same-length-8 c = search rules
 
 returns : tie.Need-returns
-returns c = assembled-text _ _ _ _ _ _ _ _ _ _ _ _ _ c.before.before.before.before.before.before.before.before.before.before.before.before.before.before.before.before.before.before.before.before.before.before.before.before.assemble.auto.1.1.1.1.1.1.1.0 c.before.before.before.before.before.before.before.before.before.before.before.before.before.before.before.before.before.before.before.before.before.before.before.before.assemble.auto.1.1.1.1.1.1.1.1.1.0 c.before.before.before.before.before.before.before.before.before.before.before.before.before.before.before.before.before.before.before.before.before.before.before.before.assemble.auto.1.1.1.1.1.1.1.1.1.1.0 c.before.before.before.before.before.before.before.before.before.before.before.before.before.before.before.before.before.before.before.before.before.before.before.before.assemble.auto.1.1.1.1.1.1.1.1.1.1.1.0 c.before.before.before.before.before.before.before.before.before.before.before.before.before.before.before.before.before.before.before.before.before.before.before.before.assemble.auto.1.1.1.1.1.1.1.1.1.1.1.1.0 _ _ _ _ _ _ _ _ _ _ _ _ _ _ c.before.before.print-mesh.ensures c.before.before.before.before.before.before.before.before.before.before.before.before.before.before.before.before.before.before.before.before.before.before.before.before.assemble.ensures
+returns c = assembled_text_lem _ _ _ _ _ _ _ _ _ _ _ _ _ c.before.before.before.before.before.before.before.before.before.before.before.before.before.before.before.before.before.before.before.before.before.before.before.before.assemble.auto.1.1.1.1.1.1.1.0 c.before.before.before.before.before.before.before.before.before.before.before.before.before.before.before.before.before.before.before.before.before.before.before.before.assemble.auto.1.1.1.1.1.1.1.1.1.0 c.before.before.before.before.before.before.before.before.before.before.before.before.before.before.before.before.before.before.before.before.before.before.before.before.assemble.auto.1.1.1.1.1.1.1.1.1.1.0 c.before.before.before.before.before.before.before.before.before.before.before.before.before.before.before.before.before.before.before.before.before.before.before.before.assemble.auto.1.1.1.1.1.1.1.1.1.1.1.0 c.before.before.before.before.before.before.before.before.before.before.before.before.before.before.before.before.before.before.before.before.before.before.before.before.assemble.auto.1.1.1.1.1.1.1.1.1.1.1.1.0 _ _ _ _ _ _ _ _ _ _ _ _ _ _ c.before.before.print-mesh.ensures c.before.before.before.before.before.before.before.before.before.before.before.before.before.before.before.before.before.before.before.before.before.before.before.before.assemble.ensures
 
 pub assemble-next-spec : {M : Type 1} → statement M
 assemble-next-spec = tie.close (tie.spec assemble-requires print-mesh-requires same_length same-length-2 same-length-3 same-length-4 same-length-5 same-length-6 same-length-7 same-length-8 returns)

@@ -1,5 +1,5 @@
 -- `take_byte` keeps the byte, or has the line read. Assumes nothing.
-use Rattle.bench_feed.proofs.FeedLaws.{fed-byte, fed-line, kept-within}
+use Rattle.bench_feed.proofs.FeedLaws.{fed_byte, fed_line, kept_within}
 use borrow.Author.Rules.{rules}
 use Rattle.bench_feed.proofs.take_byte.Statement.{statement}
 use Rattle.bench_feed.proofs.take_byte.Tie as tie
@@ -29,16 +29,16 @@ same-length-6 : tie.Need-same-length-6
 same-length-6 c = search rules
 
 returns : tie.Need-returns
-returns c = fed-line _ _ _ _ _ _ _ _ _ _ _ _ _ _ _ c.before.before.before.before.before.before.before.before.before.before.before.before.before.before.before.before.if1.true c.before.before.before.before.before.before.before.before.before.before.before.before.before.before.before.before.before.front_Bytes.ensures c.before.before.before.before.before.before.before.before.before.before.read-line.ensures
+returns c = fed_line _ _ _ _ _ _ _ _ _ _ _ _ _ _ _ c.before.before.before.before.before.before.before.before.before.before.before.before.before.before.before.before.if1.true c.before.before.before.before.before.before.before.before.before.before.before.before.before.before.before.before.before.front_Bytes.ensures c.before.before.before.before.before.before.before.before.before.before.read_line_lem.ensures
 
 put-byte-requires : tie.Need-put-byte-requires
-put-byte-requires c κs = search (rules, kept-within)
+put-byte-requires c κs = search (rules, kept_within)
 
 same-length-7 : tie.Need-same-length-7
 same-length-7 c = search rules
 
 returns-2 : tie.Need-returns-2
-returns-2 c = fed-byte _ _ _ _ _ _ _ _ _ _ _ c.before.before.before.before.if1.false c.before.before.before.before.before.front_Bytes.ensures c.before.before.put_byte.ensures
+returns-2 c = fed_byte _ _ _ _ _ _ _ _ _ _ _ c.before.before.before.before.if1.false c.before.before.before.before.before.front_Bytes.ensures c.before.before.put_byte.ensures
 
 pub take-byte-spec : {M : Type 1} → statement M
 take-byte-spec =

@@ -1,11 +1,11 @@
 -- `materials_to` meets its contract. Assumes nothing.
-use Rattle.bench_finish.proofs.SheetLaws.{whole-materials}
+use Rattle.bench_finish.proofs.SheetLaws.{whole_materials}
 use borrow.Author.Rules.{rules}
 use Rattle.bench_finish.proofs.materials_to.Statement.{statement}
 use Rattle.bench_finish.proofs.materials_to.Tie as tie
 
 returns : tie.Need-returns
-returns c = search (rules, whole-materials)
+returns c = search (rules, whole_materials)
 
 add-front-long : tie.Need-overflow-add-front-long
 add-front-long c = search rules

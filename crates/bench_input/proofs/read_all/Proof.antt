@@ -1,6 +1,6 @@
 -- `read_all` ends, and has fed what it read: the measure is the number of turns that are left. Assumes nothing.
-use Rattle.bench_feed.specs.Feeding.{Fed-some}
-use Rattle.bench_feed.specs.FeedingLaws.{fed-further, fed-nothing}
+use Rattle.bench_feed.specs.Feeding.{FedSome}
+use Rattle.bench_feed.specs.FeedingLaws.{fed_further, fed_nothing}
 use mathlib.Core.Path.{◌≡◌}
 use lib.ListN.{length}
 use borrow.Author.Rules.{rules}
@@ -9,13 +9,13 @@ use Rattle.bench_input.proofs.read_all.Tie as tie
 
 abbrev invariant-loop : tie.invariant-loop
 invariant-loop line₀ table₀ positions₀ normals₀ indices₀ materials₀ g₀ turns₀ line table positions normals indices materials g turns =
-    (length line ≡ length line₀) × (length table ≡ length table₀) × (length positions ≡ length positions₀) × (length normals ≡ length normals₀) × (length indices ≡ length indices₀) × (length materials ≡ length materials₀) × Fed-some g₀ line₀ table₀ positions₀ normals₀ indices₀ materials₀ g line table positions normals indices materials
+    (length line ≡ length line₀) × (length table ≡ length table₀) × (length positions ≡ length positions₀) × (length normals ≡ length normals₀) × (length indices ≡ length indices₀) × (length materials ≡ length materials₀) × FedSome g₀ line₀ table₀ positions₀ normals₀ indices₀ materials₀ g line table positions normals indices materials
 
 abbrev decreases-loop : tie.decreases-loop
 decreases-loop line₀ table₀ positions₀ normals₀ indices₀ materials₀ g₀ turns₀ line table positions normals indices materials g turns = turns
 
 loop-holds : tie.Need-loop-init invariant-loop decreases-loop
-loop-holds c = search (rules, fed-nothing)
+loop-holds c = search (rules, fed_nothing)
 
 sub-turns : tie.Need-overflow-sub-turns invariant-loop decreases-loop
 sub-turns c = search rules
@@ -42,13 +42,13 @@ same-length-6 : tie.Need-same-length-6 invariant-loop decreases-loop
 same-length-6 c = search (rules, c.before.before.before.before.before.before.before.before.before.before.before.before.before.before.before.read_Some.auto, c.before.before.before.before.before.before.before.before.before.before.before.before.before.before.before.before.before.before.before.before.before.before.before.loop.invariant)
 
 returns : tie.Need-returns invariant-loop decreases-loop
-returns c = fed-further _ _ _ _ _ _ _ _ _ _ _ _ _ _ _ _ _ _ _ _ _ c.before.before.before.before.before.before.before.before.before.before.before.before.before.before.before.before.before.before.before.before.before.before.before.loop.invariant.6 c.before.before.before.before.before.before.before.before.before.before.before.before.before.before.before.read_Some.ensures
+returns c = fed_further _ _ _ _ _ _ _ _ _ _ _ _ _ _ _ _ _ _ _ _ _ c.before.before.before.before.before.before.before.before.before.before.before.before.before.before.before.before.before.before.before.before.before.before.before.loop.invariant.6 c.before.before.before.before.before.before.before.before.before.before.before.before.before.before.before.read_Some.ensures
 
 loop-less : tie.Need-loop-smaller invariant-loop decreases-loop
 loop-less c = search rules
 
 loop-again : tie.Need-loop-preserved invariant-loop decreases-loop
-loop-again c = (search (rules, c.before.before.before.before.before.before.before.before.before.before.before.before.before.before.before.read_Some.auto, c.before.before.before.before.before.before.before.before.before.before.before.before.before.before.before.before.before.before.before.before.before.before.before.loop.invariant), search (rules, c.before.before.before.before.before.before.before.before.before.before.before.before.before.before.before.read_Some.auto, c.before.before.before.before.before.before.before.before.before.before.before.before.before.before.before.before.before.before.before.before.before.before.before.loop.invariant), search (rules, c.before.before.before.before.before.before.before.before.before.before.before.before.before.before.before.read_Some.auto, c.before.before.before.before.before.before.before.before.before.before.before.before.before.before.before.before.before.before.before.before.before.before.before.loop.invariant), search (rules, c.before.before.before.before.before.before.before.before.before.before.before.before.before.before.before.read_Some.auto, c.before.before.before.before.before.before.before.before.before.before.before.before.before.before.before.before.before.before.before.before.before.before.before.loop.invariant), search (rules, c.before.before.before.before.before.before.before.before.before.before.before.before.before.before.before.read_Some.auto, c.before.before.before.before.before.before.before.before.before.before.before.before.before.before.before.before.before.before.before.before.before.before.before.loop.invariant), search (rules, c.before.before.before.before.before.before.before.before.before.before.before.before.before.before.before.read_Some.auto, c.before.before.before.before.before.before.before.before.before.before.before.before.before.before.before.before.before.before.before.before.before.before.before.loop.invariant), fed-further _ _ _ _ _ _ _ _ _ _ _ _ _ _ _ _ _ _ _ _ _ c.before.before.before.before.before.before.before.before.before.before.before.before.before.before.before.before.before.before.before.before.before.before.before.loop.invariant.6 c.before.before.before.before.before.before.before.before.before.before.before.before.before.before.before.read_Some.ensures)
+loop-again c = (search (rules, c.before.before.before.before.before.before.before.before.before.before.before.before.before.before.before.read_Some.auto, c.before.before.before.before.before.before.before.before.before.before.before.before.before.before.before.before.before.before.before.before.before.before.before.loop.invariant), search (rules, c.before.before.before.before.before.before.before.before.before.before.before.before.before.before.before.read_Some.auto, c.before.before.before.before.before.before.before.before.before.before.before.before.before.before.before.before.before.before.before.before.before.before.before.loop.invariant), search (rules, c.before.before.before.before.before.before.before.before.before.before.before.before.before.before.before.read_Some.auto, c.before.before.before.before.before.before.before.before.before.before.before.before.before.before.before.before.before.before.before.before.before.before.before.loop.invariant), search (rules, c.before.before.before.before.before.before.before.before.before.before.before.before.before.before.before.read_Some.auto, c.before.before.before.before.before.before.before.before.before.before.before.before.before.before.before.before.before.before.before.before.before.before.before.loop.invariant), search (rules, c.before.before.before.before.before.before.before.before.before.before.before.before.before.before.before.read_Some.auto, c.before.before.before.before.before.before.before.before.before.before.before.before.before.before.before.before.before.before.before.before.before.before.before.loop.invariant), search (rules, c.before.before.before.before.before.before.before.before.before.before.before.before.before.before.before.read_Some.auto, c.before.before.before.before.before.before.before.before.before.before.before.before.before.before.before.before.before.before.before.before.before.before.before.loop.invariant), fed_further _ _ _ _ _ _ _ _ _ _ _ _ _ _ _ _ _ _ _ _ _ c.before.before.before.before.before.before.before.before.before.before.before.before.before.before.before.before.before.before.before.before.before.before.before.loop.invariant.6 c.before.before.before.before.before.before.before.before.before.before.before.before.before.before.before.read_Some.ensures)
 
 same-length-7 : tie.Need-same-length-7 invariant-loop decreases-loop
 same-length-7 c = search rules

@@ -1,5 +1,5 @@
 -- `read_some` feeds what it read, or what stands for a read that failed. Assumes nothing.
-use Rattle.bench_feed.specs.FeedingLaws.{fed-nothing, fed-part}
+use Rattle.bench_feed.specs.FeedingLaws.{fed_nothing, fed_part}
 use borrow.Author.Rules.{rules}
 use Rattle.bench_input.proofs.read_some.Statement.{statement}
 use Rattle.bench_input.proofs.read_some.Tie as tie
@@ -32,7 +32,7 @@ same-length-6 : tie.Need-same-length-6
 same-length-6 c = search rules
 
 returns : tie.Need-returns
-returns c = fed-part _ _ _ _ _ _ _ _ _ _ _ _ _ _ _ c.before.before.before.before.before.before.before.before.before.before.before.before.fail-read.ensures
+returns c = fed_part _ _ _ _ _ _ _ _ _ _ _ _ _ _ _ c.before.before.before.before.before.before.before.before.before.before.before.before.fail-read.ensures
 
 slice-aggregate-count : tie.Need-slice-aggregate-count
 slice-aggregate-count c = search rules
@@ -41,7 +41,7 @@ count-requires : tie.Need-count-requires
 count-requires c κs = search rules
 
 returns-2 : tie.Need-returns-2
-returns-2 c = fed-nothing _ _ _ _ _ _ _
+returns-2 c = fed_nothing _ _ _ _ _ _ _
 
 array-share-prefix-buf : tie.Need-array-share-prefix-buf
 array-share-prefix-buf c = search rules
@@ -71,7 +71,7 @@ same-length-12 : tie.Need-same-length-12
 same-length-12 c = search rules
 
 returns-3 : tie.Need-returns-3
-returns-3 c = fed-part _ _ _ _ _ _ _ _ _ _ _ _ _ _ _ c.before.before.before.before.before.before.before.before.before.before.before.before.feed.ensures
+returns-3 c = fed_part _ _ _ _ _ _ _ _ _ _ _ _ _ _ _ c.before.before.before.before.before.before.before.before.before.before.before.before.feed.ensures
 
 pub read-some-spec : {M : Type 1} → statement M
 read-some-spec =

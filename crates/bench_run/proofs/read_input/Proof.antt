@@ -1,5 +1,5 @@
 -- `read_input` has read some text. Assumes nothing.
-use Rattle.bench_run.specs.Run.{input-read}
+use Rattle.bench_run.specs.Run.{input_read}
 use borrow.Author.Rules.{rules}
 use Rattle.bench_run.proofs.read_input.Statement.{statement}
 use Rattle.bench_run.proofs.read_input.Tie as tie
@@ -32,7 +32,7 @@ same-length-6 : tie.Need-same-length-6
 same-length-6 c = search (rules, c.before.before.before.before.before.before.before.before.before.before.before.before.before.before.read_all.auto, c.before.before.before.before.before.before.before.before.before.before.before.before.before.before.before.before.before.before.before.before.before.before.before.begin.auto)
 
 returns : tie.Need-returns
-returns c = input-read _ _ _ _ _ _ _ _ _ _ _ _ _ _ _ _ _ c.before.before.before.before.before.before.before.before.before.before.before.before.before.before.before.before.before.before.before.before.before.before.before.begin.ensures c.before.before.before.before.before.before.before.before.before.before.before.before.before.before.read_all.ensures c.end-text.ensures
+returns c = input_read _ _ _ _ _ _ _ _ _ _ _ _ _ _ _ _ _ c.before.before.before.before.before.before.before.before.before.before.before.before.before.before.before.before.before.before.before.before.before.before.before.begin.ensures c.before.before.before.before.before.before.before.before.before.before.before.before.before.before.read_all.ensures c.end-text.ensures
 
 pub read-input-spec : {M : Type 1} → statement M
 read-input-spec = tie.close (tie.spec begin-requires read-all-requires end-text-requires same_length same-length-2 same-length-3 same-length-4 same-length-5 same-length-6 returns)

@@ -1,6 +1,6 @@
 -- `stitch_next` meets its contract. Assumes nothing.
 use mathlib.Core.Path.{◌∙◌}
-use Rattle.bench_stitch.proofs.StitchLaws.{stitched-text}
+use Rattle.bench_stitch.proofs.StitchLaws.{stitched_text_lem}
 use borrow.Author.Rules.{rules}
 use Rattle.bench_stitch.proofs.stitch_next.Statement.{statement}
 use Rattle.bench_stitch.proofs.stitch_next.Tie as tie
@@ -48,7 +48,7 @@ same-length-12 : tie.Need-same-length-12
 same-length-12 c = c.before.before.before.before.before.before.before.before.before.before.before.before.before.before.before.before.print-stitched.auto.1.1.1.1.1.1.1.1.1.1.1.1.1.1.1.1.1.0
 
 returns : tie.Need-returns
-returns c = stitched-text _ _ _ _ _ _ _ _ _ _ _ _ _ _ _ _ _ _ _ _ _ _ _ _ c.before.before.before.before.before.before.before.before.before.before.before.before.before.before.before.before.print-stitched.ensures c.before.before.before.before.before.before.before.before.before.before.before.before.before.before.before.before.before.before.before.before.before.before.before.before.before.before.before.before.before.before.before.before.before.before.before.before.before.before.before.stitch.ensures
+returns c = stitched_text_lem _ _ _ _ _ _ _ _ _ _ _ _ _ _ _ _ _ _ _ _ _ _ _ _ c.before.before.before.before.before.before.before.before.before.before.before.before.before.before.before.before.print-stitched.ensures c.before.before.before.before.before.before.before.before.before.before.before.before.before.before.before.before.before.before.before.before.before.before.before.before.before.before.before.before.before.before.before.before.before.before.before.before.before.before.before.stitch.ensures
 
 pub stitch-next-spec : {M : Type 1} → statement M
 stitch-next-spec = tie.close (tie.spec stitch-requires print-stitched-requires same_length same-length-2 same-length-3 same-length-4 same-length-5 same-length-6 same-length-7 same-length-8 same-length-9 same-length-10 same-length-11 same-length-12 returns)

@@ -1,8 +1,8 @@
 -- `finish_bin` writes what the program is to print of the sheet, if it is more than a refusal. Assumes nothing.
-use Rattle.bench_finish.specs.Whole.{told-count}
-use Rattle.bench_run.specs.Lengths.{finished-short}
-use Rattle.bench_run.specs.Smaller.{bin-faces, bin-spacious, bin-within, yard-bodies}
-use Rattle.bench_yard.proofs.Lengths.{bin-lengths}
+use Rattle.bench_finish.specs.Whole.{told_count}
+use Rattle.bench_run.specs.Lengths.{finished_short}
+use Rattle.bench_run.specs.Smaller.{bin_faces, bin_spacious, bin_within, yard_bodies}
+use Rattle.bench_yard.proofs.Lengths.{bin_lengths}
 use borrow.Author.Rules.{rules}
 use Rattle.bench_yard.proofs.finish_bin.Statement.{statement}
 use Rattle.bench_yard.proofs.finish_bin.Tie as tie
@@ -62,7 +62,7 @@ same_length : tie.Need-same-length
 same_length c = search rules
 
 returns : tie.Need-returns
-returns c = (finished-short _ _ _ _ _ _ _ _ _ _ _ _ bin-lengths _ bin-within bin-spacious bin-faces yard-bodies _ c.before.before.before.before.before.before.before.before.before.before.before.before.before.before.before.before.before.before.before.before.before.before.before.before.before.before.before.before.before.before.before.before.before.bin-limits.ensures _ _ c.before.before.before.before.before.before.before.before.before.before.before.before.before.before.before.before.before.before.before.before.before.before.before.before.before.before.before.before.before.before.before.before.with-limits.ensures _ _ _ c.before.before.before.before.before.before.before.before.before.before.before.before.before.before.before.before.answer-sheet.ensures, told-count _ _ _ _ _ c.before.before.before.before.before.before.before.before.before.before.before.before.before.before.before.before.answer-sheet.ensures)
+returns c = (finished_short _ _ _ _ _ _ _ _ _ _ _ _ bin_lengths _ bin_within bin_spacious bin_faces yard_bodies _ c.before.before.before.before.before.before.before.before.before.before.before.before.before.before.before.before.before.before.before.before.before.before.before.before.before.before.before.before.before.before.before.before.before.bin-limits.ensures _ _ c.before.before.before.before.before.before.before.before.before.before.before.before.before.before.before.before.before.before.before.before.before.before.before.before.before.before.before.before.before.before.before.before.with-limits.ensures _ _ _ c.before.before.before.before.before.before.before.before.before.before.before.before.before.before.before.before.answer-sheet.ensures, told_count _ _ _ _ _ c.before.before.before.before.before.before.before.before.before.before.before.before.before.before.before.before.answer-sheet.ensures)
 
 pub finish-bin-spec : {M : Type 1} → statement M
 finish-bin-spec = tie.close (tie.spec bin-limits-requires with-limits-requires slice-aggregate-answer-sheet slice-aggregate-answer-sheet-2 slice-aggregate-answer-sheet-3 slice-aggregate-answer-sheet-4 slice-aggregate-answer-sheet-5 slice-aggregate-answer-sheet-6 slice-aggregate-answer-sheet-7 slice-aggregate-answer-sheet-8 slice-aggregate-answer-sheet-9 slice-aggregate-answer-sheet-10 slice-aggregate-answer-sheet-11 slice-aggregate-answer-sheet-12 slice-aggregate-answer-sheet-13 slice-aggregate-answer-sheet-14 answer-sheet-requires same_length returns)

@@ -1,6 +1,6 @@
 -- `finish_large` writes what the program is to print of the sheet. Assumes nothing.
-use Rattle.bench_finish.specs.Whole.{told-count}
-use Rattle.bench_run.specs.Lengths.{finished-in}
+use Rattle.bench_finish.specs.Whole.{told_count}
+use Rattle.bench_run.specs.Lengths.{finished_in}
 use Rattle.bench_yard.proofs.Lengths.{lengths}
 use borrow.Author.Rules.{rules}
 use Rattle.bench_yard.proofs.finish_large.Statement.{statement}
@@ -55,7 +55,7 @@ same_length : tie.Need-same-length
 same_length c = search rules
 
 returns : tie.Need-returns
-returns c = (finished-in _ _ _ _ _ _ _ _ _ _ _ _ lengths _ _ _ _ c.before.before.before.before.before.before.before.before.before.before.before.before.before.before.before.before.answer-sheet.ensures, told-count _ _ _ _ _ c.before.before.before.before.before.before.before.before.before.before.before.before.before.before.before.before.answer-sheet.ensures)
+returns c = (finished_in _ _ _ _ _ _ _ _ _ _ _ _ lengths _ _ _ _ c.before.before.before.before.before.before.before.before.before.before.before.before.before.before.before.before.answer-sheet.ensures, told_count _ _ _ _ _ c.before.before.before.before.before.before.before.before.before.before.before.before.before.before.before.before.answer-sheet.ensures)
 
 pub finish-large-spec : {M : Type 1} → statement M
 finish-large-spec = tie.close (tie.spec slice-aggregate-answer-sheet slice-aggregate-answer-sheet-2 slice-aggregate-answer-sheet-3 slice-aggregate-answer-sheet-4 slice-aggregate-answer-sheet-5 slice-aggregate-answer-sheet-6 slice-aggregate-answer-sheet-7 slice-aggregate-answer-sheet-8 slice-aggregate-answer-sheet-9 slice-aggregate-answer-sheet-10 slice-aggregate-answer-sheet-11 slice-aggregate-answer-sheet-12 slice-aggregate-answer-sheet-13 slice-aggregate-answer-sheet-14 answer-sheet-requires same_length returns)

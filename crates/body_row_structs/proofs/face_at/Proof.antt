@@ -41,7 +41,7 @@ use denote.Triple.Clauses.{ensured, lasts}
 use Rattle.mesh_materials.specs.declared.FaceId.{FaceId}
 use Rattle.mesh_materials.specs.contracts.FaceId as F
 use Rattle.mesh_materials.proofs.FaceId.TheLaws as F'
-use Rattle.body_row_structs.specs.FaceRows.{rowAt}
+use Rattle.body_row_structs.specs.FaceRows.{row_at}
 use Rattle.body_row_structs.specs.declared.Row.{Row}
 use Rattle.body_row_structs.specs.contracts.Row as T
 use Rattle.body_row_structs.proofs.Row.TheLaws as T'
@@ -65,16 +65,16 @@ spelled : (r : Row) (u : Val) → Is R r (u ∷ []) → u ≡ T'.lowered r
 spelled r u is = ap (λ (vs : List Val). elim vs [ [] ↦ u | w ∷ _ ↦ w ]) (LL.tells T.the_type T'.the_laws r (u ∷ []) is)
 
 -- its face number has 32 bits
-face-fits : (r : Row) (u : Val) → Is R r (u ∷ []) → r.face < 2 ^ 32
-face-fits r u is = (LL.owed T.the_type T'.the_laws r (u ∷ []) is).1.0.1
+face_fits : (r : Row) (u : Val) → Is R r (u ∷ []) → r.face < 2 ^ 32
+face_fits r u is = (LL.owed T.the_type T'.the_laws r (u ∷ []) is).1.0.1
 
 -- the face of a row
 abbrev face : Row → FaceId
 face r = record { 0 = r.face }
 
 -- it has its struct's type
-face-is : (r : Row) → r.face < 2 ^ 32 → Is F.the_row (face r) (F'.lowered (face r) ∷ [])
-face-is r f = LL.owes F.the_type F'.the_laws (face r) ((refl, f), tt)
+face_is : (r : Row) → r.face < 2 ^ 32 → Is F.the_row (face r) (F'.lowered (face r) ∷ [])
+face_is r f = LL.owes F.the_type F'.the_laws (face r) ((refl, f), tt)
 
 abbrev stayed : Stays (faceat.ended).signature.params (faceat.ended).kept
 stayed = (stay_none_slice (0 ∷ []) tt (plain (λ _. R)) yes, (stay_none (λ _. usize) yes, tt))
@@ -93,7 +93,7 @@ module _ {M : Type 1} {𝓤 : Ura M} (𝓛 : Logic 𝓤) (mem : Memory → SProp
 
   -- the row that is asked for
   abbrev found : Row
-  found = rowAt x.now k
+  found = row_at x.now k
 
   abbrev at : Vals faceat.signature (κ, tt)
   at = (v ∷ [], (vint w64 k ∷ [], tt))
@@ -124,7 +124,7 @@ module _ {M : Type 1} {𝓤 : Ura M} (𝓛 : Logic 𝓤) (mem : Memory → SProp
       qed 𝓛 ((‵ (flft κ q) ⊛ ‵ ftrue) ∷ ‵ Own ∷ []) ∵
       suffices ! _ (ends_at 𝓛 faceat.ended stayed (faceat.clauses 𝓛 mem run) (((κ, tt), (q, tt), tt, (x, (k, tt)), at), tt) (F'.lowered (face r)) (face r) (tt, (tt, tt)) (tt, (tt, tt))) $ says ! (ap face e) $
       frame ! $ nothing ! $ owned ! usize (Is usize) (uint_Makes 𝓛 w64) k _ (refl, k-fits) $ fjoin ! $ move ! (1 ∷ 0 ∷ []) $ fjoin ! $ frame ! $
-      owned ! F.the_row (Is F.the_row) (LL.makes F.the_type F'.the_plain 𝓛) (face r) _ (face-is r f) $ done !
+      owned ! F.the_row (Is F.the_row) (LL.makes F.the_type F'.the_plain 𝓛) (face r) _ (face_is r f) $ done !
 
   module _ (C : Calls 𝓤 H) (Λ : Loops 𝓤 H) (fm : FmC 𝓤 H 𝓛.laws C) (known : Triple 𝓤 (C #body-row-structs·row-at) (RowAt 𝓛 mem run)) where
     walk : Is (S κ) x (v ∷ []) → ent 𝓤 (on_entry 𝓛 faceat.signature (κ, tt) (q, tt) (x, (k, tt)) at) (WpFn 𝓤 H C Λ code.function (v ∷ vint w64 k ∷ []) Post)
@@ -139,23 +139,23 @@ module _ {M : Type 1} {𝓤 : Ura M} (𝓛 : Logic 𝓤) (mem : Memory → SProp
         peeks ! R (Is R) (shows 𝓛 R) r (u ∷ []) (λ is.
         land ! (from ! (stop !)) (init ! 3 refl ((LL.lawful T.the_type T'.the_laws 𝓛).typed r _ is).0) $
         rewrite ! 3 (λ (w : Val). ‵ (fat full_share T'.mir l₃ 0 w)) (spelled r u is) refl $
-        assigns ! (agg ! (and_then ! (load ! (from ! (fld ! refl (stop !))) (look_in ! 3 (sub ! 1 refl (whole !)))) (no_more !))) (from ! (stop !)) (init ! 9 refl ((LL.lawful F.the_type F'.the_laws 𝓛).typed (face r) (F'.lowered (face r) ∷ []) (face-is r (face-fits r u is))).0) $
+        assigns ! (agg ! (and_then ! (load ! (from ! (fld ! refl (stop !))) (look_in ! 3 (sub ! 1 refl (whole !)))) (no_more !))) (from ! (stop !)) (init ! 9 refl ((LL.lawful F.the_type F'.the_laws 𝓛).typed (face r) (F'.lowered (face r) ∷ []) (face_is r (face_fits r u is))).0) $
         returns ! (look ! 9 refl) $ forget ! 3 refl $ forget ! 5 refl $ forget ! 7 refl $ forget ! 9 refl $
-        move ! (9 ∷ 10 ∷ []) $ free1 ! $ move ! (7 ∷ 8 ∷ []) $ free1 ! $ move ! (5 ∷ 6 ∷ []) $ free1 ! $ move ! (3 ∷ 4 ∷ []) $ free1 ! $ free0 ! $ drop ! $ by ! (exits r e (face-fits r u is))))))))))
+        move ! (9 ∷ 10 ∷ []) $ free1 ! $ move ! (7 ∷ 8 ∷ []) $ free1 ! $ move ! (5 ∷ 6 ∷ []) $ free1 ! $ move ! (3 ∷ 4 ∷ []) $ free1 ! $ free0 ! $ drop ! $ by ! (exits r e (face_fits r u is))))))))))
 
 module _ {M : Type 1} {𝓤 : Ura M} (𝓛 : Logic 𝓤) (mem : Memory → SProp 𝓤) (run : Routine → Fun 𝓤) where
   open 𝓛 use {H}
 
-  face-at-walks : (C : Calls 𝓤 H) (Λ : Loops 𝓤 H) → FmC 𝓤 H 𝓛.laws C → Triple 𝓤 (C #body-row-structs·row-at) (RowAt 𝓛 mem run)
+  face_at_walks : (C : Calls 𝓤 H) (Λ : Loops 𝓤 H) → FmC 𝓤 H 𝓛.laws C → Triple 𝓤 (C #body-row-structs·row-at) (RowAt 𝓛 mem run)
       → Walks 𝓛 faceat.ended stayed (WpFn 𝓤 H C Λ code.function) (faceat.clauses 𝓛 mem run)
-  face-at-walks C Λ fm known = walked 𝓛 faceat.ended stayed (faceat.clauses 𝓛 mem run) (WpFn 𝓤 H C Λ code.function) (λ κs. (shr_slice_vals, (uint_vals w64, tt))) (λ κs. (shr_slice_Tells (named 0) κs.0 R, (uint_Tells w64, tt)))
+  face_at_walks C Λ fm known = walked 𝓛 faceat.ended stayed (faceat.clauses 𝓛 mem run) (WpFn 𝓤 H C Λ code.function) (λ κs. (shr_slice_vals, (uint_vals w64, tt))) (λ κs. (shr_slice_Tells (named 0) κs.0 R, (uint_Tells w64, tt)))
       (λ κs qs bounds a g are. via 𝓤 _ (fst∗ 𝓤 _ (emp 𝓤)) (walk 𝓛 mem run κs.0 qs.0 a.0 a.1.0 are.1.0.1 C Λ fm known are.0))
 
 face-at-meets : {M : Type 1} {𝓤 : Ura M} (𝓛 : Logic 𝓤) (mem : Memory → SProp 𝓤) (run : Routine → Fun 𝓤) (𝓣 : Tables 𝓤 𝓛.H)
     → Triple 𝓤 (𝓣.C #body-row-structs·row-at) (RowAt 𝓛 mem run)
     → Meets 𝓛 faceat.signature (WpFn 𝓤 𝓛.H 𝓣.C 𝓣.Λ code.function) (faceat.spec 𝓛 mem run)
 face-at-meets {𝓤 = 𝓤} 𝓛 mem run 𝓣 known = walk_Meets 𝓛 faceat.ended stayed (Goes-none_slice 𝓛 1 (0 ∷ []) tt (plain (λ _. R)) yes, (Goes-none 𝓛 1 (λ _. usize) yes (λ κs x f. refl), tt)) (faceat.clauses 𝓛 mem run) (WpFn 𝓤 𝓛.H 𝓣.C 𝓣.Λ code.function) (WpFn-mono 𝓤 𝓛.H 𝓛.laws 𝓣 code.function)
-    (face-at-walks 𝓛 mem run 𝓣.C 𝓣.Λ (fm_of 𝓤 𝓛.H 𝓛.laws 𝓣) known)
+    (face_at_walks 𝓛 mem run 𝓣.C 𝓣.Λ (fm_of 𝓤 𝓛.H 𝓛.laws 𝓣) known)
 
 pub face-at-spec : {M : Type 1} → stated.statement M
 unfolding code.routine tables_of

@@ -4,8 +4,8 @@
 use mathlib.Core.Path.{◌≡◌, refl, sym}
 use Prim.Native.Nat.{ℕ, ◌*◌, ◌<◌, ◌^◌}
 use native.Mathlib.Omega.{arith}
-use Rattle.body_rows.specs.Body.{rowWidth}
-use Rattle.body_row_structs.specs.FaceRows.{no_row, rowAt}
+use Rattle.body_rows.specs.Body.{row_width}
+use Rattle.body_row_structs.specs.FaceRows.{no_row, row_at}
 use mathlib.Core.List.{List, [], ◌∷◌}
 use lib.Dec.{ltb→lt, nltb→le, lit<}
 use lib.ListN.{length, get_or-eq_default}
@@ -64,11 +64,11 @@ abbrev stayed : Stays (rowat.ended).signature.params (rowat.ended).kept
 stayed = (stay_none_slice (0 ∷ []) tt (plain (λ _. R)) yes, (stay_none (λ _. usize) yes, tt))
 
 -- how many bytes a row takes: four a number
-abbrev rowBytes : ℕ
-rowBytes = 4 * rowWidth
+abbrev row_bytes : ℕ
+row_bytes = 4 * row_width
 
 -- k rows' bytes fit a usize, since the slice's bytes fit an isize
-offset : (k n : ℕ) → k < n → n * rowBytes < 2 ^ 63 → k * rowBytes < 2 ^ 64
+offset : (k n : ℕ) → k < n → n * row_bytes < 2 ^ 63 → k * row_bytes < 2 ^ 64
 offset k n l g = omega arith
 
 module _ {M : Type 1} {𝓤 : Ura M} (𝓛 : Logic 𝓤) (mem : Memory → SProp 𝓤) (run : Routine → Fun 𝓤) (κ : Lft) (q : Share) (b o : ℕ) (γ : GName) (ys : List Row) (k : ℕ) where
@@ -82,7 +82,7 @@ module _ {M : Type 1} {𝓤 : Ura M} (𝓛 : Logic 𝓤) (mem : Memory → SProp
   v = slice_val (b, o) (length ys)
 
   abbrev elem : Row
-  elem = rowAt ys k
+  elem = row_at ys k
 
   abbrev mach : Val
   mach = T'.lowered elem
@@ -124,7 +124,7 @@ module _ {M : Type 1} {𝓤 : Ura M} (𝓛 : Logic 𝓤) (mem : Memory → SProp
         let ok = offset k (length ys) l p.0.1.1 in
         assigns ! (bin ! (load ! (from ! (stop !)) (look ! 10 refl)) (lit ! tt) (record { fits = ok })) (from ! (stop !)) (init ! 4 refl (tt, record { fits = ok })) $
         assigns ! (bin ! (load ! (from ! (fld ! refl (stop !))) (look_in ! 12 (sub ! 0 refl (whole !)))) (load ! (from ! (stop !)) (look ! 4 refl)) tt) (from ! (stop !)) (init ! 2 refl (tt, tt)) $
-        rewrite ! 2 (λ (p' : ℕ). ‵ (fat full_share ty_ptr l₆ 0 (vptr b p'))) (sym (place_is rowBytes o k)) refl $
+        rewrite ! 2 (λ (p' : ℕ). ‵ (fat full_share ty_ptr l₆ 0 (vptr b p'))) (sym (place_is row_bytes o k)) refl $
         -- one copy of what the slice owns is kept for the exit; of the other the fractured borrow is kept
         move ! (17 ∷ []) $ fsplit ! $ use1 𝓛 (‵ Own ⊛ ‵ Own) ((shr_slice_copy 𝓛 (named 0) κ R).twice x (v ∷ [])) $ split ! $
         fsplit ! $ drop ! $ fsplit ! $ drop ! $ move ! (19 ∷ []) $ split ! $ move ! (2 ∷ 0 ∷ []) $
@@ -146,13 +146,13 @@ module _ {M : Type 1} {𝓤 : Ura M} (𝓛 : Logic 𝓤) (mem : Memory → SProp
 module _ {M : Type 1} {𝓤 : Ura M} (𝓛 : Logic 𝓤) (mem : Memory → SProp 𝓤) (run : Routine → Fun 𝓤) where
   open 𝓛 use {H}
 
-  row-at-walks : (C : Calls 𝓤 H) (Λ : Loops 𝓤 H) → Walks 𝓛 rowat.ended stayed (WpFn 𝓤 H C Λ code.function) (rowat.clauses 𝓛 mem run)
-  row-at-walks C Λ = walked 𝓛 rowat.ended stayed (rowat.clauses 𝓛 mem run) (WpFn 𝓤 H C Λ code.function) (λ κs. (shr_slice_vals, (uint_vals w64, tt))) (λ κs. (shr_slice_Tells (named 0) κs.0 R, (uint_Tells w64, tt)))
+  row_at_walks : (C : Calls 𝓤 H) (Λ : Loops 𝓤 H) → Walks 𝓛 rowat.ended stayed (WpFn 𝓤 H C Λ code.function) (rowat.clauses 𝓛 mem run)
+  row_at_walks C Λ = walked 𝓛 rowat.ended stayed (rowat.clauses 𝓛 mem run) (WpFn 𝓤 H C Λ code.function) (λ κs. (shr_slice_vals, (uint_vals w64, tt))) (λ κs. (shr_slice_Tells (named 0) κs.0 R, (uint_Tells w64, tt)))
       (λ κs qs bounds a g are. via 𝓤 _ (fst∗ 𝓤 _ (emp 𝓤)) (walk 𝓛 mem run κs.0 qs.0 a.0.ref_ptr.0 a.0.ref_ptr.1 0 a.0.now a.1.0 C Λ are.0 are.1.0.1))
 
 row-at-meets : {M : Type 1} {𝓤 : Ura M} (𝓛 : Logic 𝓤) → (mem : Memory → SProp 𝓤) (run : Routine → Fun 𝓤) (𝓣 : Tables 𝓤 𝓛.H)
     → Meets 𝓛 rowat.signature (WpFn 𝓤 𝓛.H 𝓣.C 𝓣.Λ code.function) (rowat.spec 𝓛 mem run)
-row-at-meets {𝓤 = 𝓤} 𝓛 mem run 𝓣 = walk_Meets 𝓛 rowat.ended stayed (Goes-none_slice 𝓛 1 (0 ∷ []) tt (plain (λ _. R)) yes, (Goes-none 𝓛 1 (λ _. usize) yes (λ κs x f. refl), tt)) (rowat.clauses 𝓛 mem run) (WpFn 𝓤 𝓛.H 𝓣.C 𝓣.Λ code.function) (WpFn-mono 𝓤 𝓛.H 𝓛.laws 𝓣 code.function) (row-at-walks 𝓛 mem run 𝓣.C 𝓣.Λ)
+row-at-meets {𝓤 = 𝓤} 𝓛 mem run 𝓣 = walk_Meets 𝓛 rowat.ended stayed (Goes-none_slice 𝓛 1 (0 ∷ []) tt (plain (λ _. R)) yes, (Goes-none 𝓛 1 (λ _. usize) yes (λ κs x f. refl), tt)) (rowat.clauses 𝓛 mem run) (WpFn 𝓤 𝓛.H 𝓣.C 𝓣.Λ code.function) (WpFn-mono 𝓤 𝓛.H 𝓛.laws 𝓣 code.function) (row_at_walks 𝓛 mem run 𝓣.C 𝓣.Λ)
 
 pub row-at-spec : {M : Type 1} → stated.statement M
 unfolding code.routine tables_of

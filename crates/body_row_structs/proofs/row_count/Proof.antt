@@ -78,13 +78,13 @@ module _ {M : Type 1} {𝓤 : Ura M} (𝓛 : Logic 𝓤) (mem : Memory → SProp
 module _ {M : Type 1} {𝓤 : Ura M} (𝓛 : Logic 𝓤) (mem : Memory → SProp 𝓤) (run : Routine → Fun 𝓤) where
   open 𝓛 use {H}
 
-  row-count-walks : (C : Calls 𝓤 H) (Λ : Loops 𝓤 H) → Walks 𝓛 rowcount.ended stayed (WpFn 𝓤 H C Λ code.function) (rowcount.clauses 𝓛 mem run)
-  row-count-walks C Λ = walked 𝓛 rowcount.ended stayed (rowcount.clauses 𝓛 mem run) (WpFn 𝓤 H C Λ code.function) (λ κs. (shr_slice_vals, tt)) (λ κs. (shr_slice_Tells (named 0) κs.0 R, tt))
+  row_count_walks : (C : Calls 𝓤 H) (Λ : Loops 𝓤 H) → Walks 𝓛 rowcount.ended stayed (WpFn 𝓤 H C Λ code.function) (rowcount.clauses 𝓛 mem run)
+  row_count_walks C Λ = walked 𝓛 rowcount.ended stayed (rowcount.clauses 𝓛 mem run) (WpFn 𝓤 H C Λ code.function) (λ κs. (shr_slice_vals, tt)) (λ κs. (shr_slice_Tells (named 0) κs.0 R, tt))
       (λ κs qs bounds a g are. via 𝓤 _ (fst∗ 𝓤 _ (emp 𝓤)) (walk 𝓛 mem run κs.0 qs.0 a.0 C Λ are.0))
 
 row-count-meets : {M : Type 1} {𝓤 : Ura M} (𝓛 : Logic 𝓤) → (mem : Memory → SProp 𝓤) (run : Routine → Fun 𝓤) (𝓣 : Tables 𝓤 𝓛.H)
     → Meets 𝓛 rowcount.signature (WpFn 𝓤 𝓛.H 𝓣.C 𝓣.Λ code.function) (rowcount.spec 𝓛 mem run)
-row-count-meets {𝓤 = 𝓤} 𝓛 mem run 𝓣 = walk_Meets 𝓛 rowcount.ended stayed (Goes-none_slice 𝓛 1 (0 ∷ []) tt (plain (λ _. R)) yes, tt) (rowcount.clauses 𝓛 mem run) (WpFn 𝓤 𝓛.H 𝓣.C 𝓣.Λ code.function) (WpFn-mono 𝓤 𝓛.H 𝓛.laws 𝓣 code.function) (row-count-walks 𝓛 mem run 𝓣.C 𝓣.Λ)
+row-count-meets {𝓤 = 𝓤} 𝓛 mem run 𝓣 = walk_Meets 𝓛 rowcount.ended stayed (Goes-none_slice 𝓛 1 (0 ∷ []) tt (plain (λ _. R)) yes, tt) (rowcount.clauses 𝓛 mem run) (WpFn 𝓤 𝓛.H 𝓣.C 𝓣.Λ code.function) (WpFn-mono 𝓤 𝓛.H 𝓛.laws 𝓣 code.function) (row_count_walks 𝓛 mem run 𝓣.C 𝓣.Λ)
 
 pub row-count-spec : {M : Type 1} → stated.statement M
 unfolding code.routine tables_of

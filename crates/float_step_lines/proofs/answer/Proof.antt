@@ -1,11 +1,11 @@
 -- `answer` meets its contract. Assumes nothing.
 use mathlib.Core.Path.{◌∙◌, ap, refl}
 use native.Mathlib.Omega.{arith}
-use Rattle.sheet_lines.specs.Counted.{countIn}
+use Rattle.sheet_lines.specs.Counted.{count_in}
 use Rattle.sheet_lines.specs.Pattern.{piece}
-use Rattle.float_step_lines.specs.Lines.{Widen, Narrow, Sqrt, Round, Larger, replyOf}
+use Rattle.float_step_lines.specs.Lines.{Widen, Narrow, Sqrt, Round, Larger, reply_of}
 use Rattle.float_step_lines.specs.declared.Reply.TheVariants.{Long, Short}
-use Rattle.float_step_lines.proofs.Laws.{left-all, left-more, left-none, left_one, left-two, short}
+use Rattle.float_step_lines.proofs.Laws.{left_all, left_more, left_none, left_one, left_two, short}
 use borrow.Author.Rules.{rules}
 use Rattle.float_step_lines.proofs.answer.Statement.{statement}
 use Rattle.float_step_lines.proofs.answer.Tie as tie
@@ -17,7 +17,7 @@ slice-aggregate-scan-2 : tie.Need-slice-aggregate-scan-2
 slice-aggregate-scan-2 c = search rules
 
 scan-requires : tie.Need-scan-requires
-unfolding countIn piece
+unfolding count_in piece
 scan-requires c κs = search rules
 
 array-read-widen : tie.Need-array-read-widen
@@ -30,8 +30,8 @@ widen-requires : tie.Need-widen-requires
 widen-requires c κs = search rules
 
 returns : tie.Need-returns
-unfolding replyOf
-returns c = ap Long c.widen.ensures ∙ left_one Widen (left-all _) c.before.before.before.scan.ensures c.before.if1.true (search rules) refl
+unfolding reply_of
+returns c = ap Long c.widen.ensures ∙ left_one Widen (left_all _) c.before.before.before.scan.ensures c.before.if1.true (search rules) refl
 
 slice-aggregate-scan-3 : tie.Need-slice-aggregate-scan-3
 slice-aggregate-scan-3 c = search rules
@@ -40,7 +40,7 @@ slice-aggregate-scan-4 : tie.Need-slice-aggregate-scan-4
 slice-aggregate-scan-4 c = search rules
 
 scan-requires-2 : tie.Need-scan-requires-2
-unfolding countIn piece
+unfolding count_in piece
 scan-requires-2 c κs = search rules
 
 array-read-narrow : tie.Need-array-read-narrow
@@ -50,8 +50,8 @@ narrow-requires : tie.Need-narrow-requires
 narrow-requires c κs = search rules
 
 returns-2 : tie.Need-returns-2
-unfolding replyOf
-returns-2 c = ap Short c.narrow.ensures ∙ left_one Narrow (left-more Widen (left-all _) c.before.before.before.before.before.before.before.before.scan.ensures c.before.before.before.before.before.before.if1.false) c.before.before.before.scan2.ensures c.before.if2.true (search rules) refl
+unfolding reply_of
+returns-2 c = ap Short c.narrow.ensures ∙ left_one Narrow (left_more Widen (left_all _) c.before.before.before.before.before.before.before.before.scan.ensures c.before.before.before.before.before.before.if1.false) c.before.before.before.scan2.ensures c.before.if2.true (search rules) refl
 
 slice-aggregate-scan-5 : tie.Need-slice-aggregate-scan-5
 slice-aggregate-scan-5 c = search rules
@@ -60,7 +60,7 @@ slice-aggregate-scan-6 : tie.Need-slice-aggregate-scan-6
 slice-aggregate-scan-6 c = search rules
 
 scan-requires-3 : tie.Need-scan-requires-3
-unfolding countIn piece
+unfolding count_in piece
 scan-requires-3 c κs = search rules
 
 array-read-sqrt : tie.Need-array-read-sqrt
@@ -70,8 +70,8 @@ sqrt-requires : tie.Need-sqrt-requires
 sqrt-requires c κs = search rules
 
 returns-3 : tie.Need-returns-3
-unfolding replyOf
-returns-3 c = ap Long c.sqrt.ensures ∙ left_one Sqrt (left-more Narrow (left-more Widen (left-all _) c.before.before.before.before.before.before.before.before.before.before.before.before.before.scan.ensures c.before.before.before.before.before.before.before.before.before.before.before.if1.false) c.before.before.before.before.before.before.before.before.scan2.ensures c.before.before.before.before.before.before.if2.false) c.before.before.before.scan3.ensures c.before.if3.true (search rules) refl
+unfolding reply_of
+returns-3 c = ap Long c.sqrt.ensures ∙ left_one Sqrt (left_more Narrow (left_more Widen (left_all _) c.before.before.before.before.before.before.before.before.before.before.before.before.before.scan.ensures c.before.before.before.before.before.before.before.before.before.before.before.if1.false) c.before.before.before.before.before.before.before.before.scan2.ensures c.before.before.before.before.before.before.if2.false) c.before.before.before.scan3.ensures c.before.if3.true (search rules) refl
 
 slice-aggregate-scan-7 : tie.Need-slice-aggregate-scan-7
 slice-aggregate-scan-7 c = search rules
@@ -80,7 +80,7 @@ slice-aggregate-scan-8 : tie.Need-slice-aggregate-scan-8
 slice-aggregate-scan-8 c = search rules
 
 scan-requires-4 : tie.Need-scan-requires-4
-unfolding countIn piece
+unfolding count_in piece
 scan-requires-4 c κs = search rules
 
 array-read-round : tie.Need-array-read-round
@@ -90,8 +90,8 @@ round-requires : tie.Need-round-requires
 round-requires c κs = search rules
 
 returns-4 : tie.Need-returns-4
-unfolding replyOf
-returns-4 c = ap Long c.round.ensures ∙ left_one Round (left-more Sqrt (left-more Narrow (left-more Widen (left-all _) c.before.before.before.before.before.before.before.before.before.before.before.before.before.before.before.before.before.before.scan.ensures c.before.before.before.before.before.before.before.before.before.before.before.before.before.before.before.before.if1.false) c.before.before.before.before.before.before.before.before.before.before.before.before.before.scan2.ensures c.before.before.before.before.before.before.before.before.before.before.before.if2.false) c.before.before.before.before.before.before.before.before.scan3.ensures c.before.before.before.before.before.before.if3.false) c.before.before.before.scan4.ensures c.before.if4.true (search rules) refl
+unfolding reply_of
+returns-4 c = ap Long c.round.ensures ∙ left_one Round (left_more Sqrt (left_more Narrow (left_more Widen (left_all _) c.before.before.before.before.before.before.before.before.before.before.before.before.before.before.before.before.before.before.scan.ensures c.before.before.before.before.before.before.before.before.before.before.before.before.before.before.before.before.if1.false) c.before.before.before.before.before.before.before.before.before.before.before.before.before.scan2.ensures c.before.before.before.before.before.before.before.before.before.before.before.if2.false) c.before.before.before.before.before.before.before.before.scan3.ensures c.before.before.before.before.before.before.if3.false) c.before.before.before.scan4.ensures c.before.if4.true (search rules) refl
 
 slice-aggregate-scan-9 : tie.Need-slice-aggregate-scan-9
 slice-aggregate-scan-9 c = search rules
@@ -100,7 +100,7 @@ slice-aggregate-scan-10 : tie.Need-slice-aggregate-scan-10
 slice-aggregate-scan-10 c = search rules
 
 scan-requires-5 : tie.Need-scan-requires-5
-unfolding countIn piece
+unfolding count_in piece
 scan-requires-5 c κs = search rules
 
 array-read-larger : tie.Need-array-read-larger
@@ -113,11 +113,11 @@ larger-requires : tie.Need-larger-requires
 larger-requires c κs = search rules
 
 returns-5 : tie.Need-returns-5
-unfolding replyOf
-returns-5 c = ap Long c.larger.ensures ∙ left-two Larger (left-more Round (left-more Sqrt (left-more Narrow (left-more Widen (left-all _) c.before.before.before.before.before.before.before.before.before.before.before.before.before.before.before.before.before.before.before.before.before.before.before.scan.ensures c.before.before.before.before.before.before.before.before.before.before.before.before.before.before.before.before.before.before.before.before.before.if1.false) c.before.before.before.before.before.before.before.before.before.before.before.before.before.before.before.before.before.before.scan2.ensures c.before.before.before.before.before.before.before.before.before.before.before.before.before.before.before.before.if2.false) c.before.before.before.before.before.before.before.before.before.before.before.before.before.scan3.ensures c.before.before.before.before.before.before.before.before.before.before.before.if3.false) c.before.before.before.before.before.before.before.before.scan4.ensures c.before.before.before.before.before.before.if4.false) c.before.before.before.scan5.ensures c.before.if5.true (search rules) refl
+unfolding reply_of
+returns-5 c = ap Long c.larger.ensures ∙ left_two Larger (left_more Round (left_more Sqrt (left_more Narrow (left_more Widen (left_all _) c.before.before.before.before.before.before.before.before.before.before.before.before.before.before.before.before.before.before.before.before.before.before.before.scan.ensures c.before.before.before.before.before.before.before.before.before.before.before.before.before.before.before.before.before.before.before.before.before.if1.false) c.before.before.before.before.before.before.before.before.before.before.before.before.before.before.before.before.before.before.scan2.ensures c.before.before.before.before.before.before.before.before.before.before.before.before.before.before.before.before.if2.false) c.before.before.before.before.before.before.before.before.before.before.before.before.before.scan3.ensures c.before.before.before.before.before.before.before.before.before.before.before.if3.false) c.before.before.before.before.before.before.before.before.scan4.ensures c.before.before.before.before.before.before.if4.false) c.before.before.before.scan5.ensures c.before.if5.true (search rules) refl
 
 returns-6 : tie.Need-returns-6
-returns-6 c = left-none _ (left-more Larger (left-more Round (left-more Sqrt (left-more Narrow (left-more Widen (left-all _) c.before.before.before.before.before.before.before.before.before.before.before.before.before.before.before.before.before.before.before.before.before.before.scan.ensures c.before.before.before.before.before.before.before.before.before.before.before.before.before.before.before.before.before.before.before.before.if1.false) c.before.before.before.before.before.before.before.before.before.before.before.before.before.before.before.before.before.scan2.ensures c.before.before.before.before.before.before.before.before.before.before.before.before.before.before.before.if2.false) c.before.before.before.before.before.before.before.before.before.before.before.before.scan3.ensures c.before.before.before.before.before.before.before.before.before.before.if3.false) c.before.before.before.before.before.before.before.scan4.ensures c.before.before.before.before.before.if4.false) c.before.before.scan5.ensures c.if5.false)
+returns-6 c = left_none _ (left_more Larger (left_more Round (left_more Sqrt (left_more Narrow (left_more Widen (left_all _) c.before.before.before.before.before.before.before.before.before.before.before.before.before.before.before.before.before.before.before.before.before.before.scan.ensures c.before.before.before.before.before.before.before.before.before.before.before.before.before.before.before.before.before.before.before.before.if1.false) c.before.before.before.before.before.before.before.before.before.before.before.before.before.before.before.before.before.scan2.ensures c.before.before.before.before.before.before.before.before.before.before.before.before.before.before.before.if2.false) c.before.before.before.before.before.before.before.before.before.before.before.before.scan3.ensures c.before.before.before.before.before.before.before.before.before.before.if3.false) c.before.before.before.before.before.before.before.scan4.ensures c.before.before.before.before.before.if4.false) c.before.before.scan5.ensures c.if5.false)
 
 pub answer-spec : {M : Type 1} → statement M
 answer-spec =

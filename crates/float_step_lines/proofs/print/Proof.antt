@@ -1,5 +1,5 @@
 -- `print` meets its contract. Assumes nothing.
-use Rattle.float_step_lines.proofs.Laws.{print-as}
+use Rattle.float_step_lines.proofs.Laws.{print_as}
 use Rattle.float_step_lines.specs.Lines.{printed}
 use Rattle.float_step_lines.specs.declared.Reply.TheVariants.{Long, Short, Refused}
 use borrow.Author.Rules.{rules}
@@ -35,21 +35,21 @@ same_length c = search rules
 
 returns : tie.Need-returns
 unfolding printed
-returns c = print-as (Long _) c.before.before.before.before.before.r.given.1 c.before.before.put-bits.ensures
+returns c = print_as (Long _) c.before.before.before.before.before.r.given.1 c.before.before.put-bits.ensures
 
 same-length-2 : tie.Need-same-length-2
 same-length-2 c = search rules
 
 returns-2 : tie.Need-returns-2
 unfolding printed
-returns-2 c = print-as (Short _) c.before.before.before.before.before.r2.given.1 c.before.before.put-bits2.ensures
+returns-2 c = print_as (Short _) c.before.before.before.before.before.r2.given.1 c.before.before.put-bits2.ensures
 
 same-length-3 : tie.Need-same-length-3
 same-length-3 c = search rules
 
 returns-3 : tie.Need-returns-3
 unfolding printed
-returns-3 c = print-as Refused c.before.before.before.before.before.enum_told.given.1 c.before.before.put-text.ensures
+returns-3 c = print_as Refused c.before.before.before.before.before.enum_told.given.1 c.before.before.put-text.ensures
 
 pub print-spec : {M : Type 1} → statement M
 print-spec =

@@ -1,5 +1,5 @@
 -- `join_table::find` meets its contract. Assumes nothing.
-use Rattle.join_table.proofs.Chains.{walk-compares, walk-less, walk_more, walk-hit, walk-miss}
+use Rattle.join_table.proofs.Chains.{walk_compares, walk_less, walk_more, walk_hit, walk_miss}
 use Rattle.join_table.specs.Table.{Walk}
 use Rattle.join_table.specs.Naming.{names_of}
 use lib.ListN.{take}
@@ -20,10 +20,10 @@ sub-k : tie.Need-overflow-sub-k invariant-loop decreases-loop
 sub-k c = search rules
 
 same-name-requires : tie.Need-same-name-requires invariant-loop decreases-loop
-same-name-requires c κs = search walk-compares
+same-name-requires c κs = search walk_compares
 
 returns : tie.Need-returns invariant-loop decreases-loop
-returns c = search walk-hit
+returns c = search walk_hit
 
 mul-p : tie.Need-overflow-mul-p invariant-loop decreases-loop
 mul-p c = search rules
@@ -38,13 +38,13 @@ shared-slice-read-p : tie.Need-shared-slice-read-p invariant-loop decreases-loop
 shared-slice-read-p c = search rules
 
 loop-less : tie.Need-loop-smaller invariant-loop decreases-loop
-loop-less c = search walk-less
+loop-less c = search walk_less
 
 loop-again : tie.Need-loop-preserved invariant-loop decreases-loop
 loop-again c = search walk_more
 
 returns-2 : tie.Need-returns-2 invariant-loop decreases-loop
-returns-2 c = search walk-miss
+returns-2 c = search walk_miss
 
 pub find_spec : {M : Type 1} → statement M
 find_spec =

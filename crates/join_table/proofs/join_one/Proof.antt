@@ -1,5 +1,5 @@
 -- `join_table::join_one` meets its contract. Assumes nothing.
-use Rattle.join_table.proofs.Chains.{walk_start, step-new, step-found}
+use Rattle.join_table.proofs.Chains.{walk_start, step_new, step_found}
 use lib.ListN.{length-set}
 use native.Mathlib.Omega.{arith}
 use borrow.Author.Rules.{rules}
@@ -78,13 +78,13 @@ same_length c = search rules
 returns : tie.Need-returns
 returns c =
     let b = c.before.before.before.before in
-    step-new b.before.before.before.before.requires b.bucket.ensures c.before.find.ensures c.if1.true
+    step_new b.before.before.before.before.requires b.bucket.ensures c.before.find.ensures c.if1.true
 
 same-length-2 : tie.Need-same-length-2
 same-length-2 c = search rules
 
 returns-2 : tie.Need-returns-2
-returns-2 c = step-found c.before.before.before.before.before.before.before.before.requires c.before.find.ensures c.if1.false
+returns-2 c = step_found c.before.before.before.before.before.before.before.before.requires c.before.find.ensures c.if1.false
 
 pub join-one-spec : {M : Type 1} → statement M
 join-one-spec =

@@ -1,5 +1,5 @@
 -- `join_table::join_table` meets its contract. Assumes nothing.
-use Rattle.join_table.proofs.Chains.{Progress, progress-none, progress-turn, progress-more, progress-all}
+use Rattle.join_table.proofs.Chains.{Progress, progress_none, progress_turn, progress_more, progress_all}
 use Rattle.join_table.specs.Naming.{names_of}
 use Prim.Native.Nat.{◌-◌}
 use borrow.Author.Rules.{rules}
@@ -16,10 +16,10 @@ start-requires : tie.Need-start-requires invariant-loop decreases-loop
 start-requires c κs = search rules
 
 loop-holds : tie.Need-loop-init invariant-loop decreases-loop
-loop-holds c = search progress-none
+loop-holds c = search progress_none
 
 join-one-requires : tie.Need-join-one-requires invariant-loop decreases-loop
-join-one-requires c κs = search progress-turn
+join-one-requires c κs = search progress_turn
 
 add-i : tie.Need-overflow-add-i invariant-loop decreases-loop
 add-i c = search rules
@@ -28,13 +28,13 @@ loop-less : tie.Need-loop-smaller invariant-loop decreases-loop
 loop-less c = search rules
 
 loop-again : tie.Need-loop-preserved invariant-loop decreases-loop
-loop-again c = search progress-more
+loop-again c = search progress_more
 
 same_length : tie.Need-same-length invariant-loop decreases-loop
 same_length c = search rules
 
 returns : tie.Need-returns invariant-loop decreases-loop
-returns c = search progress-all
+returns c = search progress_all
 
 pub join-table-spec : {M : Type 1} → statement M
 join-table-spec =

@@ -1,6 +1,6 @@
 -- `assemble_rows` meets its contract. 42, then 41, then the mesh. Assumes nothing.
 use native.Mathlib.Omega.{arith}
-use Rattle.mesh_accepted.proofs.BodyLaws.{body-42, judge-ready, totals-ready, room-asked, body-41, write-ready, body-done}
+use Rattle.mesh_accepted.proofs.BodyLaws.{body_42, judge_ready, totals_ready, room_asked, body_41, write_ready, body_done}
 use borrow.Author.Rules.{rules}
 use Rattle.mesh_accepted.proofs.assemble_rows.Statement.{statement}
 use Rattle.mesh_accepted.proofs.assemble_rows.Tie as tie
@@ -9,16 +9,16 @@ bad-materials-requires : tie.Need-bad-materials-requires
 bad-materials-requires c κs = search rules
 
 returns : tie.Need-returns
-returns c = body-42 c.before.before.before.before.before.before.before.before.before.before.before.before.before.before.requires _ _ _ _ _ _ _ _ _ c.before.bad-materials.ensures c.if1.true
+returns c = body_42 c.before.before.before.before.before.before.before.before.before.before.before.before.before.before.requires _ _ _ _ _ _ _ _ _ c.before.bad-materials.ensures c.if1.true
 
 judge-rows-requires : tie.Need-judge-rows-requires
-judge-rows-requires c κs = judge-ready c.before.before.before.before.before.before.before.before.before.before.before.before.before.before.before.requires c.before.before.bad-materials.ensures c.before.if1.false
+judge-rows-requires c κs = judge_ready c.before.before.before.before.before.before.before.before.before.before.before.before.before.before.before.requires c.before.before.bad-materials.ensures c.before.if1.false
 
 accepted-totals-requires : tie.Need-accepted-totals-requires
-accepted-totals-requires c κs = totals-ready c.before.before.before.before.before.before.before.before.before.before.before.before.before.before.before.before.before.before.before.requires _ _ _ c.before.before.before.before.before.before.bad-materials.ensures c.before.before.before.before.before.if1.false c.before.before.before.judge-rows.ensures
+accepted-totals-requires c κs = totals_ready c.before.before.before.before.before.before.before.before.before.before.before.before.before.before.before.before.before.before.before.requires _ _ _ c.before.before.before.before.before.before.bad-materials.ensures c.before.before.before.before.before.if1.false c.before.before.before.judge-rows.ensures
 
 too-short-requires : tie.Need-too-short-requires
-too-short-requires c κs = room-asked c.before.before.before.before.before.before.before.before.before.before.before.before.before.before.before.before.before.before.before.before.before.before.before.before.before.before.requires _ _ _ c.before.before.before.before.before.before.before.before.before.before.before.before.before.bad-materials.ensures c.before.before.before.before.before.before.before.before.before.before.before.before.if1.false c.before.before.before.before.before.before.before.before.before.before.judge-rows.ensures c.before.before.before.before.before.before.accepted-totals.ensures
+too-short-requires c κs = room_asked c.before.before.before.before.before.before.before.before.before.before.before.before.before.before.before.before.before.before.before.before.before.before.before.before.before.before.requires _ _ _ c.before.before.before.before.before.before.before.before.before.before.before.before.before.bad-materials.ensures c.before.before.before.before.before.before.before.before.before.before.before.before.if1.false c.before.before.before.before.before.before.before.before.before.before.judge-rows.ensures c.before.before.before.before.before.before.accepted-totals.ensures
 
 same_length : tie.Need-same-length
 same_length c = search rules
@@ -42,10 +42,10 @@ same-length-7 : tie.Need-same-length-7
 same-length-7 c = search rules
 
 returns-2 : tie.Need-returns-2
-returns-2 c = body-41 c.before.before.before.before.before.before.before.before.before.before.before.before.before.before.before.before.before.before.before.before.before.before.before.before.before.before.before.before.requires _ _ _ c.before.before.before.before.before.before.before.before.before.before.before.before.before.before.before.bad-materials.ensures c.before.before.before.before.before.before.before.before.before.before.before.before.before.before.if1.false c.before.before.before.before.before.before.before.before.before.before.before.before.judge-rows.ensures c.before.before.before.before.before.before.before.before.accepted-totals.ensures _ _ _ _ _ _ c.before.too_short.ensures c.if2.true
+returns-2 c = body_41 c.before.before.before.before.before.before.before.before.before.before.before.before.before.before.before.before.before.before.before.before.before.before.before.before.before.before.before.before.requires _ _ _ c.before.before.before.before.before.before.before.before.before.before.before.before.before.before.before.bad-materials.ensures c.before.before.before.before.before.before.before.before.before.before.before.before.before.before.if1.false c.before.before.before.before.before.before.before.before.before.before.before.before.judge-rows.ensures c.before.before.before.before.before.before.before.before.accepted-totals.ensures _ _ _ _ _ _ c.before.too_short.ensures c.if2.true
 
 write-mesh-requires : tie.Need-write-mesh-requires
-write-mesh-requires c κs = write-ready c.before.before.before.before.before.before.before.before.before.before.before.before.before.before.before.before.before.before.before.before.before.before.before.before.before.before.before.before.before.before.before.before.before.before.before.requires _ _ _ c.before.before.before.before.before.before.before.before.before.before.before.before.before.before.before.before.before.before.before.before.before.before.bad-materials.ensures c.before.before.before.before.before.before.before.before.before.before.before.before.before.before.before.before.before.before.before.before.before.if1.false c.before.before.before.before.before.before.before.before.before.before.before.before.before.before.before.before.before.before.before.judge-rows.ensures c.before.before.before.before.before.before.before.before.before.before.before.before.before.before.before.accepted-totals.ensures _ _ _ _ _ _ c.before.before.before.before.before.before.before.before.too_short.ensures c.before.before.before.before.before.before.before.if2.false
+write-mesh-requires c κs = write_ready c.before.before.before.before.before.before.before.before.before.before.before.before.before.before.before.before.before.before.before.before.before.before.before.before.before.before.before.before.before.before.before.before.before.before.before.requires _ _ _ c.before.before.before.before.before.before.before.before.before.before.before.before.before.before.before.before.before.before.before.before.before.before.bad-materials.ensures c.before.before.before.before.before.before.before.before.before.before.before.before.before.before.before.before.before.before.before.before.before.if1.false c.before.before.before.before.before.before.before.before.before.before.before.before.before.before.before.before.before.before.before.judge-rows.ensures c.before.before.before.before.before.before.before.before.before.before.before.before.before.before.before.accepted-totals.ensures _ _ _ _ _ _ c.before.before.before.before.before.before.before.before.too_short.ensures c.before.before.before.before.before.before.before.if2.false
 
 same-length-8 : tie.Need-same-length-8
 same-length-8 c = search rules
@@ -69,7 +69,7 @@ same-length-14 : tie.Need-same-length-14
 same-length-14 c = omega (arith, c.before.before.before.before.before.before.before.before.before.before.before.before.before.before.before.before.before.before.before.before.before.before.before.before.before.before.before.before.before.before.before.before.before.w.given, c.before.before.before.before.before.before.before.before.before.before.before.before.before.w2.given)
 
 returns-3 : tie.Need-returns-3
-returns-3 c = body-done c.before.before.before.before.before.before.before.before.before.before.before.before.before.before.before.before.before.before.before.before.before.before.before.before.before.before.before.before.before.before.before.before.before.before.before.before.before.before.before.before.before.before.before.before.before.before.before.before.before.before.requires _ _ _ c.before.before.before.before.before.before.before.before.before.before.before.before.before.before.before.before.before.before.before.before.before.before.before.before.before.before.before.before.before.before.before.before.before.before.before.before.before.bad-materials.ensures c.before.before.before.before.before.before.before.before.before.before.before.before.before.before.before.before.before.before.before.before.before.before.before.before.before.before.before.before.before.before.before.before.before.before.before.before.if1.false c.before.before.before.before.before.before.before.before.before.before.before.before.before.before.before.before.before.before.before.before.before.before.before.before.before.before.before.before.before.before.before.before.before.before.judge-rows.ensures c.before.before.before.before.before.before.before.before.before.before.before.before.before.before.before.before.before.before.before.before.before.before.before.before.before.before.before.before.before.before.accepted-totals.ensures _ _ _ _ _ _ c.before.before.before.before.before.before.before.before.before.before.before.before.before.before.before.before.before.before.before.before.before.before.before.too_short.ensures c.before.before.before.before.before.before.before.before.before.before.before.before.before.before.before.before.before.before.before.before.before.before.if2.false c.before.before.before.before.before.before.before.before.before.before.before.before.before.before.write-mesh.ensures
+returns-3 c = body_done c.before.before.before.before.before.before.before.before.before.before.before.before.before.before.before.before.before.before.before.before.before.before.before.before.before.before.before.before.before.before.before.before.before.before.before.before.before.before.before.before.before.before.before.before.before.before.before.before.before.before.requires _ _ _ c.before.before.before.before.before.before.before.before.before.before.before.before.before.before.before.before.before.before.before.before.before.before.before.before.before.before.before.before.before.before.before.before.before.before.before.before.before.bad-materials.ensures c.before.before.before.before.before.before.before.before.before.before.before.before.before.before.before.before.before.before.before.before.before.before.before.before.before.before.before.before.before.before.before.before.before.before.before.before.if1.false c.before.before.before.before.before.before.before.before.before.before.before.before.before.before.before.before.before.before.before.before.before.before.before.before.before.before.before.before.before.before.before.before.before.before.judge-rows.ensures c.before.before.before.before.before.before.before.before.before.before.before.before.before.before.before.before.before.before.before.before.before.before.before.before.before.before.before.before.before.before.accepted-totals.ensures _ _ _ _ _ _ c.before.before.before.before.before.before.before.before.before.before.before.before.before.before.before.before.before.before.before.before.before.before.before.too_short.ensures c.before.before.before.before.before.before.before.before.before.before.before.before.before.before.before.before.before.before.before.before.before.before.if2.false c.before.before.before.before.before.before.before.before.before.before.before.before.before.before.write-mesh.ensures
 
 pub assemble-rows-spec : {M : Type 1} → statement M
 assemble-rows-spec =

@@ -1,5 +1,5 @@
 -- `with_edge` meets its contract. Assumes nothing.
-use Rattle.mesh_tally.proofs.TallyLaws.{edge-open, edge-over, edge_other}
+use Rattle.mesh_tally.proofs.TallyLaws.{edge_open, edge_over, edge_other}
 use borrow.Author.Rules.{rules}
 use Rattle.mesh_tally.proofs.with_edge.Statement.{statement}
 use Rattle.mesh_tally.proofs.with_edge.Tie as tie
@@ -11,7 +11,7 @@ add-t5 : tie.Need-overflow-add-t5
 add-t5 c = search rules
 
 returns : tie.Need-returns
-returns c = search edge-open
+returns c = search edge_open
 
 add-t6 : tie.Need-overflow-add-t6
 add-t6 c = search rules
@@ -20,7 +20,7 @@ add-t7 : tie.Need-overflow-add-t7
 add-t7 c = search rules
 
 returns-2 : tie.Need-returns-2
-returns-2 c = search edge-over
+returns-2 c = search edge_over
 
 add-t8 : tie.Need-overflow-add-t8
 add-t8 c = search rules

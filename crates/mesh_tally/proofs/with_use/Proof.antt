@@ -1,5 +1,5 @@
 -- `with_use` meets its contract. Assumes nothing.
-use Rattle.mesh_tally.proofs.TallyLaws.{use-equal, use-first, use-later}
+use Rattle.mesh_tally.proofs.TallyLaws.{use_equal, use_first, use_later}
 use mathlib.Core.Path.{sym, ◌∙◌}
 use borrow.Author.Rules.{rules}
 use Rattle.mesh_tally.proofs.with_use.Statement.{statement}
@@ -21,7 +21,7 @@ shared-slice-read-if1 : tie.Need-shared-slice-read-if1
 shared-slice-read-if1 c = search rules
 
 returns : tie.Need-returns
-returns c = sym (use-equal _ _ _ _ _ c.if1.true)
+returns c = sym (use_equal _ _ _ _ _ c.if1.true)
 
 add-if2 : tie.Need-overflow-add-if2
 add-if2 c = search rules
@@ -48,10 +48,10 @@ with-edge-requires : tie.Need-with-edge-requires
 with-edge-requires c κs = search rules
 
 returns-2 : tie.Need-returns-2
-returns-2 c = c.with-edge.ensures ∙ sym (use-first _ _ _ _ _ c.before.before.before.before.if1.false c.before.before.if2.true)
+returns-2 c = c.with-edge.ensures ∙ sym (use_first _ _ _ _ _ c.before.before.before.before.if1.false c.before.before.if2.true)
 
 returns-3 : tie.Need-returns-3
-returns-3 c = sym (use-later _ _ _ _ _ c.before.before.if1.false c.if2.false)
+returns-3 c = sym (use_later _ _ _ _ _ c.before.before.if1.false c.if2.false)
 
 pub with-use-spec : {M : Type 1} → statement M
 with-use-spec =

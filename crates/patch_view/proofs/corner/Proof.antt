@@ -40,7 +40,7 @@ use denote.Triple.Table.{entered, cited}
 use denote.Triple.Walked.{says, Stays, stay_none, walk_of, Goes-none, Walks, ends_at, walked, walk_Meets}
 use denote.Exit.{yes}
 use denote.Triple.Clauses.{ensured, lasts}
-use Rattle.patch_view.specs.Views.{cornerOf}
+use Rattle.patch_view.specs.Views.{corner_of}
 use Rattle.patch_view.specs.declared.PatchView.{PatchView}
 use Rattle.patch_view.specs.contracts.PatchView as T
 use Rattle.patch_view.proofs.PatchView.TheLaws as T'
@@ -83,7 +83,7 @@ module _ {M : Type 1} {𝓤 : Ura M} (𝓛 : Logic 𝓤) (mem : Memory → SProp
   vals = (mach ∷ [], (vint w64 i ∷ [], tt))
 
   abbrev found : ℕ
-  found = cornerOf d i
+  found = corner_of d i
 
   abbrev Post : Val → SProp 𝓤
   Post = (walk_of 𝓛 corner.ended stayed (corner.clauses 𝓛 mem run)).post ((κs, (q, tt), tt, (d, (i, tt)), vals), tt)
@@ -141,9 +141,9 @@ module _ {M : Type 1} {𝓤 : Ura M} (𝓛 : Logic 𝓤) (mem : Memory → SProp
 module _ {M : Type 1} {𝓤 : Ura M} (𝓛 : Logic 𝓤) (mem : Memory → SProp 𝓤) (run : Routine → Fun 𝓤) where
   open 𝓛 use {H}
 
-  corner-walks : (C : Calls 𝓤 H) (Λ : Loops 𝓤 H) → FmC 𝓤 H 𝓛.laws C → Triple 𝓤 (C #patch-view·index-at) (Work 𝓛 mem run)
+  corner_walks : (C : Calls 𝓤 H) (Λ : Loops 𝓤 H) → FmC 𝓤 H 𝓛.laws C → Triple 𝓤 (C #patch-view·index-at) (Work 𝓛 mem run)
       → Walks 𝓛 corner.ended stayed (WpFn 𝓤 H C Λ code.function) (corner.clauses 𝓛 mem run)
-  corner-walks C Λ fm known = walked 𝓛 corner.ended stayed (corner.clauses 𝓛 mem run) (WpFn 𝓤 H C Λ code.function) (λ κs. (LL.vals (D κs) (L κs), (uint_vals w64, tt))) (λ κs. (LL.tells (D κs) (L κs), (uint_Tells w64, tt)))
+  corner_walks C Λ fm known = walked 𝓛 corner.ended stayed (corner.clauses 𝓛 mem run) (WpFn 𝓤 H C Λ code.function) (λ κs. (LL.vals (D κs) (L κs), (uint_vals w64, tt))) (λ κs. (LL.tells (D κs) (L κs), (uint_Tells w64, tt)))
       (λ κs qs bounds a g are. via 𝓤 _ (fst∗ 𝓤 _ (emp 𝓤))
       (walk 𝓛 mem run κs.0 qs.0 a.0 a.1.0 are.1.0.1 C Λ fm known ((LL.lawful (D κs) (L κs) 𝓛).typed a.0 _ are.0).0))
 
@@ -151,7 +151,7 @@ corner-meets : {M : Type 1} {𝓤 : Ura M} (𝓛 : Logic 𝓤) (mem : Memory →
     → Triple 𝓤 (𝓣.C #patch-view·index-at) (Work 𝓛 mem run)
     → Meets 𝓛 corner.signature (WpFn 𝓤 𝓛.H 𝓣.C 𝓣.Λ code.function) (corner.spec 𝓛 mem run)
 corner-meets {𝓤 = 𝓤} 𝓛 mem run 𝓣 known-work = walk_Meets 𝓛 corner.ended stayed (Goes-none 𝓛 1 B yes (λ κs x f. refl), (Goes-none 𝓛 1 (λ _. usize) yes (λ κs x f. refl), tt)) (corner.clauses 𝓛 mem run) (WpFn 𝓤 𝓛.H 𝓣.C 𝓣.Λ code.function) (WpFn-mono 𝓤 𝓛.H 𝓛.laws 𝓣 code.function)
-    (corner-walks 𝓛 mem run 𝓣.C 𝓣.Λ (fm_of 𝓤 𝓛.H 𝓛.laws 𝓣) known-work)
+    (corner_walks 𝓛 mem run 𝓣.C 𝓣.Λ (fm_of 𝓤 𝓛.H 𝓛.laws 𝓣) known-work)
 
 pub corner-spec : {M : Type 1} → stated.statement M
 unfolding code.routine tables_of

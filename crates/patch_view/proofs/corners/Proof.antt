@@ -93,13 +93,13 @@ module _ {M : Type 1} {𝓤 : Ura M} (𝓛 : Logic 𝓤) (mem : Memory → SProp
 module _ {M : Type 1} {𝓤 : Ura M} (𝓛 : Logic 𝓤) (mem : Memory → SProp 𝓤) (run : Routine → Fun 𝓤) where
   open 𝓛 use {H}
 
-  corners-walks : (C : Calls 𝓤 H) (Λ : Loops 𝓤 H) → Walks 𝓛 corners.ended stayed (WpFn 𝓤 H C Λ code.function) (corners.clauses 𝓛 mem run)
-  corners-walks C Λ = walked 𝓛 corners.ended stayed (corners.clauses 𝓛 mem run) (WpFn 𝓤 H C Λ code.function) (λ κs. (LL.vals (T.the_type (named_lft 1 0 tt κs)) (T'.the_laws (named_lft 1 0 tt κs)), tt)) (λ κs. (LL.tells (T.the_type (named_lft 1 0 tt κs)) (T'.the_laws (named_lft 1 0 tt κs)), tt))
+  corners_walks : (C : Calls 𝓤 H) (Λ : Loops 𝓤 H) → Walks 𝓛 corners.ended stayed (WpFn 𝓤 H C Λ code.function) (corners.clauses 𝓛 mem run)
+  corners_walks C Λ = walked 𝓛 corners.ended stayed (corners.clauses 𝓛 mem run) (WpFn 𝓤 H C Λ code.function) (λ κs. (LL.vals (T.the_type (named_lft 1 0 tt κs)) (T'.the_laws (named_lft 1 0 tt κs)), tt)) (λ κs. (LL.tells (T.the_type (named_lft 1 0 tt κs)) (T'.the_laws (named_lft 1 0 tt κs)), tt))
       (λ κs qs bounds a g are. via 𝓤 _ (fst∗ 𝓤 _ (emp 𝓤)) (walk 𝓛 mem run κs.0 qs.0 a.0 C Λ ((LL.lawful (T.the_type (named_lft 1 0 tt κs)) (T'.the_laws (named_lft 1 0 tt κs)) 𝓛).typed a.0 _ are.0).0))
 
 corners-meets : {M : Type 1} {𝓤 : Ura M} (𝓛 : Logic 𝓤) → (mem : Memory → SProp 𝓤) (run : Routine → Fun 𝓤) (𝓣 : Tables 𝓤 𝓛.H)
     → Meets 𝓛 corners.signature (WpFn 𝓤 𝓛.H 𝓣.C 𝓣.Λ code.function) (corners.spec 𝓛 mem run)
-corners-meets {𝓤 = 𝓤} 𝓛 mem run 𝓣 = walk_Meets 𝓛 corners.ended stayed (Goes-none 𝓛 1 B yes (λ κs x f. refl), tt) (corners.clauses 𝓛 mem run) (WpFn 𝓤 𝓛.H 𝓣.C 𝓣.Λ code.function) (WpFn-mono 𝓤 𝓛.H 𝓛.laws 𝓣 code.function) (corners-walks 𝓛 mem run 𝓣.C 𝓣.Λ)
+corners-meets {𝓤 = 𝓤} 𝓛 mem run 𝓣 = walk_Meets 𝓛 corners.ended stayed (Goes-none 𝓛 1 B yes (λ κs x f. refl), tt) (corners.clauses 𝓛 mem run) (WpFn 𝓤 𝓛.H 𝓣.C 𝓣.Λ code.function) (WpFn-mono 𝓤 𝓛.H 𝓛.laws 𝓣 code.function) (corners_walks 𝓛 mem run 𝓣.C 𝓣.Λ)
 
 pub corners-spec : {M : Type 1} → stated.statement M
 unfolding code.routine tables_of

@@ -109,13 +109,13 @@ module _ {M : Type 1} {𝓤 : Ura M} (𝓛 : Logic 𝓤) (mem : Memory → SProp
 module _ {M : Type 1} {𝓤 : Ura M} (𝓛 : Logic 𝓤) (mem : Memory → SProp 𝓤) (run : Routine → Fun 𝓤) where
   open 𝓛 use {H}
 
-  view-of-walks : (C : Calls 𝓤 H) (Λ : Loops 𝓤 H) → Walks 𝓛 viewof.ended stayed (WpFn 𝓤 H C Λ code.function) (viewof.clauses 𝓛 mem run)
-  view-of-walks C Λ = walked 𝓛 viewof.ended stayed (viewof.clauses 𝓛 mem run) (WpFn 𝓤 H C Λ code.function) (λ κs. (shr_slice_vals, (shr_slice_vals, (shr_slice_vals, tt)))) (λ κs. (shr_slice_Tells (named 0) κs.0 f32, (shr_slice_Tells (named 0) κs.0 f32, (shr_slice_Tells (named 0) κs.0 u32, tt))))
+  view_of_walks : (C : Calls 𝓤 H) (Λ : Loops 𝓤 H) → Walks 𝓛 viewof.ended stayed (WpFn 𝓤 H C Λ code.function) (viewof.clauses 𝓛 mem run)
+  view_of_walks C Λ = walked 𝓛 viewof.ended stayed (viewof.clauses 𝓛 mem run) (WpFn 𝓤 H C Λ code.function) (λ κs. (shr_slice_vals, (shr_slice_vals, (shr_slice_vals, tt)))) (λ κs. (shr_slice_Tells (named 0) κs.0 f32, (shr_slice_Tells (named 0) κs.0 f32, (shr_slice_Tells (named 0) κs.0 u32, tt))))
       (λ κs qs bounds a g are. via 𝓤 _ (fst∗ 𝓤 _ (emp 𝓤)) (walk 𝓛 mem run κs.0 qs.0 a.0 a.1.0 a.1.1.0 C Λ are.0 are.1.0 are.1.1.0))
 
 view-of-meets : {M : Type 1} {𝓤 : Ura M} (𝓛 : Logic 𝓤) → (mem : Memory → SProp 𝓤) (run : Routine → Fun 𝓤) (𝓣 : Tables 𝓤 𝓛.H)
     → Meets 𝓛 viewof.signature (WpFn 𝓤 𝓛.H 𝓣.C 𝓣.Λ code.function) (viewof.spec 𝓛 mem run)
-view-of-meets {𝓤 = 𝓤} 𝓛 mem run 𝓣 = walk_Meets 𝓛 viewof.ended stayed (Goes-none_slice 𝓛 1 (0 ∷ []) tt (plain (λ _. f32)) yes, (Goes-none_slice 𝓛 1 (0 ∷ []) tt (plain (λ _. f32)) yes, (Goes-none_slice 𝓛 1 (0 ∷ []) tt (plain (λ _. u32)) yes, tt))) (viewof.clauses 𝓛 mem run) (WpFn 𝓤 𝓛.H 𝓣.C 𝓣.Λ code.function) (WpFn-mono 𝓤 𝓛.H 𝓛.laws 𝓣 code.function) (view-of-walks 𝓛 mem run 𝓣.C 𝓣.Λ)
+view-of-meets {𝓤 = 𝓤} 𝓛 mem run 𝓣 = walk_Meets 𝓛 viewof.ended stayed (Goes-none_slice 𝓛 1 (0 ∷ []) tt (plain (λ _. f32)) yes, (Goes-none_slice 𝓛 1 (0 ∷ []) tt (plain (λ _. f32)) yes, (Goes-none_slice 𝓛 1 (0 ∷ []) tt (plain (λ _. u32)) yes, tt))) (viewof.clauses 𝓛 mem run) (WpFn 𝓤 𝓛.H 𝓣.C 𝓣.Λ code.function) (WpFn-mono 𝓤 𝓛.H 𝓛.laws 𝓣 code.function) (view_of_walks 𝓛 mem run 𝓣.C 𝓣.Λ)
 
 pub view-of-spec : {M : Type 1} → stated.statement M
 unfolding code.routine tables_of

@@ -44,7 +44,7 @@ use denote.Triple.Clauses.{ensured, lasts}
 use Rattle.patch_alone.specs.declared.alone.Measured.{Measured}
 use Rattle.patch_alone.specs.contracts.alone.Measured as S
 use Rattle.patch_alone.proofs.alone.Measured.TheLaws as S'
-use Rattle.patch_view.specs.Views.{volumeOf}
+use Rattle.patch_view.specs.Views.{volume_of}
 use Rattle.patch_view.specs.declared.PatchView.{PatchView}
 use Rattle.patch_view.specs.contracts.PatchView as T
 use Rattle.patch_view.proofs.PatchView.TheLaws as T'
@@ -87,7 +87,7 @@ module _ {M : Type 1} {𝓤 : Ura M} (𝓛 : Logic 𝓤) (mem : Memory → SProp
   vals = (mach ∷ [], (vbool flip ∷ [], tt))
 
   abbrev found : Measured
-  found = volumeOf d flip
+  found = volume_of d flip
 
   abbrev Post : Val → SProp 𝓤
   Post = (walk_of 𝓛 volume.ended stayed (volume.clauses 𝓛 mem run)).post ((κs, (q, tt), tt, (d, (flip, tt)), vals), tt)
@@ -147,9 +147,9 @@ module _ {M : Type 1} {𝓤 : Ura M} (𝓛 : Logic 𝓤) (mem : Memory → SProp
 module _ {M : Type 1} {𝓤 : Ura M} (𝓛 : Logic 𝓤) (mem : Memory → SProp 𝓤) (run : Routine → Fun 𝓤) where
   open 𝓛 use {H}
 
-  volume-walks : (C : Calls 𝓤 H) (Λ : Loops 𝓤 H) → FmC 𝓤 H 𝓛.laws C → Triple 𝓤 (C #patch-view·volume-alone) (Work 𝓛 mem run)
+  volume_walks : (C : Calls 𝓤 H) (Λ : Loops 𝓤 H) → FmC 𝓤 H 𝓛.laws C → Triple 𝓤 (C #patch-view·volume-alone) (Work 𝓛 mem run)
       → Walks 𝓛 volume.ended stayed (WpFn 𝓤 H C Λ code.function) (volume.clauses 𝓛 mem run)
-  volume-walks C Λ fm known = walked 𝓛 volume.ended stayed (volume.clauses 𝓛 mem run) (WpFn 𝓤 H C Λ code.function) (λ κs. (LL.vals (D κs) (L κs), (bool_vals, tt))) (λ κs. (LL.tells (D κs) (L κs), (bool_Tells, tt)))
+  volume_walks C Λ fm known = walked 𝓛 volume.ended stayed (volume.clauses 𝓛 mem run) (WpFn 𝓤 H C Λ code.function) (λ κs. (LL.vals (D κs) (L κs), (bool_vals, tt))) (λ κs. (LL.tells (D κs) (L κs), (bool_Tells, tt)))
       (λ κs qs bounds a g are. via 𝓤 _ (fst∗ 𝓤 _ (emp 𝓤))
       (walk 𝓛 mem run κs.0 qs.0 a.0 a.1.0 C Λ fm known ((LL.lawful (D κs) (L κs) 𝓛).typed a.0 _ are.0).0))
 
@@ -157,7 +157,7 @@ volume-meets : {M : Type 1} {𝓤 : Ura M} (𝓛 : Logic 𝓤) (mem : Memory →
     → Triple 𝓤 (𝓣.C #patch-view·volume-alone) (Work 𝓛 mem run)
     → Meets 𝓛 volume.signature (WpFn 𝓤 𝓛.H 𝓣.C 𝓣.Λ code.function) (volume.spec 𝓛 mem run)
 volume-meets {𝓤 = 𝓤} 𝓛 mem run 𝓣 known-work = walk_Meets 𝓛 volume.ended stayed (Goes-none 𝓛 1 B yes (λ κs x f. refl), (Goes-none 𝓛 1 (λ _. Boolean) yes (λ κs x f. refl), tt)) (volume.clauses 𝓛 mem run) (WpFn 𝓤 𝓛.H 𝓣.C 𝓣.Λ code.function) (WpFn-mono 𝓤 𝓛.H 𝓛.laws 𝓣 code.function)
-    (volume-walks 𝓛 mem run 𝓣.C 𝓣.Λ (fm_of 𝓤 𝓛.H 𝓛.laws 𝓣) known-work)
+    (volume_walks 𝓛 mem run 𝓣.C 𝓣.Λ (fm_of 𝓤 𝓛.H 𝓛.laws 𝓣) known-work)
 
 pub volume-spec : {M : Type 1} → stated.statement M
 unfolding code.routine tables_of

@@ -43,7 +43,7 @@ use denote.Triple.Clauses.{ensured, lasts}
 use Rattle.patch_alone.specs.declared.alone.Measured.{Measured}
 use Rattle.patch_alone.specs.contracts.alone.Measured as S
 use Rattle.patch_alone.proofs.alone.Measured.TheLaws as S'
-use Rattle.patch_view.specs.Views.{viewOf, volumeOf}
+use Rattle.patch_view.specs.Views.{view_of, volume_of}
 use Rattle.patch_view.specs.declared.PatchView.{PatchView}
 use Rattle.patch_view.specs.contracts.PatchView as T
 use Rattle.patch_view.proofs.PatchView.TheLaws as T'
@@ -92,10 +92,10 @@ module _ {M : Type 1} {𝓤 : Ura M} (𝓛 : Logic 𝓤) (mem : Memory → SProp
   vz = slice_val z.ref_ptr (length z.now)
 
   abbrev made : PatchView
-  made = viewOf x y z
+  made = view_of x y z
 
   abbrev found : Measured
-  found = volumeOf made flip
+  found = volume_of made flip
 
   -- the view's type as a local of a body has it
   abbrev αᵉ : NamedLft
@@ -121,11 +121,11 @@ module _ {M : Type 1} {𝓤 : Ura M} (𝓛 : Logic 𝓤) (mem : Memory → SProp
   Own = owns (ShrSlice (named 0) κ f32 ∷ ShrSlice (named 0) κ f32 ∷ ShrSlice (named 0) κ u32 ∷ []) (x, (y, (z, tt))) (vx ∷ [], (vy ∷ [], (vz ∷ [], tt)))
 
   -- the call of `view_of`: what it is passed, what it asks, and what is known of its result
-  abbrev to-view : (ViewOf 𝓛 mem run).Ghost
-  to-view = ((κs, (q, tt), tt, (x, (y, (z, tt))), (vx ∷ [], (vy ∷ [], (vz ∷ [], tt)))), tt)
+  abbrev to_view : (ViewOf 𝓛 mem run).Ghost
+  to_view = ((κs, (q, tt), tt, (x, (y, (z, tt))), (vx ∷ [], (vy ∷ [], (vz ∷ [], tt)))), tt)
 
-  goes-view : ent 𝓤 (on_entry 𝓛 volumeof.signature κs (q, tt) (x, (y, (z, (flip, tt)))) vals) (sep 𝓤 ((ViewOf 𝓛 mem run).pre to-view) (sem 𝓛 Own))
-  goes-view =
+  goes_view : ent 𝓤 (on_entry 𝓛 volumeof.signature κs (q, tt) (x, (y, (z, (flip, tt)))) vals) (sep 𝓤 ((ViewOf 𝓛 mem run).pre to_view) (sem 𝓛 Own))
+  goes_view =
       qed 𝓛 ((‵ (flft κ q) ⊛ ‵ ftrue) ∷ ‵ (owns (ShrSlice (named 0) κ f32 ∷ ShrSlice (named 0) κ f32 ∷ ShrSlice (named 0) κ u32 ∷ Boolean ∷ []) (x, (y, (z, (flip, tt)))) vals) ∷ []) ∵
       move ! (1 ∷ []) $ fsplit ! $ move ! (1 ∷ []) $ fsplit ! $ move ! (1 ∷ []) $ fsplit ! $ move ! (1 ∷ []) $ drop ! $
       -- [z's; y's; x's; the token]: each is had twice
@@ -134,23 +134,23 @@ module _ {M : Type 1} {𝓤 : Ura M} (𝓛 : Logic 𝓤) (mem : Memory → SProp
       use1 𝓛 (‵ Ox ⊛ ‵ Ox) ((shr_slice_copy 𝓛 (named 0) κ f32).twice x (vx ∷ [])) $ split ! $
       -- [x's; x's; y's; y's; z's; z's; the token]: one of each for the view
       nothing ! $ move ! (5 ∷ 0 ∷ []) $ fjoin ! $ move ! (3 ∷ 0 ∷ []) $ fjoin ! $ move ! (1 ∷ 0 ∷ []) $ fjoin ! $ move ! (4 ∷ 0 ∷ []) $
-      use2 𝓛 (raw ((ViewOf 𝓛 mem run).pre to-view)) (qed 𝓛 ((‵ (flft κ q) ⊛ ‵ ftrue) ∷ ‵ Own ∷ []) ∵ join ! $ frame ! $ done !) $ frame ! $
+      use2 𝓛 (raw ((ViewOf 𝓛 mem run).pre to_view)) (qed 𝓛 ((‵ (flft κ q) ⊛ ‵ ftrue) ∷ ‵ Own ∷ []) ∵ join ! $ frame ! $ done !) $ frame ! $
       nothing ! $ move ! (3 ∷ 0 ∷ []) $ fjoin ! $ move ! (2 ∷ 0 ∷ []) $ fjoin ! $ move ! (1 ∷ 0 ∷ []) $ fjoin ! $ done !
 
-  view-said : (d : PatchView) → ent 𝓤 (ensured 𝓛 viewof.ended (viewof.clauses 𝓛 mem run) κs (x, (y, (z, tt))) tt d) (fact 𝓤 (d ≡ made))
-  view-said d = ex_e 𝓤 _ (λ ws. snd∗ 𝓤 (sem 𝓛 (lasts viewof.ended κs (x, (y, (z, tt))) ws)) (fact 𝓤 (d ≡ made)))
+  view_said : (d : PatchView) → ent 𝓤 (ensured 𝓛 viewof.ended (viewof.clauses 𝓛 mem run) κs (x, (y, (z, tt))) tt d) (fact 𝓤 (d ≡ made))
+  view_said d = ex_e 𝓤 _ (λ ws. snd∗ 𝓤 (sem 𝓛 (lasts viewof.ended κs (x, (y, (z, tt))) ws)) (fact 𝓤 (d ≡ made)))
 
   -- the call of `volume`, at the view d with the machine value u
-  abbrev to-volume : PatchView → Val → (Volume 𝓛 mem run).Ghost
-  to-volume d u = ((κs, (q, tt), tt, (d, (flip, tt)), (u ∷ [], (vbool flip ∷ [], tt))), tt)
+  abbrev to_volume : PatchView → Val → (Volume 𝓛 mem run).Ghost
+  to_volume d u = ((κs, (q, tt), tt, (d, (flip, tt)), (u ∷ [], (vbool flip ∷ [], tt))), tt)
 
-  goes-volume : (d : PatchView) (u : Val) → ent 𝓤 (⋆ 𝓛 (‵ ((B κs).own d (u ∷ [])) ∷ (‵ (flft κ q) ⊛ ‵ ftrue) ∷ [])) ((Volume 𝓛 mem run).pre (to-volume d u))
-  goes-volume d u =
+  goes_volume : (d : PatchView) (u : Val) → ent 𝓤 (⋆ 𝓛 (‵ ((B κs).own d (u ∷ [])) ∷ (‵ (flft κ q) ⊛ ‵ ftrue) ∷ [])) ((Volume 𝓛 mem run).pre (to_volume d u))
+  goes_volume d u =
       qed 𝓛 (‵ ((B κs).own d (u ∷ [])) ∷ (‵ (flft κ q) ⊛ ‵ ftrue) ∷ []) ∵
       nothing ! $ owned ! Boolean (Is Boolean) (bool_Makes 𝓛) flip _ refl $ fjoin ! $ move ! (1 ∷ 0 ∷ []) $ fjoin ! $ move ! (1 ∷ 0 ∷ []) $ join ! $ frame ! $ done !
 
-  volume-said : (d : PatchView) (t : Measured) → ent 𝓤 (ensured 𝓛 volume.ended (volume.clauses 𝓛 mem run) κs (d, (flip, tt)) tt t) (fact 𝓤 (t ≡ volumeOf d flip))
-  volume-said d t = ex_e 𝓤 _ (λ ws. snd∗ 𝓤 (sem 𝓛 (lasts volume.ended κs (d, (flip, tt)) ws)) (fact 𝓤 (t ≡ volumeOf d flip)))
+  volume_said : (d : PatchView) (t : Measured) → ent 𝓤 (ensured 𝓛 volume.ended (volume.clauses 𝓛 mem run) κs (d, (flip, tt)) tt t) (fact 𝓤 (t ≡ volume_of d flip))
+  volume_said d t = ex_e 𝓤 _ (λ ws. snd∗ 𝓤 (sem 𝓛 (lasts volume.ended κs (d, (flip, tt)) ws)) (fact 𝓤 (t ≡ volume_of d flip)))
 
   exits : (t : Measured) (u : Val) → t ≡ found → ent 𝓤 (⋆ 𝓛 (‵ ((S.the_row).own_val t (u ∷ [])) ∷ (‵ (flft κ q) ⊛ ‵ ftrue) ∷ ‵ Own ∷ [])) (Post u)
   exits t u e =
@@ -169,32 +169,32 @@ module _ {M : Type 1} {𝓤 : Ura M} (𝓛 : Logic 𝓤) (mem : Memory → SProp
         let tz = ((shr_slice_Lawful 𝓛 (named 0) κ u32).typed z (vz ∷ []) pz).0 in
         qed 𝓛 (raw (on_entry 𝓛 volumeof.signature κs (q, tt) (x, (y, (z, (flip, tt)))) vals) ∷ []) ∵ enter ! C Λ code.function (vx ∷ vy ∷ vz ∷ vbool flip ∷ []) _ $
         alloc1 ! (λ l₀. alloc1 ! (λ l₁. alloc1 ! (λ l₂. alloc1 ! (λ l₃. alloc1 ! (λ l₄. alloc1 ! (λ l₅. alloc0 ! $ params1 ! $ pass1 ! (init ! 8 refl tx) $ pass1 ! (init ! 6 refl ty) $ pass1 ! (init ! 4 refl tz) $ pass1 ! (init ! 2 refl (tt, tt)) $ pass0 ! $
-        move ! (12 ∷ []) $ use1 𝓛 (raw ((ViewOf 𝓛 mem run).pre to-view) ⊛ ‵ Own) goes-view $ split ! $
+        move ! (12 ∷ []) $ use1 𝓛 (raw ((ViewOf 𝓛 mem run).pre to_view) ⊛ ‵ Own) goes_view $ split ! $
         -- [what is asked; what the slices own; room for _5; …; _4; …; _3; …; _2; …; _1; …; room for _0; …]
-        calls_at ! fm (ViewOf 𝓛 mem run) known-view to-view (and_then ! (load ! (from ! (stop !)) (look ! 10 refl)) (and_then ! (load ! (from ! (stop !)) (look ! 8 refl)) (and_then ! (load ! (from ! (stop !)) (look ! 6 refl)) (no_more !)))) (λ u.
+        calls_at ! fm (ViewOf 𝓛 mem run) known-view to_view (and_then ! (load ! (from ! (stop !)) (look ! 10 refl)) (and_then ! (load ! (from ! (stop !)) (look ! 8 refl)) (and_then ! (load ! (from ! (stop !)) (look ! 6 refl)) (no_more !)))) (λ u.
         use1 𝓛 (later (some (λ (d : PatchView). ((‵ (flft κ q) ⊛ ‵ ftrue) ⊛ ‵ ((B κs).own d (u ∷ []))) ⊛ raw (ensured 𝓛 viewof.ended (viewof.clauses 𝓛 mem run) κs (x, (y, (z, tt))) tt d)))) (id⊢ 𝓤 _) $ await ! tt $ pick ! (λ d.
-        split ! $ move ! (1 ∷ []) $ use1 𝓛 (raw (fact 𝓤 (d ≡ made))) (view-said d) $ heard ! (d ≡ made) (λ e. split ! $ move ! (1 ∷ []) $
+        split ! $ move ! (1 ∷ []) $ use1 𝓛 (raw (fact 𝓤 (d ≡ made))) (view_said d) $ heard ! (d ≡ made) (λ e. split ! $ move ! (1 ∷ []) $
         -- [what the view owns; the token; what the slices own; room for _5; …; _4; …; _3; …; _2; …; _1; …; room for _0; …]
         peeks ! (B κs) (Is (B κs)) (shows 𝓛 (B κs)) d (u ∷ []) (λ is.
         land ! (from ! (stop !)) (init ! 3 refl ((LL.lawful (T.the_type αᵉ) (T'.the_laws αᵉ) 𝓛).typed d _ is).0) $
-        use2 𝓛 (raw ((Volume 𝓛 mem run).pre (to-volume d u))) (goes-volume d u) $
+        use2 𝓛 (raw ((Volume 𝓛 mem run).pre (to_volume d u))) (goes_volume d u) $
         -- [what is asked; what the slices own; _5; …; _4; …]
-        calls_at ! fm (Volume 𝓛 mem run) known-volume (to-volume d u) (and_then ! (load ! (from ! (stop !)) (look ! 2 refl)) (and_then ! (load ! (from ! (stop !)) (look ! 4 refl)) (no_more !))) (λ u'.
+        calls_at ! fm (Volume 𝓛 mem run) known-volume (to_volume d u) (and_then ! (load ! (from ! (stop !)) (look ! 2 refl)) (and_then ! (load ! (from ! (stop !)) (look ! 4 refl)) (no_more !))) (λ u'.
         use1 𝓛 (later (some (λ (t : Measured). ((‵ (flft κ q) ⊛ ‵ ftrue) ⊛ ‵ ((S.the_row).own_val t (u' ∷ []))) ⊛ raw (ensured 𝓛 volume.ended (volume.clauses 𝓛 mem run) κs (d, (flip, tt)) tt t)))) (id⊢ 𝓤 _) $ await ! tt $ pick ! (λ t.
-        split ! $ move ! (1 ∷ []) $ use1 𝓛 (raw (fact 𝓤 (t ≡ volumeOf d flip))) (volume-said d t) $ heard ! (t ≡ volumeOf d flip) (λ e'. split ! $ move ! (1 ∷ []) $
+        split ! $ move ! (1 ∷ []) $ use1 𝓛 (raw (fact 𝓤 (t ≡ volume_of d flip))) (volume_said d t) $ heard ! (t ≡ volume_of d flip) (λ e'. split ! $ move ! (1 ∷ []) $
         -- [the result; the token; what the slices own; _5; …; _4; …; _3; …; _2; …; _1; …; room for _0; …]
         peeks ! S.the_row (Is S.the_row) (shows 𝓛 S.the_row) t (u' ∷ []) (λ is'.
         land ! (from ! (stop !)) (init ! 13 refl ((EL.lawful S.the_type S'.the_laws 𝓛 tt).typed t _ is').0) $
         returns ! (look ! 13 refl) $ forget ! 3 refl $ forget ! 5 refl $ forget ! 7 refl $ forget ! 9 refl $ forget ! 11 refl $ forget ! 13 refl $
         move ! (13 ∷ 14 ∷ []) $ free1 ! $ move ! (11 ∷ 12 ∷ []) $ free1 ! $ move ! (9 ∷ 10 ∷ []) $ free1 ! $ move ! (7 ∷ 8 ∷ []) $ free1 ! $ move ! (5 ∷ 6 ∷ []) $ free1 ! $ move ! (3 ∷ 4 ∷ []) $ free1 ! $ free0 ! $
-        by ! (exits t u' (e' ∙ ap (λ (v : PatchView). volumeOf v flip) e))))))))))))))))
+        by ! (exits t u' (e' ∙ ap (λ (v : PatchView). volume_of v flip) e))))))))))))))))
 
 module _ {M : Type 1} {𝓤 : Ura M} (𝓛 : Logic 𝓤) (mem : Memory → SProp 𝓤) (run : Routine → Fun 𝓤) where
   open 𝓛 use {H}
 
-  volume-of-walks : (C : Calls 𝓤 H) (Λ : Loops 𝓤 H) → FmC 𝓤 H 𝓛.laws C → Triple 𝓤 (C #patch-view·view-of) (ViewOf 𝓛 mem run) → Triple 𝓤 (C #patch-view·volume) (Volume 𝓛 mem run)
+  volume_of_walks : (C : Calls 𝓤 H) (Λ : Loops 𝓤 H) → FmC 𝓤 H 𝓛.laws C → Triple 𝓤 (C #patch-view·view-of) (ViewOf 𝓛 mem run) → Triple 𝓤 (C #patch-view·volume) (Volume 𝓛 mem run)
       → Walks 𝓛 volumeof.ended stayed (WpFn 𝓤 H C Λ code.function) (volumeof.clauses 𝓛 mem run)
-  volume-of-walks C Λ fm known-view known-volume = walked 𝓛 volumeof.ended stayed (volumeof.clauses 𝓛 mem run) (WpFn 𝓤 H C Λ code.function) (λ κs. (shr_slice_vals, (shr_slice_vals, (shr_slice_vals, (bool_vals, tt)))))
+  volume_of_walks C Λ fm known-view known-volume = walked 𝓛 volumeof.ended stayed (volumeof.clauses 𝓛 mem run) (WpFn 𝓤 H C Λ code.function) (λ κs. (shr_slice_vals, (shr_slice_vals, (shr_slice_vals, (bool_vals, tt)))))
       (λ κs. (shr_slice_Tells (named 0) κs.0 f32, (shr_slice_Tells (named 0) κs.0 f32, (shr_slice_Tells (named 0) κs.0 u32, (bool_Tells, tt)))))
       (λ κs qs bounds a g are. via 𝓤 _ (fst∗ 𝓤 _ (emp 𝓤)) (walk 𝓛 mem run κs.0 qs.0 a.0 a.1.0 a.1.1.0 a.1.1.1.0 C Λ fm known-view known-volume are.0 are.1.0 are.1.1.0))
 
@@ -203,7 +203,7 @@ volume-of-meets : {M : Type 1} {𝓤 : Ura M} (𝓛 : Logic 𝓤) (mem : Memory 
     → Meets 𝓛 volumeof.signature (WpFn 𝓤 𝓛.H 𝓣.C 𝓣.Λ code.function) (volumeof.spec 𝓛 mem run)
 volume-of-meets {𝓤 = 𝓤} 𝓛 mem run 𝓣 known-view known-volume = walk_Meets 𝓛 volumeof.ended stayed (Goes-none_slice 𝓛 1 (0 ∷ []) tt (plain (λ _. f32)) yes, (Goes-none_slice 𝓛 1 (0 ∷ []) tt (plain (λ _. f32)) yes, (Goes-none_slice 𝓛 1 (0 ∷ []) tt (plain (λ _. u32)) yes, (Goes-none 𝓛 1 (λ _. Boolean) yes (λ κs x f. refl), tt))))
     (volumeof.clauses 𝓛 mem run) (WpFn 𝓤 𝓛.H 𝓣.C 𝓣.Λ code.function) (WpFn-mono 𝓤 𝓛.H 𝓛.laws 𝓣 code.function)
-    (volume-of-walks 𝓛 mem run 𝓣.C 𝓣.Λ (fm_of 𝓤 𝓛.H 𝓛.laws 𝓣) known-view known-volume)
+    (volume_of_walks 𝓛 mem run 𝓣.C 𝓣.Λ (fm_of 𝓤 𝓛.H 𝓛.laws 𝓣) known-view known-volume)
 
 pub volume-of-spec : {M : Type 1} → stated.statement M
 unfolding code.routine tables_of

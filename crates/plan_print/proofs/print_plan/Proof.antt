@@ -1,5 +1,5 @@
 -- `print_plan` meets its contract. Assumes nothing.
-use Rattle.plan_print.proofs.PrintLaws.{listing-refused, listing-written, plan-refused}
+use Rattle.plan_print.proofs.PrintLaws.{listing_refused, listing_written, plan_refused}
 use borrow.Author.Rules.{rules}
 use Rattle.plan_print.proofs.print_plan.Statement.{statement}
 use Rattle.plan_print.proofs.print_plan.Tie as tie
@@ -38,7 +38,7 @@ same-length-2 : tie.Need-same-length-2
 same-length-2 c = search rules
 
 returns : tie.Need-returns
-returns c = search (rules, plan-refused)
+returns c = search (rules, plan_refused)
 
 same-length-3 : tie.Need-same-length-3
 same-length-3 c = search rules
@@ -47,7 +47,7 @@ same-length-4 : tie.Need-same-length-4
 same-length-4 c = search rules
 
 returns-2 : tie.Need-returns-2
-returns-2 c = search (rules, listing-refused)
+returns-2 c = search (rules, listing_refused)
 
 same-length-5 : tie.Need-same-length-5
 same-length-5 c = search rules
@@ -56,7 +56,7 @@ same-length-6 : tie.Need-same-length-6
 same-length-6 c = search rules
 
 returns-3 : tie.Need-returns-3
-returns-3 c = search (rules, listing-written)
+returns-3 c = search (rules, listing_written)
 
 pub print-plan-spec : {M : Type 1} → statement M
 print-plan-spec =

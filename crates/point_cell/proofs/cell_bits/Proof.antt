@@ -1,5 +1,5 @@
 -- `point_cell::cell_bits` meets its contract. Assumes nothing.
-use Rattle.point_cell.proofs.Signs.{bits_small, bits-large, bits_none, bits-some}
+use Rattle.point_cell.proofs.Signs.{bits_small, bits_large, bits_none, bits_some}
 use borrow.Author.Rules.{rules}
 use Rattle.point_cell.proofs.cell_bits.Statement.{statement}
 use Rattle.point_cell.proofs.cell_bits.Tie as tie
@@ -23,13 +23,13 @@ returns : tie.Need-returns
 returns c = search bits_small
 
 returns-2 : tie.Need-returns-2
-returns-2 c = search bits-large
+returns-2 c = search bits_large
 
 returns-3 : tie.Need-returns-3
 returns-3 c = search bits_none
 
 returns-4 : tie.Need-returns-4
-returns-4 c = search bits-some
+returns-4 c = search bits_some
 
 pub cell-bits-spec : {M : Type 1} → statement M
 cell-bits-spec =

@@ -1,11 +1,11 @@
 -- `point_cell::cell_size` meets its contract. Assumes nothing.
 use borrow.Author.Rules.{rules}
-use Rattle.point_cell.specs.Scale.{cell-scale}
+use Rattle.point_cell.specs.Scale.{cell_scale}
 use Rattle.point_cell.proofs.cell_size.Statement.{statement}
 use Rattle.point_cell.proofs.cell_size.Tie as tie
 
 nearest-size-requires : tie.Need-nearest-size-requires
-nearest-size-requires c κs = search cell-scale
+nearest-size-requires c κs = search cell_scale
 
 returns : tie.Need-returns
 returns c = search rules

@@ -1,5 +1,5 @@
 -- `point_cell::cell_value` meets its contract. Assumes nothing.
-use Rattle.point_cell.proofs.Signs.{number_small, plus-large, minus-none, number-some, less_one, zero-less-that, one_lower}
+use Rattle.point_cell.proofs.Signs.{number_small, plus_large, minus_none, number_some, less_one, zero_less_that, one_lower}
 use borrow.Author.Rules.{rules}
 use Rattle.point_cell.proofs.cell_value.Statement.{statement}
 use Rattle.point_cell.proofs.cell_value.Tie as tie
@@ -20,7 +20,7 @@ cast-result-2 : tie.Need-overflow-cast-result-2
 cast-result-2 c = search less_one
 
 sub-result-2 : tie.Need-overflow-sub-result-2
-sub-result-2 c = search zero-less-that
+sub-result-2 c = search zero_less_that
 
 sub-result-3 : tie.Need-overflow-sub-result-3
 sub-result-3 c = search one_lower
@@ -29,13 +29,13 @@ returns : tie.Need-returns
 returns c = search number_small
 
 returns-2 : tie.Need-returns-2
-returns-2 c = search plus-large
+returns-2 c = search plus_large
 
 returns-3 : tie.Need-returns-3
-returns-3 c = search minus-none
+returns-3 c = search minus_none
 
 returns-4 : tie.Need-returns-4
-returns-4 c = search number-some
+returns-4 c = search number_some
 
 pub cell-value-spec : {M : Type 1} → statement M
 cell-value-spec =

@@ -1,5 +1,5 @@
 -- `write_refusal` meets its contract. Assumes nothing.
-use Rattle.sheet_answer.proofs.WholeLaws.{refusal-written}
+use Rattle.sheet_answer.proofs.WholeLaws.{refusal_written}
 use borrow.Author.Rules.{rules}
 use Rattle.sheet_answer.proofs.write_refusal.Statement.{statement}
 use Rattle.sheet_answer.proofs.write_refusal.Tie as tie
@@ -14,7 +14,7 @@ same_length : tie.Need-same-length
 same_length c = search rules
 
 returns : tie.Need-returns
-returns c = search (rules, refusal-written)
+returns c = search (rules, refusal_written)
 
 pub write-refusal-spec : {M : Type 1} → statement M
 write-refusal-spec =

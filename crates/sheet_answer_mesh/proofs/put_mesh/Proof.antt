@@ -1,6 +1,6 @@
 -- `put_mesh` meets its contract. Assumes nothing.
 use mathlib.Core.Path.{◌∙◌}
-use Rattle.sheet_answer_mesh.proofs.MeshLaws.{mesh-written}
+use Rattle.sheet_answer_mesh.proofs.MeshLaws.{mesh_written}
 use borrow.Author.Rules.{rules}
 use Rattle.sheet_answer_mesh.proofs.put_mesh.Statement.{statement}
 use Rattle.sheet_answer_mesh.proofs.put_mesh.Tie as tie
@@ -90,7 +90,7 @@ same_length : tie.Need-same-length
 same_length c = c.before.before.put-failures.ensures.long ∙ c.before.before.before.before.before.before.before.before.put-ranges.ensures.long ∙ c.before.before.before.before.before.before.before.before.before.before.before.before.before.before.put-threes2.ensures.long ∙ c.before.before.before.before.before.before.before.before.before.before.before.before.before.before.before.before.before.before.before.before.before.put-threes.ensures.long ∙ c.before.before.before.before.before.before.before.before.before.before.before.before.before.before.before.before.before.before.before.before.before.before.before.before.before.before.before.before.put-vertices.ensures.long ∙ c.before.before.before.before.before.before.before.before.before.before.before.before.before.before.before.before.before.before.before.before.before.before.before.before.before.before.before.before.before.before.before.before.before.before.put-line.ensures.long
 
 returns : tie.Need-returns
-returns c = mesh-written _ _ _ _ _ _ _ c.before.before.before.before.before.before.before.before.before.before.before.before.before.before.before.before.before.before.before.before.before.before.before.before.before.before.before.before.before.before.front-floats.ensures c.before.before.before.before.before.before.before.before.before.before.before.before.before.before.before.before.before.before.before.before.before.before.before.before.before.before.before.before.before.front-floats2.ensures c.before.before.before.before.before.before.before.before.before.before.before.before.before.before.before.before.before.before.before.before.before.before.front.ensures c.before.before.before.before.before.before.before.before.before.before.before.before.before.before.before.front2.ensures c.before.before.before.before.before.before.before.before.before.front3.ensures c.before.before.before.front_long.ensures c.before.before.before.before.before.before.before.before.before.before.before.before.before.before.before.before.before.before.before.before.before.before.before.before.before.before.before.before.before.before.before.before.before.before.put-line.ensures c.before.before.before.before.before.before.before.before.before.before.before.before.before.before.before.before.before.before.before.before.before.before.before.before.before.before.before.before.put-vertices.ensures c.before.before.before.before.before.before.before.before.before.before.before.before.before.before.before.before.before.before.before.before.before.put-threes.ensures c.before.before.before.before.before.before.before.before.before.before.before.before.before.before.put-threes2.ensures c.before.before.before.before.before.before.before.before.put-ranges.ensures c.before.before.put-failures.ensures
+returns c = mesh_written _ _ _ _ _ _ _ c.before.before.before.before.before.before.before.before.before.before.before.before.before.before.before.before.before.before.before.before.before.before.before.before.before.before.before.before.before.before.front-floats.ensures c.before.before.before.before.before.before.before.before.before.before.before.before.before.before.before.before.before.before.before.before.before.before.before.before.before.before.before.before.before.front-floats2.ensures c.before.before.before.before.before.before.before.before.before.before.before.before.before.before.before.before.before.before.before.before.before.before.front.ensures c.before.before.before.before.before.before.before.before.before.before.before.before.before.before.before.front2.ensures c.before.before.before.before.before.before.before.before.before.front3.ensures c.before.before.before.front_long.ensures c.before.before.before.before.before.before.before.before.before.before.before.before.before.before.before.before.before.before.before.before.before.before.before.before.before.before.before.before.before.before.before.before.before.before.put-line.ensures c.before.before.before.before.before.before.before.before.before.before.before.before.before.before.before.before.before.before.before.before.before.before.before.before.before.before.before.before.put-vertices.ensures c.before.before.before.before.before.before.before.before.before.before.before.before.before.before.before.before.before.before.before.before.before.put-threes.ensures c.before.before.before.before.before.before.before.before.before.before.before.before.before.before.put-threes2.ensures c.before.before.before.before.before.before.before.before.put-ranges.ensures c.before.before.put-failures.ensures
 
 pub put-mesh-spec : {M : Type 1} → statement M
 put-mesh-spec =

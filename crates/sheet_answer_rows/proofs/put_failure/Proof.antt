@@ -3,9 +3,9 @@ use mathlib.Core.Path.{refl}
 use Rattle.sheet_digits.specs.Bytes.{bytes}
 use Rattle.sheet_lines.specs.Forms.{numbers}
 use Rattle.sheet_lines.specs.Pattern.{piece, split}
-use Rattle.sheet_answer_rows.specs.Rows.{emptyForm, escapeForm, upstreamForm}
-use Rattle.sheet_answer_rows.specs.FormLaws.{as-form}
-use Rattle.sheet_answer_rows.proofs.RowLaws.{failed-empty, failed-escape, failed-upstream}
+use Rattle.sheet_answer_rows.specs.Rows.{empty_form, escape_form, upstream_form}
+use Rattle.sheet_answer_rows.specs.FormLaws.{as_form}
+use Rattle.sheet_answer_rows.proofs.RowLaws.{failed_empty, failed_escape, failed_upstream}
 use borrow.Author.Rules.{rules}
 use Rattle.sheet_answer_rows.proofs.put_failure.Statement.{statement}
 use Rattle.sheet_answer_rows.proofs.put_failure.Tie as tie
@@ -24,7 +24,7 @@ same_length c = search rules
 
 returns : tie.Need-returns
 unfolding piece split numbers
-returns c = search (rules, failed-empty, as-form emptyForm (bytes "(failed## (empty))") refl)
+returns c = search (rules, failed_empty, as_form empty_form (bytes "(failed## (empty))") refl)
 
 slice-aggregate-put-line-3 : tie.Need-slice-aggregate-put-line-3
 slice-aggregate-put-line-3 c = search rules
@@ -40,7 +40,7 @@ same-length-2 c = search rules
 
 returns-2 : tie.Need-returns-2
 unfolding piece split numbers
-returns-2 c = search (rules, failed-escape, as-form escapeForm (bytes "(failed## (escape$$))") refl)
+returns-2 c = search (rules, failed_escape, as_form escape_form (bytes "(failed## (escape$$))") refl)
 
 slice-aggregate-put-line-5 : tie.Need-slice-aggregate-put-line-5
 slice-aggregate-put-line-5 c = search rules
@@ -56,7 +56,7 @@ same-length-3 c = search rules
 
 returns-3 : tie.Need-returns-3
 unfolding piece split numbers
-returns-3 c = search (rules, failed-upstream, as-form upstreamForm (bytes "(failed## (upstream#))") refl)
+returns-3 c = search (rules, failed_upstream, as_form upstream_form (bytes "(failed## (upstream#))") refl)
 
 pub put-failure-spec : {M : Type 1} → statement M
 put-failure-spec =

@@ -1,7 +1,7 @@
 -- `put_failures` meets its contract. Assumes nothing.
 use Prim.Native.Nat.{◌-◌}
 use lib.ListN.{length}
-use Rattle.sheet_answer_rows.proofs.RowLaws.{Failures, failures-all, failures-inside, failures-more, failures-none, failures-room}
+use Rattle.sheet_answer_rows.proofs.RowLaws.{Failures, failures_all, failures_inside, failures_more, failures_none, failures_room}
 use borrow.Author.Rules.{rules}
 use Rattle.sheet_answer_rows.proofs.put_failures.Statement.{statement}
 use Rattle.sheet_answer_rows.proofs.put_failures.Tie as tie
@@ -13,10 +13,10 @@ abbrev decreases-loop : tie.decreases-loop
 decreases-loop out₀ at failures next₀ i₀ out next i = length failures - i
 
 loop-holds : tie.Need-loop-init invariant-loop decreases-loop
-loop-holds c = search (rules, failures-none)
+loop-holds c = search (rules, failures_none)
 
 sub-loop : tie.Need-overflow-sub-loop invariant-loop decreases-loop
-sub-loop c = search (rules, failures-inside)
+sub-loop c = search (rules, failures_inside)
 
 mul-put-failure : tie.Need-overflow-mul-put-failure invariant-loop decreases-loop
 mul-put-failure c = search rules
@@ -61,7 +61,7 @@ shared-slice-read-put-failure-5 : tie.Need-shared-slice-read-put-failure-5 invar
 shared-slice-read-put-failure-5 c = search rules
 
 put-failure-requires : tie.Need-put-failure-requires invariant-loop decreases-loop
-put-failure-requires c κs = search (rules, failures-room)
+put-failure-requires c κs = search (rules, failures_room)
 
 add-i : tie.Need-overflow-add-i invariant-loop decreases-loop
 add-i c = search rules
@@ -70,13 +70,13 @@ loop-less : tie.Need-loop-smaller invariant-loop decreases-loop
 loop-less c = search rules
 
 loop-again : tie.Need-loop-preserved invariant-loop decreases-loop
-loop-again c = search (rules, failures-more)
+loop-again c = search (rules, failures_more)
 
 same_length : tie.Need-same-length invariant-loop decreases-loop
 same_length c = search rules
 
 returns : tie.Need-returns invariant-loop decreases-loop
-returns c = search (rules, failures-all)
+returns c = search (rules, failures_all)
 
 pub put-failures-spec : {M : Type 1} → statement M
 put-failures-spec =

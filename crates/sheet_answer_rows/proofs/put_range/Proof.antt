@@ -3,9 +3,9 @@ use mathlib.Core.Path.{refl}
 use Rattle.sheet_digits.specs.Bytes.{bytes}
 use Rattle.sheet_lines.specs.Forms.{numbers}
 use Rattle.sheet_lines.specs.Pattern.{piece, split}
-use Rattle.sheet_answer_rows.specs.Rows.{rangeForm}
-use Rattle.sheet_answer_rows.specs.FormLaws.{as-form}
-use Rattle.sheet_answer_rows.proofs.RowLaws.{range-written}
+use Rattle.sheet_answer_rows.specs.Rows.{range_form}
+use Rattle.sheet_answer_rows.specs.FormLaws.{as_form}
+use Rattle.sheet_answer_rows.proofs.RowLaws.{range_written}
 use borrow.Author.Rules.{rules}
 use Rattle.sheet_answer_rows.proofs.put_range.Statement.{statement}
 use Rattle.sheet_answer_rows.proofs.put_range.Tie as tie
@@ -69,7 +69,7 @@ same_length c = search rules
 
 returns : tie.Need-returns
 unfolding piece split numbers
-returns c = search (range-written, as-form rangeForm (bytes "(range####)") refl)
+returns c = search (range_written, as_form range_form (bytes "(range####)") refl)
 
 pub put-range-spec : {M : Type 1} → statement M
 put-range-spec =

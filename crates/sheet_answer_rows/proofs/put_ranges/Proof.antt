@@ -1,7 +1,7 @@
 -- `put_ranges` meets its contract. Assumes nothing.
 use Prim.Native.Nat.{◌-◌}
 use lib.ListN.{length}
-use Rattle.sheet_answer_rows.proofs.RowLaws.{Ranges, ranges-all, ranges-inside, ranges_more, ranges-none, ranges-room}
+use Rattle.sheet_answer_rows.proofs.RowLaws.{Ranges, ranges_all, ranges_inside, ranges_more, ranges_none, ranges_room}
 use borrow.Author.Rules.{rules}
 use Rattle.sheet_answer_rows.proofs.put_ranges.Statement.{statement}
 use Rattle.sheet_answer_rows.proofs.put_ranges.Tie as tie
@@ -13,13 +13,13 @@ abbrev decreases-loop : tie.decreases-loop
 decreases-loop out₀ at ranges next₀ i₀ out next i = length ranges - i
 
 loop-holds : tie.Need-loop-init invariant-loop decreases-loop
-loop-holds c = search (rules, ranges-none)
+loop-holds c = search (rules, ranges_none)
 
 sub-loop : tie.Need-overflow-sub-loop invariant-loop decreases-loop
-sub-loop c = search (rules, ranges-inside)
+sub-loop c = search (rules, ranges_inside)
 
 put-range-requires : tie.Need-put-range-requires invariant-loop decreases-loop
-put-range-requires c κs = search (rules, ranges-room)
+put-range-requires c κs = search (rules, ranges_room)
 
 add-i : tie.Need-overflow-add-i invariant-loop decreases-loop
 add-i c = search rules
@@ -34,7 +34,7 @@ same_length : tie.Need-same-length invariant-loop decreases-loop
 same_length c = search rules
 
 returns : tie.Need-returns invariant-loop decreases-loop
-returns c = search (rules, ranges-all)
+returns c = search (rules, ranges_all)
 
 pub put-ranges-spec : {M : Type 1} → statement M
 put-ranges-spec =

@@ -1,5 +1,5 @@
 -- `put_three` meets its contract. Assumes nothing.
-use Rattle.sheet_answer_rows.proofs.RowLaws.{three-written}
+use Rattle.sheet_answer_rows.proofs.RowLaws.{three_written}
 use borrow.Author.Rules.{rules}
 use Rattle.sheet_answer_rows.proofs.put_three.Statement.{statement}
 use Rattle.sheet_answer_rows.proofs.put_three.Tie as tie
@@ -47,7 +47,7 @@ same_length : tie.Need-same-length
 same_length c = search rules
 
 returns : tie.Need-returns
-returns c = search three-written
+returns c = search three_written
 
 pub put-three-spec : {M : Type 1} → statement M
 put-three-spec =

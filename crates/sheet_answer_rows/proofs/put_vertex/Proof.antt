@@ -1,10 +1,10 @@
 -- `put_vertex` meets its contract. Assumes nothing.
 use mathlib.Core.Path.{refl}
 use Rattle.sheet_digits.specs.Bytes.{bytes}
-use Rattle.sheet_lines.specs.Forms.{vertexForm}
+use Rattle.sheet_lines.specs.Forms.{vertex_form}
 use Rattle.sheet_lines.specs.Pattern.{piece, split}
-use Rattle.sheet_answer_rows.specs.FormLaws.{as-form}
-use Rattle.sheet_answer_rows.proofs.RowLaws.{corner-written}
+use Rattle.sheet_answer_rows.specs.FormLaws.{as_form}
+use Rattle.sheet_answer_rows.proofs.RowLaws.{corner_written}
 use borrow.Author.Rules.{rules}
 use Rattle.sheet_answer_rows.proofs.put_vertex.Statement.{statement}
 use Rattle.sheet_answer_rows.proofs.put_vertex.Tie as tie
@@ -107,7 +107,7 @@ same_length c = search rules
 
 returns : tie.Need-returns
 unfolding piece split
-returns c = search (corner-written, as-form vertexForm (bytes "(v (p***) (n***))") refl)
+returns c = search (corner_written, as_form vertex_form (bytes "(v (p***) (n***))") refl)
 
 pub put-vertex-spec : {M : Type 1} → statement M
 put-vertex-spec =

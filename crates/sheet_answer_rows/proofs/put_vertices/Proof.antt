@@ -1,7 +1,7 @@
 -- `put_vertices` meets its contract. Assumes nothing.
 use Prim.Native.Nat.{◌-◌}
 use lib.ListN.{length}
-use Rattle.sheet_answer_rows.proofs.RowLaws.{Corners, corners-all, corners-beside, corners-inside, corners-more, corners-none, corners-room, corners-short}
+use Rattle.sheet_answer_rows.proofs.RowLaws.{Corners, corners_all, corners_beside, corners_inside, corners_more, corners_none, corners_room, corners_short}
 use borrow.Author.Rules.{rules}
 use Rattle.sheet_answer_rows.proofs.put_vertices.Statement.{statement}
 use Rattle.sheet_answer_rows.proofs.put_vertices.Tie as tie
@@ -13,22 +13,22 @@ abbrev decreases-loop : tie.decreases-loop
 decreases-loop out₀ at positions normals next₀ i₀ out next i = length positions - i
 
 loop-holds : tie.Need-loop-init invariant-loop decreases-loop
-loop-holds c = search (rules, corners-none)
+loop-holds c = search (rules, corners_none)
 
 sub-loop : tie.Need-overflow-sub-loop invariant-loop decreases-loop
-sub-loop c = search (rules, corners-inside)
+sub-loop c = search (rules, corners_inside)
 
 sub-if1 : tie.Need-overflow-sub-if1 invariant-loop decreases-loop
-sub-if1 c = search (rules, corners-beside)
+sub-if1 c = search (rules, corners_beside)
 
 same_length : tie.Need-same-length invariant-loop decreases-loop
 same_length c = search rules
 
 returns : tie.Need-returns invariant-loop decreases-loop
-returns c = search (rules, corners-short)
+returns c = search (rules, corners_short)
 
 put-vertex-requires : tie.Need-put-vertex-requires invariant-loop decreases-loop
-put-vertex-requires c κs = search (rules, corners-room)
+put-vertex-requires c κs = search (rules, corners_room)
 
 add-i : tie.Need-overflow-add-i invariant-loop decreases-loop
 add-i c = search rules
@@ -37,13 +37,13 @@ loop-less : tie.Need-loop-smaller invariant-loop decreases-loop
 loop-less c = search rules
 
 loop-again : tie.Need-loop-preserved invariant-loop decreases-loop
-loop-again c = search (rules, corners-more)
+loop-again c = search (rules, corners_more)
 
 same-length-2 : tie.Need-same-length-2 invariant-loop decreases-loop
 same-length-2 c = search rules
 
 returns-2 : tie.Need-returns-2 invariant-loop decreases-loop
-returns-2 c = search (rules, corners-all)
+returns-2 c = search (rules, corners_all)
 
 pub put-vertices-spec : {M : Type 1} → statement M
 put-vertices-spec =

@@ -1,6 +1,6 @@
 -- `put_counts` meets its contract. Assumes nothing.
 use mathlib.Core.Path.{◌∙◌}
-use Rattle.sheet_answer_text.proofs.CountLaws.{counts-written}
+use Rattle.sheet_answer_text.proofs.CountLaws.{counts_written}
 use borrow.Author.Rules.{rules}
 use Rattle.sheet_answer_text.proofs.put_counts.Statement.{statement}
 use Rattle.sheet_answer_text.proofs.put_counts.Tie as tie
@@ -60,7 +60,7 @@ same_length : tie.Need-same-length
 same_length c = c.before.before.put-count8.ensures.long ∙ c.before.before.before.before.before.before.before.before.put-count7.ensures.long ∙ c.before.before.before.before.before.before.before.before.before.before.before.before.before.put-count6.ensures.long ∙ c.before.before.before.before.before.before.before.before.before.before.before.before.before.before.before.before.before.before.put-count5.ensures.long ∙ c.before.before.before.before.before.before.before.before.before.before.before.before.before.before.before.before.before.before.before.before.before.before.before.put-count4.ensures.long ∙ c.before.before.before.before.before.before.before.before.before.before.before.before.before.before.before.before.before.before.before.before.before.before.before.before.before.before.before.before.put-count3.ensures.long ∙ c.before.before.before.before.before.before.before.before.before.before.before.before.before.before.before.before.before.before.before.before.before.before.before.before.before.before.before.before.before.before.before.before.before.put-count2.ensures.long ∙ c.before.before.before.before.before.before.before.before.before.before.before.before.before.before.before.before.before.before.before.before.before.before.before.before.before.before.before.before.before.before.before.before.before.before.before.before.before.before.put_count.ensures.long
 
 returns : tie.Need-returns
-returns c = counts-written _ c.before.before.before.number_of.ensures c.before.before.before.before.before.before.before.before.before.before.before.before.before.before.before.before.before.before.before.before.before.before.before.before.before.before.before.before.before.before.before.before.before.before.before.before.before.before.put_count.ensures c.before.before.before.before.before.before.before.before.before.before.before.before.before.before.before.before.before.before.before.before.before.before.before.before.before.before.before.before.before.before.before.before.before.put-count2.ensures c.before.before.before.before.before.before.before.before.before.before.before.before.before.before.before.before.before.before.before.before.before.before.before.before.before.before.before.before.put-count3.ensures c.before.before.before.before.before.before.before.before.before.before.before.before.before.before.before.before.before.before.before.before.before.before.before.put-count4.ensures c.before.before.before.before.before.before.before.before.before.before.before.before.before.before.before.before.before.before.put-count5.ensures c.before.before.before.before.before.before.before.before.before.before.before.before.before.put-count6.ensures c.before.before.before.before.before.before.before.before.put-count7.ensures c.before.before.put-count8.ensures
+returns c = counts_written _ c.before.before.before.number_of.ensures c.before.before.before.before.before.before.before.before.before.before.before.before.before.before.before.before.before.before.before.before.before.before.before.before.before.before.before.before.before.before.before.before.before.before.before.before.before.before.put_count.ensures c.before.before.before.before.before.before.before.before.before.before.before.before.before.before.before.before.before.before.before.before.before.before.before.before.before.before.before.before.before.before.before.before.before.put-count2.ensures c.before.before.before.before.before.before.before.before.before.before.before.before.before.before.before.before.before.before.before.before.before.before.before.before.before.before.before.before.put-count3.ensures c.before.before.before.before.before.before.before.before.before.before.before.before.before.before.before.before.before.before.before.before.before.before.before.put-count4.ensures c.before.before.before.before.before.before.before.before.before.before.before.before.before.before.before.before.before.before.put-count5.ensures c.before.before.before.before.before.before.before.before.before.before.before.before.before.put-count6.ensures c.before.before.before.before.before.before.before.before.put-count7.ensures c.before.before.put-count8.ensures
 
 pub put-counts-spec : {M : Type 1} → statement M
 put-counts-spec =

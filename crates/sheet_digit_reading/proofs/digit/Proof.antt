@@ -1,5 +1,5 @@
 -- `digit` meets its contract. Assumes nothing.
-use Rattle.sheet_digit_reading.proofs.ReadLaws.{digit_low, digit-decimal, digit-between, digit-letter, digit-high}
+use Rattle.sheet_digit_reading.proofs.ReadLaws.{digit_low, digit_decimal, digit_between, digit_letter, digit_high}
 use borrow.Author.Rules.{rules}
 use Rattle.sheet_digit_reading.proofs.digit.Statement.{statement}
 use Rattle.sheet_digit_reading.proofs.digit.Tie as tie
@@ -11,19 +11,19 @@ sub-result : tie.Need-overflow-sub-result
 sub-result c = search rules
 
 returns-2 : tie.Need-returns-2
-returns-2 c = search (rules, digit-decimal)
+returns-2 c = search (rules, digit_decimal)
 
 returns-3 : tie.Need-returns-3
-returns-3 c = search (rules, digit-between)
+returns-3 c = search (rules, digit_between)
 
 sub-result-2 : tie.Need-overflow-sub-result-2
 sub-result-2 c = search rules
 
 returns-4 : tie.Need-returns-4
-returns-4 c = search (rules, digit-letter)
+returns-4 c = search (rules, digit_letter)
 
 returns-5 : tie.Need-returns-5
-returns-5 c = search (rules, digit-high)
+returns-5 c = search (rules, digit_high)
 
 pub digit-spec : {M : Type 1} → statement M
 digit-spec =

@@ -1,7 +1,7 @@
 -- `more_digits` meets its contract. Assumes nothing.
 use Prim.Native.Nat.{◌-◌}
 use lib.ListN.{length}
-use Rattle.sheet_digit_reading.proofs.ReadLaws.{Tens, tens-none, tens-room, tens-stop, tens-more, tens-large, tens-all}
+use Rattle.sheet_digit_reading.proofs.ReadLaws.{Tens, tens_none, tens_room, tens_stop, tens_more, tens_large, tens_all}
 use borrow.Author.Rules.{rules}
 use Rattle.sheet_digit_reading.proofs.more_digits.Statement.{statement}
 use Rattle.sheet_digit_reading.proofs.more_digits.Tie as tie
@@ -13,7 +13,7 @@ abbrev decreases-loop : tie.decreases-loop
 decreases-loop text at before most value₀ i₀ value i = length text - i
 
 loop-holds : tie.Need-loop-init invariant-loop decreases-loop
-loop-holds c = search (rules, tens-none)
+loop-holds c = search (rules, tens_none)
 
 shared-slice-read-digit : tie.Need-shared-slice-read-digit invariant-loop decreases-loop
 shared-slice-read-digit c = search rules
@@ -22,19 +22,19 @@ digit-requires : tie.Need-digit-requires invariant-loop decreases-loop
 digit-requires c κs = search rules
 
 returns : tie.Need-returns invariant-loop decreases-loop
-returns c = search (rules, tens-stop)
+returns c = search (rules, tens_stop)
 
 mul-value : tie.Need-overflow-mul-value invariant-loop decreases-loop
-mul-value c = search (rules, tens-room)
+mul-value c = search (rules, tens_room)
 
 add-value : tie.Need-overflow-add-value invariant-loop decreases-loop
-add-value c = search (rules, tens-room)
+add-value c = search (rules, tens_room)
 
 missing-requires : tie.Need-missing-requires invariant-loop decreases-loop
 missing-requires c κs = search rules
 
 returns-2 : tie.Need-returns-2 invariant-loop decreases-loop
-returns-2 c = search (rules, tens-large)
+returns-2 c = search (rules, tens_large)
 
 add-i : tie.Need-overflow-add-i invariant-loop decreases-loop
 add-i c = search rules
@@ -43,10 +43,10 @@ loop-less : tie.Need-loop-smaller invariant-loop decreases-loop
 loop-less c = search rules
 
 loop-again : tie.Need-loop-preserved invariant-loop decreases-loop
-loop-again c = search (rules, tens-more)
+loop-again c = search (rules, tens_more)
 
 returns-3 : tie.Need-returns-3 invariant-loop decreases-loop
-returns-3 c = search (rules, tens-all)
+returns-3 c = search (rules, tens_all)
 
 pub more-digits-spec : {M : Type 1} → statement M
 more-digits-spec =

@@ -1,5 +1,5 @@
 -- `read_offset` meets its contract. Assumes nothing.
-use Rattle.sheet_digit_reading.proofs.OffsetLaws.{offset-end, offset-beneath, offset-above}
+use Rattle.sheet_digit_reading.proofs.OffsetLaws.{offset_end, offset_beneath, offset_above}
 use borrow.Author.Rules.{rules}
 use Rattle.sheet_digit_reading.proofs.read_offset.Statement.{statement}
 use Rattle.sheet_digit_reading.proofs.read_offset.Tie as tie
@@ -8,7 +8,7 @@ missing-requires : tie.Need-missing-requires
 missing-requires c κs = search rules
 
 returns : tie.Need-returns
-returns c = search (rules, offset-end)
+returns c = search (rules, offset_end)
 
 shared-slice-read-if2 : tie.Need-shared-slice-read-if2
 shared-slice-read-if2 c = search rules
@@ -23,7 +23,7 @@ below-zero-requires : tie.Need-below-zero-requires
 below-zero-requires c κs = search rules
 
 returns-2 : tie.Need-returns-2
-returns-2 c = search (rules, offset-beneath)
+returns-2 c = search (rules, offset_beneath)
 
 read-below-requires-2 : tie.Need-read-below-requires-2
 read-below-requires-2 c κs = search rules
@@ -32,7 +32,7 @@ above-zero-requires : tie.Need-above-zero-requires
 above-zero-requires c κs = search rules
 
 returns-3 : tie.Need-returns-3
-returns-3 c = search (rules, offset-above)
+returns-3 c = search (rules, offset_above)
 
 pub read-offset-spec : {M : Type 1} → statement M
 read-offset-spec =

@@ -1,5 +1,5 @@
 -- `count_digits` meets its contract. Assumes nothing.
-use Rattle.sheet_digit_writing.proofs.WriteLaws.{Counted, counted_none, counted-more, counted-all}
+use Rattle.sheet_digit_writing.proofs.WriteLaws.{Counted, counted_none, counted_more, counted_all}
 use borrow.Author.Rules.{rules}
 use Rattle.sheet_digit_writing.proofs.count_digits.Statement.{statement}
 use Rattle.sheet_digit_writing.proofs.count_digits.Tie as tie
@@ -20,10 +20,10 @@ loop-less : tie.Need-loop-smaller invariant-loop decreases-loop
 loop-less c = search rules
 
 loop-again : tie.Need-loop-preserved invariant-loop decreases-loop
-loop-again c = search (rules, counted-more)
+loop-again c = search (rules, counted_more)
 
 returns : tie.Need-returns invariant-loop decreases-loop
-returns c = search (rules, counted-all)
+returns c = search (rules, counted_all)
 
 pub count-digits-spec : {M : Type 1} → statement M
 count-digits-spec =

@@ -1,6 +1,6 @@
 -- `fill_digits` meets its contract. Assumes nothing.
 use Prim.Native.Nat.{◌-◌}
-use Rattle.sheet_digit_writing.proofs.WriteLaws.{Filled, filled_none, filled_more, filled-all, small-digit}
+use Rattle.sheet_digit_writing.proofs.WriteLaws.{Filled, filled_none, filled_more, filled_all, small_digit}
 use borrow.Author.Rules.{rules}
 use Rattle.sheet_digit_writing.proofs.fill_digits.Statement.{statement}
 use Rattle.sheet_digit_writing.proofs.fill_digits.Tie as tie
@@ -21,7 +21,7 @@ rem-digit-byte : tie.Need-nonzero-rem-digit-byte invariant-loop decreases-loop
 rem-digit-byte c = search rules
 
 digit-byte-requires : tie.Need-digit-byte-requires invariant-loop decreases-loop
-digit-byte-requires c κs = search (rules, small-digit)
+digit-byte-requires c κs = search (rules, small_digit)
 
 slice-write-room : tie.Need-slice-write-room invariant-loop decreases-loop
 slice-write-room c = search rules
@@ -42,7 +42,7 @@ same_length : tie.Need-same-length invariant-loop decreases-loop
 same_length c = search rules
 
 returns : tie.Need-returns invariant-loop decreases-loop
-returns c = search (rules, filled-all)
+returns c = search (rules, filled_all)
 
 pub fill-digits-spec : {M : Type 1} → statement M
 fill-digits-spec =

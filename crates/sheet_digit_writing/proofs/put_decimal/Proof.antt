@@ -1,5 +1,5 @@
 -- `put_decimal` meets its contract. Assumes nothing.
-use Rattle.sheet_digit_writing.proofs.WriteLaws.{wrote-decimal}
+use Rattle.sheet_digit_writing.proofs.WriteLaws.{wrote_decimal}
 use borrow.Author.Rules.{rules}
 use Rattle.sheet_digit_writing.proofs.put_decimal.Statement.{statement}
 use Rattle.sheet_digit_writing.proofs.put_decimal.Tie as tie
@@ -14,7 +14,7 @@ same_length : tie.Need-same-length
 same_length c = search rules
 
 returns : tie.Need-returns
-returns c = search (rules, wrote-decimal)
+returns c = search (rules, wrote_decimal)
 
 pub put-decimal-spec : {M : Type 1} → statement M
 put-decimal-spec =

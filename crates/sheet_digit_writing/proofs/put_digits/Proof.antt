@@ -1,5 +1,5 @@
 -- `put_digits` meets its contract. Assumes nothing.
-use Rattle.sheet_digit_writing.proofs.WriteLaws.{wrote-digits}
+use Rattle.sheet_digit_writing.proofs.WriteLaws.{wrote_digits}
 use borrow.Author.Rules.{rules}
 use Rattle.sheet_digit_writing.proofs.put_digits.Statement.{statement}
 use Rattle.sheet_digit_writing.proofs.put_digits.Tie as tie
@@ -29,7 +29,7 @@ same_length : tie.Need-same-length
 same_length c = search rules
 
 returns : tie.Need-returns
-returns c = search (rules, wrote-digits)
+returns c = search (rules, wrote_digits)
 
 pub put-digits-spec : {M : Type 1} → statement M
 put-digits-spec =

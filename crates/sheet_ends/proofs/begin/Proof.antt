@@ -1,5 +1,5 @@
 -- `begin` meets its contract. Assumes nothing.
-use Rattle.sheet_ends.proofs.EndLaws.{begun-long, begun-short}
+use Rattle.sheet_ends.proofs.EndLaws.{begun_long, begun_short}
 use borrow.Author.Rules.{rules}
 use Rattle.sheet_ends.proofs.begin.Statement.{statement}
 use Rattle.sheet_ends.proofs.begin.Tie as tie
@@ -14,7 +14,7 @@ same_length : tie.Need-same-length
 same_length c = search rules
 
 returns : tie.Need-returns
-returns c = search (rules, begun-short)
+returns c = search (rules, begun_short)
 
 add-clear : tie.Need-overflow-add-clear
 add-clear c = search rules
@@ -29,7 +29,7 @@ same-length-2 : tie.Need-same-length-2
 same-length-2 c = search rules
 
 returns-2 : tie.Need-returns-2
-returns-2 c = search (rules, begun-long)
+returns-2 c = search (rules, begun_long)
 
 pub begin-spec : {M : Type 1} → statement M
 begin-spec =

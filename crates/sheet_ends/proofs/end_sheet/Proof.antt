@@ -1,5 +1,5 @@
 -- `end_sheet` meets its contract. Assumes nothing.
-use Rattle.sheet_ends.proofs.EndLaws.{end-missing, end_refused, end_rest, end_whole}
+use Rattle.sheet_ends.proofs.EndLaws.{end_missing, end_refused, end_rest, end_whole}
 use borrow.Author.Rules.{rules}
 use Rattle.sheet_ends.proofs.end_sheet.Statement.{statement}
 use Rattle.sheet_ends.proofs.end_sheet.Tie as tie
@@ -17,7 +17,7 @@ refuse-requires-2 : tie.Need-refuse-requires-2
 refuse-requires-2 c κs = search rules
 
 returns-3 : tie.Need-returns-3
-returns-3 c = search (rules, end-missing)
+returns-3 c = search (rules, end_missing)
 
 returns-4 : tie.Need-returns-4
 returns-4 c = search (rules, end_whole)

@@ -1,5 +1,5 @@
 -- `add_row` meets its contract. Assumes nothing.
-use Rattle.sheet_line_effects.proofs.TakeLaws.{row-added}
+use Rattle.sheet_line_effects.proofs.TakeLaws.{row_added}
 use borrow.Author.Rules.{rules}
 use Rattle.sheet_line_effects.proofs.add_row.Statement.{statement}
 use Rattle.sheet_line_effects.proofs.add_row.Tie as tie
@@ -29,7 +29,7 @@ same_length : tie.Need-same-length
 same_length c = search rules
 
 returns : tie.Need-returns
-returns c = search (rules, row-added)
+returns c = search (rules, row_added)
 
 pub add-row-spec : {M : Type 1} → statement M
 add-row-spec =

@@ -1,5 +1,5 @@
 -- `set_material` meets its contract. Assumes nothing.
-use Rattle.sheet_line_effects.proofs.TakeLaws.{material-set}
+use Rattle.sheet_line_effects.proofs.TakeLaws.{material_set}
 use borrow.Author.Rules.{rules}
 use Rattle.sheet_line_effects.proofs.set_material.Statement.{statement}
 use Rattle.sheet_line_effects.proofs.set_material.Tie as tie
@@ -17,7 +17,7 @@ same_length : tie.Need-same-length
 same_length c = search rules
 
 returns : tie.Need-returns
-returns c = search (rules, material-set)
+returns c = search (rules, material_set)
 
 pub set-material-spec : {M : Type 1} → statement M
 set-material-spec =

@@ -1,23 +1,23 @@
 -- `take_up` meets its contract. Assumes nothing.
 use mathlib.Core.Path.{refl}
 use Rattle.sheet_lines.specs.declared.Kind.TheVariants.{Face, FaceBin, Fail, FailBin}
-use Rattle.sheet_line_order.specs.Reading.{passesLimit}
+use Rattle.sheet_line_order.specs.Reading.{passes_limit}
 use Rattle.sheet_line_effects.proofs.TakeLaws.{
-  material-room,
-  open-room,
-  take-box,
-  take-default,
-  take-face,
-  take-face-bin,
-  take-fail,
-  take-fail-bin,
-  take-material,
+  material_room,
+  open_room,
+  take_box,
+  take_default,
+  take_face,
+  take_face_bin,
+  take_fail,
+  take_fail_bin,
+  take_material,
   take_none,
-  take-sag,
-  take-triangle,
-  take-vertex,
-  triangle-room,
-  vertex-room,
+  take_sag,
+  take_triangle,
+  take_vertex,
+  triangle_room,
+  vertex_room,
 }
 use borrow.Author.Rules.{rules}
 use Rattle.sheet_line_effects.proofs.take_up.Statement.{statement}
@@ -66,7 +66,7 @@ shared-slice-read-set-material-2 : tie.Need-shared-slice-read-set-material-2
 shared-slice-read-set-material-2 c = search rules
 
 set-material-requires : tie.Need-set-material-requires
-set-material-requires c κs = search (rules, material-room)
+set-material-requires c κs = search (rules, material_room)
 
 enum-told-6 : tie.Need-enum-told-6
 enum-told-6 c = search rules
@@ -78,8 +78,8 @@ shared-slice-read-add-row-2 : tie.Need-shared-slice-read-add-row-2
 shared-slice-read-add-row-2 c = search rules
 
 add-row-requires : tie.Need-add-row-requires
-unfolding passesLimit
-add-row-requires c κs = open-room _ _ _ _ _ _ _ _ c.before.before.before.before.before.before.before.before.before.before.before.requires Face (λ ms x. refl) c.before.before.before.enum-told6.given.1
+unfolding passes_limit
+add-row-requires c κs = open_room _ _ _ _ _ _ _ _ c.before.before.before.before.before.before.before.before.before.before.before.requires Face (λ ms x. refl) c.before.before.before.enum-told6.given.1
 
 enum-told-7 : tie.Need-enum-told-7
 enum-told-7 c = search rules
@@ -94,20 +94,20 @@ shared-slice-read-add-row-5 : tie.Need-shared-slice-read-add-row-5
 shared-slice-read-add-row-5 c = search rules
 
 add-row-requires-2 : tie.Need-add-row-requires-2
-unfolding passesLimit
-add-row-requires-2 c κs = open-room _ _ _ _ _ _ _ _ c.before.before.before.before.before.before.before.before.before.before.before.before.requires FaceBin (λ ms x. refl) c.before.before.before.before.enum-told7.given.1
+unfolding passes_limit
+add-row-requires-2 c κs = open_room _ _ _ _ _ _ _ _ c.before.before.before.before.before.before.before.before.before.before.before.before.requires FaceBin (λ ms x. refl) c.before.before.before.before.enum-told7.given.1
 
 enum-told-8 : tie.Need-enum-told-8
 enum-told-8 c = search rules
 
 add-vertex-requires : tie.Need-add-vertex-requires
-add-vertex-requires c κs = search (rules, vertex-room)
+add-vertex-requires c κs = search (rules, vertex_room)
 
 enum-told-9 : tie.Need-enum-told-9
 enum-told-9 c = search rules
 
 add-triangle-requires : tie.Need-add-triangle-requires
-add-triangle-requires c κs = search (rules, triangle-room)
+add-triangle-requires c κs = search (rules, triangle_room)
 
 enum-told-10 : tie.Need-enum-told-10
 enum-told-10 c = search rules
@@ -122,8 +122,8 @@ shared-slice-read-add-row-8 : tie.Need-shared-slice-read-add-row-8
 shared-slice-read-add-row-8 c = search rules
 
 add-row-requires-3 : tie.Need-add-row-requires-3
-unfolding passesLimit
-add-row-requires-3 c κs = open-room _ _ _ _ _ _ _ _ c.before.before.before.before.before.before.before.before.before.before.before.before.requires Fail (λ ms x. refl) c.before.before.before.before.enum-told10.given.1
+unfolding passes_limit
+add-row-requires-3 c κs = open_room _ _ _ _ _ _ _ _ c.before.before.before.before.before.before.before.before.before.before.before.before.requires Fail (λ ms x. refl) c.before.before.before.before.enum-told10.given.1
 
 enum-told-11 : tie.Need-enum-told-11
 enum-told-11 c = search rules
@@ -141,38 +141,38 @@ shared-slice-read-add-row-12 : tie.Need-shared-slice-read-add-row-12
 shared-slice-read-add-row-12 c = search rules
 
 add-row-requires-4 : tie.Need-add-row-requires-4
-unfolding passesLimit
-add-row-requires-4 c κs = open-room _ _ _ _ _ _ _ _ c.before.before.before.before.before.before.before.before.before.before.before.before.before.requires FailBin (λ ms x. refl) c.before.before.before.before.before.enum-told11.given.1
+unfolding passes_limit
+add-row-requires-4 c κs = open_room _ _ _ _ _ _ _ _ c.before.before.before.before.before.before.before.before.before.before.before.before.before.requires FailBin (λ ms x. refl) c.before.before.before.before.before.enum-told11.given.1
 
 returns : tie.Need-returns
-returns c = search take-box
+returns c = search take_box
 
 returns-2 : tie.Need-returns-2
-returns-2 c = search take-sag
+returns-2 c = search take_sag
 
 returns-3 : tie.Need-returns-3
 returns-3 c = search take_none
 
 returns-4 : tie.Need-returns-4
-returns-4 c = search take-default
+returns-4 c = search take_default
 
 same_length : tie.Need-same-length
 same_length c = search rules
 
 returns-5 : tie.Need-returns-5
-returns-5 c = search take-material
+returns-5 c = search take_material
 
 same-length-2 : tie.Need-same-length-2
 same-length-2 c = search rules
 
 returns-6 : tie.Need-returns-6
-returns-6 c = search take-face
+returns-6 c = search take_face
 
 same-length-3 : tie.Need-same-length-3
 same-length-3 c = search rules
 
 returns-7 : tie.Need-returns-7
-returns-7 c = search take-face-bin
+returns-7 c = search take_face_bin
 
 same-length-4 : tie.Need-same-length-4
 same-length-4 c = search rules
@@ -184,7 +184,7 @@ same-length-6 : tie.Need-same-length-6
 same-length-6 c = search rules
 
 returns-8 : tie.Need-returns-8
-returns-8 c = search take-vertex
+returns-8 c = search take_vertex
 
 same-length-7 : tie.Need-same-length-7
 same-length-7 c = search rules
@@ -193,19 +193,19 @@ same-length-8 : tie.Need-same-length-8
 same-length-8 c = search rules
 
 returns-9 : tie.Need-returns-9
-returns-9 c = search take-triangle
+returns-9 c = search take_triangle
 
 same-length-9 : tie.Need-same-length-9
 same-length-9 c = search rules
 
 returns-10 : tie.Need-returns-10
-returns-10 c = search take-fail
+returns-10 c = search take_fail
 
 same-length-10 : tie.Need-same-length-10
 same-length-10 c = search rules
 
 returns-11 : tie.Need-returns-11
-returns-11 c = search take-fail-bin
+returns-11 c = search take_fail_bin
 
 pub take-up-spec : {M : Type 1} → statement M
 take-up-spec =

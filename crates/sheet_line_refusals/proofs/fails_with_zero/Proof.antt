@@ -1,8 +1,8 @@
 -- `fails_with_zero` meets its contract. Assumes nothing.
 use mathlib.Core.Path.{refl}
 use Rattle.sheet_lines.specs.declared.Kind.TheVariants.{Box, Sag, NoDefault, Default, Material, Face, FaceBin, Vertex, Triangle, Fail, FailBin}
-use Rattle.sheet_line_order.specs.Reading.{failsWithZero}
-use Rattle.sheet_line_refusals.proofs.OrderLaws.{fails-as, fails-bin, fails-fail}
+use Rattle.sheet_line_order.specs.Reading.{fails_with_zero}
+use Rattle.sheet_line_refusals.proofs.OrderLaws.{fails_as, fails_bin, fails_fail}
 use borrow.Author.Rules.{rules}
 use Rattle.sheet_line_refusals.proofs.fails_with_zero.Statement.{statement}
 use Rattle.sheet_line_refusals.proofs.fails_with_zero.Tie as tie
@@ -47,46 +47,46 @@ shared-slice-read-result-2 : tie.Need-shared-slice-read-result-2
 shared-slice-read-result-2 c = search rules
 
 returns : tie.Need-returns
-unfolding failsWithZero
-returns c = fails-as Box _ _ _ c.enum_told.given.1 refl
+unfolding fails_with_zero
+returns c = fails_as Box _ _ _ c.enum_told.given.1 refl
 
 returns-2 : tie.Need-returns-2
-unfolding failsWithZero
-returns-2 c = fails-as Sag _ _ _ c.enum-told2.given.1 refl
+unfolding fails_with_zero
+returns-2 c = fails_as Sag _ _ _ c.enum-told2.given.1 refl
 
 returns-3 : tie.Need-returns-3
-unfolding failsWithZero
-returns-3 c = fails-as NoDefault _ _ _ c.enum-told3.given.1 refl
+unfolding fails_with_zero
+returns-3 c = fails_as NoDefault _ _ _ c.enum-told3.given.1 refl
 
 returns-4 : tie.Need-returns-4
-unfolding failsWithZero
-returns-4 c = fails-as Default _ _ _ c.enum-told4.given.1 refl
+unfolding fails_with_zero
+returns-4 c = fails_as Default _ _ _ c.enum-told4.given.1 refl
 
 returns-5 : tie.Need-returns-5
-unfolding failsWithZero
-returns-5 c = fails-as Material _ _ _ c.enum-told5.given.1 refl
+unfolding fails_with_zero
+returns-5 c = fails_as Material _ _ _ c.enum-told5.given.1 refl
 
 returns-6 : tie.Need-returns-6
-unfolding failsWithZero
-returns-6 c = fails-as Face _ _ _ c.enum-told6.given.1 refl
+unfolding fails_with_zero
+returns-6 c = fails_as Face _ _ _ c.enum-told6.given.1 refl
 
 returns-7 : tie.Need-returns-7
-unfolding failsWithZero
-returns-7 c = fails-as FaceBin _ _ _ c.enum-told7.given.1 refl
+unfolding fails_with_zero
+returns-7 c = fails_as FaceBin _ _ _ c.enum-told7.given.1 refl
 
 returns-8 : tie.Need-returns-8
-unfolding failsWithZero
-returns-8 c = fails-as Vertex _ _ _ c.enum-told8.given.1 refl
+unfolding fails_with_zero
+returns-8 c = fails_as Vertex _ _ _ c.enum-told8.given.1 refl
 
 returns-9 : tie.Need-returns-9
-unfolding failsWithZero
-returns-9 c = fails-as Triangle _ _ _ c.enum-told9.given.1 refl
+unfolding fails_with_zero
+returns-9 c = fails_as Triangle _ _ _ c.enum-told9.given.1 refl
 
 returns-10 : tie.Need-returns-10
-returns-10 c = fails-as Fail _ _ _ c.before.enum-told10.given.1 (fails-fail _)
+returns-10 c = fails_as Fail _ _ _ c.before.enum-told10.given.1 (fails_fail _)
 
 returns-11 : tie.Need-returns-11
-returns-11 c = fails-as FailBin _ _ _ c.before.enum-told11.given.1 (fails-bin _)
+returns-11 c = fails_as FailBin _ _ _ c.before.enum-told11.given.1 (fails_bin _)
 
 pub fails-with-zero-spec : {M : Type 1} → statement M
 fails-with-zero-spec =

@@ -1,11 +1,11 @@
 -- `passes_limit` meets its contract. Assumes nothing.
 use mathlib.Core.Path.{refl}
 use native.Mathlib.Omega.{arith}
-use Rattle.sheet_lines.specs.Counted.{countIn}
+use Rattle.sheet_lines.specs.Counted.{count_in}
 use Rattle.sheet_lines.specs.Forms.{form, numbers}
 use Rattle.sheet_lines.specs.declared.Kind.TheVariants.{Box, Sag, NoDefault, Default, Face, FaceBin, Fail, FailBin}
-use Rattle.sheet_line_order.specs.Reading.{passesLimit}
-use Rattle.sheet_line_refusals.proofs.OrderLaws.{limit-material, limit-none, limit-row, limit-triangle, limit-vertex}
+use Rattle.sheet_line_order.specs.Reading.{passes_limit}
+use Rattle.sheet_line_refusals.proofs.OrderLaws.{limit_material, limit_none, limit_row, limit_triangle, limit_vertex}
 use borrow.Author.Rules.{rules}
 use Rattle.sheet_line_refusals.proofs.passes_limit.Statement.{statement}
 use Rattle.sheet_line_refusals.proofs.passes_limit.Tie as tie
@@ -74,45 +74,45 @@ row-passes-requires-4 : tie.Need-row-passes-requires-4
 row-passes-requires-4 c κs = search rules
 
 returns : tie.Need-returns
-unfolding passesLimit
-returns c = limit-none _ _ _ _ _ _ Box (λ ns x. refl) c.enum_told.given.1
+unfolding passes_limit
+returns c = limit_none _ _ _ _ _ _ Box (λ ns x. refl) c.enum_told.given.1
 
 returns-2 : tie.Need-returns-2
-unfolding passesLimit
-returns-2 c = limit-none _ _ _ _ _ _ Sag (λ ns x. refl) c.enum-told2.given.1
+unfolding passes_limit
+returns-2 c = limit_none _ _ _ _ _ _ Sag (λ ns x. refl) c.enum-told2.given.1
 
 returns-3 : tie.Need-returns-3
-unfolding passesLimit
-returns-3 c = limit-none _ _ _ _ _ _ NoDefault (λ ns x. refl) c.enum-told3.given.1
+unfolding passes_limit
+returns-3 c = limit_none _ _ _ _ _ _ NoDefault (λ ns x. refl) c.enum-told3.given.1
 
 returns-4 : tie.Need-returns-4
-unfolding passesLimit
-returns-4 c = limit-none _ _ _ _ _ _ Default (λ ns x. refl) c.enum-told4.given.1
+unfolding passes_limit
+returns-4 c = limit_none _ _ _ _ _ _ Default (λ ns x. refl) c.enum-told4.given.1
 
 returns-5 : tie.Need-returns-5
-returns-5 c = search (rules, limit-material)
+returns-5 c = search (rules, limit_material)
 
 returns-6 : tie.Need-returns-6
-unfolding passesLimit form numbers countIn
-returns-6 c = limit-row _ _ _ _ _ _ Face (omega arith) (λ ns x. refl) _ c.before.before.enum-told6.given.1 c.row-passes.ensures
+unfolding passes_limit form numbers count_in
+returns-6 c = limit_row _ _ _ _ _ _ Face (omega arith) (λ ns x. refl) _ c.before.before.enum-told6.given.1 c.row_passes.ensures
 
 returns-7 : tie.Need-returns-7
-unfolding passesLimit form numbers countIn
-returns-7 c = limit-row _ _ _ _ _ _ FaceBin (omega arith) (λ ns x. refl) _ c.before.before.enum-told7.given.1 c.row-passes2.ensures
+unfolding passes_limit form numbers count_in
+returns-7 c = limit_row _ _ _ _ _ _ FaceBin (omega arith) (λ ns x. refl) _ c.before.before.enum-told7.given.1 c.row-passes2.ensures
 
 returns-8 : tie.Need-returns-8
-returns-8 c = search (rules, limit-vertex)
+returns-8 c = search (rules, limit_vertex)
 
 returns-9 : tie.Need-returns-9
-returns-9 c = search (rules, limit-triangle)
+returns-9 c = search (rules, limit_triangle)
 
 returns-10 : tie.Need-returns-10
-unfolding passesLimit form numbers countIn
-returns-10 c = limit-row _ _ _ _ _ _ Fail (omega arith) (λ ns x. refl) _ c.before.before.enum-told10.given.1 c.row-passes3.ensures
+unfolding passes_limit form numbers count_in
+returns-10 c = limit_row _ _ _ _ _ _ Fail (omega arith) (λ ns x. refl) _ c.before.before.enum-told10.given.1 c.row-passes3.ensures
 
 returns-11 : tie.Need-returns-11
-unfolding passesLimit form numbers countIn
-returns-11 c = limit-row _ _ _ _ _ _ FailBin (omega arith) (λ ns x. refl) _ c.before.before.enum-told11.given.1 c.row-passes4.ensures
+unfolding passes_limit form numbers count_in
+returns-11 c = limit_row _ _ _ _ _ _ FailBin (omega arith) (λ ns x. refl) _ c.before.before.enum-told11.given.1 c.row-passes4.ensures
 
 pub passes-limit-spec : {M : Type 1} → statement M
 passes-limit-spec =

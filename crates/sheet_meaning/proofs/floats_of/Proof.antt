@@ -1,7 +1,7 @@
 -- `floats_of` meets its contract. Assumes nothing.
 use Prim.Native.Nat.{◌-◌}
 use lib.ListN.{length}
-use Rattle.sheet_meaning.proofs.FloatLaws.{Floated, floated-all, floated-full, floated-more, floated-none}
+use Rattle.sheet_meaning.proofs.FloatLaws.{Floated, floated_all, floated_full, floated_more, floated_none}
 use borrow.Author.Rules.{rules}
 use Rattle.sheet_meaning.proofs.floats_of.Statement.{statement}
 use Rattle.sheet_meaning.proofs.floats_of.Tie as tie
@@ -13,13 +13,13 @@ abbrev decreases-loop : tie.decreases-loop
 decreases-loop bits out₀ i₀ out i = length bits - i
 
 loop-holds : tie.Need-loop-init invariant-loop decreases-loop
-loop-holds c = search (rules, floated-none)
+loop-holds c = search (rules, floated_none)
 
 same_length : tie.Need-same-length invariant-loop decreases-loop
 same_length c = search rules
 
 returns : tie.Need-returns invariant-loop decreases-loop
-returns c = search (rules, floated-full)
+returns c = search (rules, floated_full)
 
 mul-f32-of-bits : tie.Need-overflow-mul-f32-of-bits invariant-loop decreases-loop
 mul-f32-of-bits c = search rules
@@ -43,13 +43,13 @@ loop-less : tie.Need-loop-smaller invariant-loop decreases-loop
 loop-less c = search rules
 
 loop-again : tie.Need-loop-preserved invariant-loop decreases-loop
-loop-again c = search (rules, floated-more)
+loop-again c = search (rules, floated_more)
 
 same-length-2 : tie.Need-same-length-2 invariant-loop decreases-loop
 same-length-2 c = search rules
 
 returns-2 : tie.Need-returns-2 invariant-loop decreases-loop
-returns-2 c = search (rules, floated-all)
+returns-2 c = search (rules, floated_all)
 
 pub floats-of-spec : {M : Type 1} → statement M
 floats-of-spec =

@@ -1,5 +1,5 @@
 -- `point_of` meets its contract. Assumes nothing.
-use Rattle.sheet_meaning.proofs.FloatLaws.{point-is}
+use Rattle.sheet_meaning.proofs.FloatLaws.{point_is}
 use borrow.Author.Rules.{rules}
 use Rattle.sheet_meaning.proofs.point_of.Statement.{statement}
 use Rattle.sheet_meaning.proofs.point_of.Tie as tie
@@ -17,7 +17,7 @@ new-requires : tie.Need-new-requires
 new-requires c κs = search rules
 
 returns : tie.Need-returns
-returns c = search (rules, point-is)
+returns c = search (rules, point_is)
 
 pub point-of-spec : {M : Type 1} → statement M
 point-of-spec =

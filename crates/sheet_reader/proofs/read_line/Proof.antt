@@ -1,11 +1,11 @@
 -- `read_line` meets its contract. Assumes nothing.
-use Rattle.sheet_reader.proofs.LineLaws.{read-refused, read-room, read-roomy, read-unfit}
+use Rattle.sheet_reader.proofs.LineLaws.{read_refused, read_room, read_roomy_lem, read_unfit}
 use borrow.Author.Rules.{rules}
 use Rattle.sheet_reader.proofs.read_line.Statement.{statement}
 use Rattle.sheet_reader.proofs.read_line.Tie as tie
 
 returns : tie.Need-returns
-returns c = search read-refused
+returns c = search read_refused
 
 fits-requires : tie.Need-fits-requires
 fits-requires c κs = search rules
@@ -17,10 +17,10 @@ same_length : tie.Need-same-length
 same_length c = search rules
 
 returns-2 : tie.Need-returns-2
-returns-2 c = search read-unfit
+returns-2 c = search read_unfit
 
 read-roomy-requires : tie.Need-read-roomy-requires
-read-roomy-requires c κs = read-room _ _ _ _ _ _ c.before.before.before.before.before.before.before.before.if1.false _ c.before.before.before.before.before.before.fits2.ensures c.before.before.before.before.before.if2.false
+read-roomy-requires c κs = read_room _ _ _ _ _ _ c.before.before.before.before.before.before.before.before.if1.false _ c.before.before.before.before.before.before.fits2.ensures c.before.before.before.before.before.if2.false
 
 same-length-2 : tie.Need-same-length-2
 same-length-2 c = search rules
@@ -38,7 +38,7 @@ same-length-6 : tie.Need-same-length-6
 same-length-6 c = search rules
 
 returns-3 : tie.Need-returns-3
-returns-3 c = search read-roomy
+returns-3 c = search read_roomy_lem
 
 pub read-line-spec : {M : Type 1} → statement M
 read-line-spec =

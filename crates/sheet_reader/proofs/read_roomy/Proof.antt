@@ -1,5 +1,5 @@
 -- `read_roomy` meets its contract. Assumes nothing.
-use Rattle.sheet_reader.proofs.LineLaws.{roomy-fitting, roomy-line, roomy-nothing}
+use Rattle.sheet_reader.proofs.LineLaws.{roomy_fitting, roomy_line, roomy_nothing}
 use borrow.Author.Rules.{rules}
 use Rattle.sheet_reader.proofs.read_roomy.Statement.{statement}
 use Rattle.sheet_reader.proofs.read_roomy.Tie as tie
@@ -17,7 +17,7 @@ slice-aggregate-with-form : tie.Need-slice-aggregate-with-form
 slice-aggregate-with-form c = search rules
 
 with-form-requires : tie.Need-with-form-requires
-with-form-requires c κs = search (rules, roomy-fitting)
+with-form-requires c κs = search (rules, roomy_fitting)
 
 enum_told : tie.Need-enum-told
 enum_told c = search rules
@@ -41,10 +41,10 @@ same-length-5 : tie.Need-same-length-5
 same-length-5 c = search rules
 
 returns : tie.Need-returns
-returns c = roomy-line _ _ _ _ _ _ _ c.before.before.before.before.before.before.before.before.before.before.before.before.before.before.before.before.before.before.before.before.before.before.before.before.before.before.before.before.before.requires _ _ c.before.before.before.before.before.before.before.before.before.before.before.before.before.before.before.before.before.before.before.before.before.line_of.ensures _ _ (search rules) c.before.before.before.before.before.before.before.before.before.before.with-form.ensures
+returns c = roomy_line _ _ _ _ _ _ _ c.before.before.before.before.before.before.before.before.before.before.before.before.before.before.before.before.before.before.before.before.before.before.before.before.before.before.before.before.before.requires _ _ c.before.before.before.before.before.before.before.before.before.before.before.before.before.before.before.before.before.before.before.before.before.line_of.ensures _ _ (search rules) c.before.before.before.before.before.before.before.before.before.before.with-form.ensures
 
 returns-2 : tie.Need-returns-2
-returns-2 c = search roomy-nothing
+returns-2 c = search roomy_nothing
 
 pub read-roomy-spec : {M : Type 1} → statement M
 read-roomy-spec =

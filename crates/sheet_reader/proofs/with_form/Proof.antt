@@ -1,5 +1,5 @@
 -- `with_form` meets its contract. Assumes nothing.
-use Rattle.sheet_reader.proofs.LineLaws.{form-ready, form-refused, form-taken}
+use Rattle.sheet_reader.proofs.LineLaws.{form_ready, form_refused, form_taken}
 use borrow.Author.Rules.{rules}
 use Rattle.sheet_reader.proofs.with_form.Statement.{statement}
 use Rattle.sheet_reader.proofs.with_form.Tie as tie
@@ -11,10 +11,10 @@ refuse-requires : tie.Need-refuse-requires
 refuse-requires c κs = search rules
 
 returns : tie.Need-returns
-returns c = search form-refused
+returns c = search form_refused
 
 take-up-requires : tie.Need-take-up-requires
-take-up-requires c κs = search form-ready
+take-up-requires c κs = search form_ready
 
 same_length : tie.Need-same-length
 same_length c = search rules
@@ -32,7 +32,7 @@ same-length-5 : tie.Need-same-length-5
 same-length-5 c = search rules
 
 returns-2 : tie.Need-returns-2
-returns-2 c = form-taken _ _ _ _ _ _ _ _ c.before.before.before.before.before.before.before.before.before.before.before.before.before.before.before.before.before.before.before.before.before.before.before.before.before.requires _ c.before.before.before.before.before.before.before.before.before.before.before.before.before.before.before.before.before.line-refusal.ensures _ c.before.before.before.before.before.before.before.before.before.before.before.before.before.before.before.before.if1.false c.before.before.before.before.before.before.before.before.before.before.take-up.ensures
+returns-2 c = form_taken _ _ _ _ _ _ _ _ c.before.before.before.before.before.before.before.before.before.before.before.before.before.before.before.before.before.before.before.before.before.before.before.before.before.requires _ c.before.before.before.before.before.before.before.before.before.before.before.before.before.before.before.before.before.line-refusal.ensures _ c.before.before.before.before.before.before.before.before.before.before.before.before.before.before.before.before.if1.false c.before.before.before.before.before.before.before.before.before.before.take-up.ensures
 
 pub with-form-spec : {M : Type 1} → statement M
 with-form-spec =

@@ -1,6 +1,6 @@
 -- `last_fits` meets its contract. Assumes nothing.
 use Rattle.sheet_reader_state.specs.Held.{last_none}
-use Rattle.sheet_room.proofs.RoomLaws.{last-indices, last-vertices}
+use Rattle.sheet_room.proofs.RoomLaws.{last_indices, last_vertices}
 use borrow.Author.Rules.{rules}
 use Rattle.sheet_room.proofs.last_fits.Statement.{statement}
 use Rattle.sheet_room.proofs.last_fits.Tie as tie
@@ -24,7 +24,7 @@ within-requires : tie.Need-within-requires
 within-requires c κs = search rules
 
 returns-2 : tie.Need-returns-2
-returns-2 c = search (rules, last-vertices)
+returns-2 c = search (rules, last_vertices)
 
 mul-within-3 : tie.Need-overflow-mul-within-3
 mul-within-3 c = search rules
@@ -42,7 +42,7 @@ within-requires-2 : tie.Need-within-requires-2
 within-requires-2 c κs = search rules
 
 returns-3 : tie.Need-returns-3
-returns-3 c = search (rules, last-indices)
+returns-3 c = search (rules, last_indices)
 
 pub last-fits-spec : {M : Type 1} → statement M
 last-fits-spec = tie.close (tie.spec returns mul-within sub_within mul-within-2 shared-slice-read-within within-requires returns-2 mul-within-3 sub-within-2 mul-within-4 shared-slice-read-within-2 within-requires-2 returns-3)

@@ -1,5 +1,5 @@
 -- `store_low` meets its contract. Assumes nothing.
-use Rattle.sheet_storing.proofs.StoreLaws.{low-stored}
+use Rattle.sheet_storing.proofs.StoreLaws.{low_stored}
 use borrow.Author.Rules.{rules}
 use Rattle.sheet_storing.proofs.store_low.Statement.{statement}
 use Rattle.sheet_storing.proofs.store_low.Tie as tie
@@ -44,7 +44,7 @@ same_length : tie.Need-same-length
 same_length c = search rules
 
 returns : tie.Need-returns
-returns c = search (rules, low-stored)
+returns c = search (rules, low_stored)
 
 pub store-low-spec : {M : Type 1} → statement M
 store-low-spec =

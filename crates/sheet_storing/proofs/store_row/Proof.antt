@@ -1,7 +1,7 @@
 -- `store_row` meets its contract. Assumes nothing.
 use native.Mathlib.Omega.{arith}
 use lib.ListN.{length-set}
-use Rattle.sheet_storing.proofs.StoreLaws.{row-placed}
+use Rattle.sheet_storing.proofs.StoreLaws.{row_placed}
 use borrow.Author.Rules.{rules}
 use Rattle.sheet_storing.proofs.store_row.Statement.{statement}
 use Rattle.sheet_storing.proofs.store_row.Tie as tie
@@ -61,7 +61,7 @@ same_length : tie.Need-same-length
 same_length c = search rules
 
 returns : tie.Need-returns
-returns c = search (rules, row-placed)
+returns c = search (rules, row_placed)
 
 pub store-row-spec : {M : Type 1} → statement M
 store-row-spec =

@@ -1,7 +1,7 @@
 -- `store_three` meets its contract. Assumes nothing.
 use native.Mathlib.Omega.{arith}
 use lib.ListN.{length-set}
-use Rattle.sheet_storing.proofs.StoreLaws.{three-placed}
+use Rattle.sheet_storing.proofs.StoreLaws.{three_placed}
 use borrow.Author.Rules.{rules}
 use Rattle.sheet_storing.proofs.store_three.Statement.{statement}
 use Rattle.sheet_storing.proofs.store_three.Tie as tie
@@ -34,7 +34,7 @@ same_length : tie.Need-same-length
 same_length c = search rules
 
 returns : tie.Need-returns
-returns c = search (rules, three-placed)
+returns c = search (rules, three_placed)
 
 pub store-three-spec : {M : Type 1} → statement M
 store-three-spec =

@@ -1,7 +1,7 @@
 -- `append_moved` meets its contract. With k indices done, those of the stretch, moved, stand from place o on and the rest is as it was. Assumes nothing.
 use Prim.Native.Nat.{◌+◌, ◌-◌}
 use native.Mathlib.Omega.{arith}
-use Rattle.slice_append.proofs.StretchLaws.{Moving, stretching-none, moving-more, moving-small, moving-all}
+use Rattle.slice_append.proofs.StretchLaws.{Moving, stretching_none, moving_more, moving_small, moving_all}
 use borrow.Author.Rules.{rules}
 use Rattle.slice_append.proofs.append_moved.Statement.{statement}
 use Rattle.slice_append.proofs.append_moved.Tie as tie
@@ -16,7 +16,7 @@ sub-n : tie.Need-overflow-sub-n invariant-loop decreases-loop
 sub-n c = search rules
 
 loop-holds : tie.Need-loop-init invariant-loop decreases-loop
-loop-holds c = stretching-none (λ i. _ + i) _ _ _ _ _
+loop-holds c = stretching_none (λ i. _ + i) _ _ _ _ _
 
 add-out : tie.Need-overflow-add-out invariant-loop decreases-loop
 add-out c = search rules
@@ -28,7 +28,7 @@ shared-slice-read-out : tie.Need-shared-slice-read-out invariant-loop decreases-
 shared-slice-read-out c = search rules
 
 add-out-2 : tie.Need-overflow-add-out-2 invariant-loop decreases-loop
-add-out-2 c = search moving-small
+add-out-2 c = search moving_small
 
 add-out-3 : tie.Need-overflow-add-out-3 invariant-loop decreases-loop
 add-out-3 c = search rules
@@ -46,13 +46,13 @@ loop-less : tie.Need-loop-smaller invariant-loop decreases-loop
 loop-less c = search rules
 
 loop-again : tie.Need-loop-preserved invariant-loop decreases-loop
-loop-again c = search moving-more
+loop-again c = search moving_more
 
 same_length : tie.Need-same-length invariant-loop decreases-loop
 same_length c = search rules
 
 returns : tie.Need-returns invariant-loop decreases-loop
-returns c = moving-all c.before.before.requires c.before.loop.invariant (omega (arith, c.loop-test.false))
+returns c = moving_all c.before.before.requires c.before.loop.invariant (omega (arith, c.loop-test.false))
 
 pub append-moved-spec : {M : Type 1} → statement M
 append-moved-spec =

@@ -1,7 +1,7 @@
 -- `append_stretch` meets its contract. With k numbers done, those of the stretch stand from place o on and the rest is as it was. Assumes nothing.
 use Prim.Native.Nat.{◌-◌}
 use lib.Ieee.{Float}
-use Rattle.slice_append.proofs.StretchLaws.{Copying, stretching-none, copying-more, copying-all}
+use Rattle.slice_append.proofs.StretchLaws.{Copying, stretching_none, copying_more, copying_all}
 use borrow.Author.Rules.{rules}
 use Rattle.slice_append.proofs.append_stretch.Statement.{statement}
 use Rattle.slice_append.proofs.append_stretch.Tie as tie
@@ -16,7 +16,7 @@ sub-n : tie.Need-overflow-sub-n invariant-loop decreases-loop
 sub-n c = search rules
 
 loop-holds : tie.Need-loop-init invariant-loop decreases-loop
-loop-holds c = stretching-none (λ (x : Float). x) _ _ _ _ _
+loop-holds c = stretching_none (λ (x : Float). x) _ _ _ _ _
 
 add-out : tie.Need-overflow-add-out invariant-loop decreases-loop
 add-out c = search rules
@@ -43,13 +43,13 @@ loop-less : tie.Need-loop-smaller invariant-loop decreases-loop
 loop-less c = search rules
 
 loop-again : tie.Need-loop-preserved invariant-loop decreases-loop
-loop-again c = search copying-more
+loop-again c = search copying_more
 
 same_length : tie.Need-same-length invariant-loop decreases-loop
 same_length c = search rules
 
 returns : tie.Need-returns invariant-loop decreases-loop
-returns c = search copying-all
+returns c = search copying_all
 
 pub append-stretch-spec : {M : Type 1} → statement M
 append-stretch-spec =

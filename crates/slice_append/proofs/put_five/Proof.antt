@@ -1,7 +1,7 @@
 -- `put_five` meets its contract. Five stores are one run of stores. Assumes nothing.
 use native.Mathlib.Omega.{arith}
 use lib.ListN.{length-set}
-use Rattle.slice_append.proofs.StoreLaws.{five-stores}
+use Rattle.slice_append.proofs.StoreLaws.{five_stores}
 use borrow.Author.Rules.{rules}
 use Rattle.slice_append.proofs.put_five.Statement.{statement}
 use Rattle.slice_append.proofs.put_five.Tie as tie
@@ -52,7 +52,7 @@ same_length : tie.Need-same-length
 same_length c = search rules
 
 returns : tie.Need-returns
-returns c = search five-stores
+returns c = search five_stores
 
 pub put-five-spec : {M : Type 1} → statement M
 put-five-spec =

@@ -1,7 +1,7 @@
 -- `put_four` meets its contract. Four stores are one run of stores. Assumes nothing.
 use native.Mathlib.Omega.{arith}
 use lib.ListN.{length-set}
-use Rattle.slice_append.proofs.StoreLaws.{four-stores}
+use Rattle.slice_append.proofs.StoreLaws.{four_stores}
 use borrow.Author.Rules.{rules}
 use Rattle.slice_append.proofs.put_four.Statement.{statement}
 use Rattle.slice_append.proofs.put_four.Tie as tie
@@ -43,7 +43,7 @@ same_length : tie.Need-same-length
 same_length c = search rules
 
 returns : tie.Need-returns
-returns c = search four-stores
+returns c = search four_stores
 
 pub put-four-spec : {M : Type 1} → statement M
 put-four-spec =

@@ -1,7 +1,7 @@
 -- `put_three` meets its contract. Three stores are one run of stores. Assumes nothing.
 use native.Mathlib.Omega.{arith}
 use lib.ListN.{length-set}
-use Rattle.slice_append.proofs.StoreLaws.{three-stores}
+use Rattle.slice_append.proofs.StoreLaws.{three_stores}
 use borrow.Author.Rules.{rules}
 use Rattle.slice_append.proofs.put_three.Statement.{statement}
 use Rattle.slice_append.proofs.put_three.Tie as tie
@@ -34,7 +34,7 @@ same_length : tie.Need-same-length
 same_length c = search rules
 
 returns : tie.Need-returns
-returns c = search three-stores
+returns c = search three_stores
 
 pub put-three-spec : {M : Type 1} → statement M
 put-three-spec =

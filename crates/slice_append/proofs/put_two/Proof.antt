@@ -1,7 +1,7 @@
 -- `put_two` meets its contract. Two stores are one run of stores. Assumes nothing.
 use native.Mathlib.Omega.{arith}
 use lib.ListN.{length-set}
-use Rattle.slice_append.proofs.StoreLaws.{two-stores}
+use Rattle.slice_append.proofs.StoreLaws.{two_stores}
 use borrow.Author.Rules.{rules}
 use Rattle.slice_append.proofs.put_two.Statement.{statement}
 use Rattle.slice_append.proofs.put_two.Tie as tie
@@ -25,7 +25,7 @@ same_length : tie.Need-same-length
 same_length c = search rules
 
 returns : tie.Need-returns
-returns c = search two-stores
+returns c = search two_stores
 
 pub put-two-spec : {M : Type 1} → statement M
 put-two-spec =

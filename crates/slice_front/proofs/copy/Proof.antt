@@ -1,7 +1,7 @@
 -- `copy` meets its contract. Assumes nothing.
 use Prim.Native.Nat.{◌-◌}
 use lib.ListN.{length}
-use Rattle.lists.specs.Copied.{Copied, copied_all, copied-full, copied_more, copied_none}
+use Rattle.lists.specs.Copied.{Copied, copied_all, copied_full, copied_more, copied_none}
 use borrow.Author.Rules.{rules}
 use Rattle.slice_front.proofs.copy.Statement.{statement}
 use Rattle.slice_front.proofs.copy.Tie as tie
@@ -19,7 +19,7 @@ same_length : tie.Need-same-length invariant-loop decreases-loop
 same_length c = search rules
 
 returns : tie.Need-returns invariant-loop decreases-loop
-returns c = search (rules, copied-full)
+returns c = search (rules, copied_full)
 
 mul-to : tie.Need-overflow-mul-to invariant-loop decreases-loop
 mul-to c = search rules

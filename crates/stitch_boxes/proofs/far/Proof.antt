@@ -1,6 +1,6 @@
 -- `far` meets its contract. Assumes nothing.
-use Rattle.stitch_boxes.proofs.CodeLaws.{far-beside, far-last}
-use Rattle.stitch_projection.specs.Projection.{near-end, far-end}
+use Rattle.stitch_boxes.proofs.CodeLaws.{far_beside, far_last}
+use Rattle.stitch_projection.specs.Projection.{near_end, far_end}
 use borrow.Author.Rules.{rules}
 use Rattle.stitch_boxes.proofs.far.Statement.{statement}
 use Rattle.stitch_boxes.proofs.far.Tie as tie
@@ -12,8 +12,8 @@ least-off-requires : tie.Need-least-off-requires
 least-off-requires c κs = search rules
 
 returns : tie.Need-returns
-unfolding near-end far-end
-returns c = search far-beside
+unfolding near_end far_end
+returns c = search far_beside
 
 dot-requires : tie.Need-dot-requires
 dot-requires c κs = search rules
@@ -28,8 +28,8 @@ least-off-requires-2 : tie.Need-least-off-requires-2
 least-off-requires-2 c κs = search rules
 
 returns-2 : tie.Need-returns-2
-unfolding near-end far-end
-returns-2 c = search far-last
+unfolding near_end far_end
+returns-2 c = search far_last
 
 pub far-spec : {M : Type 1} → statement M
 far-spec =

@@ -1,5 +1,5 @@
 -- `stitch_boxes::least_way` meets its contract. Assumes nothing.
-use Rattle.stitch_boxes.proofs.CodeLaws.{way-is}
+use Rattle.stitch_boxes.proofs.CodeLaws.{way_is}
 use borrow.Author.Rules.{rules}
 use Rattle.stitch_boxes.proofs.least_way.Statement.{statement}
 use Rattle.stitch_boxes.proofs.least_way.Tie as tie
@@ -14,7 +14,7 @@ least-square-requires : tie.Need-least-square-requires
 least-square-requires c κs = search rules
 
 returns : tie.Need-returns
-returns c = search way-is
+returns c = search way_is
 
 pub least-way-spec : {M : Type 1} → statement M
 least-way-spec = tie.close (tie.spec times-requires minus-requires least-square-requires returns)

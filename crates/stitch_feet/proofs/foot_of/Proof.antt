@@ -1,12 +1,12 @@
 -- `stitch_feet::foot_of` meets its contract. Assumes nothing.
-use Rattle.stitch_projection.specs.Projection.{near-end, far-end}
-use Rattle.stitch_feet.proofs.FootLaws.{foot-none, foot-near, foot-far, foot-inside}
+use Rattle.stitch_projection.specs.Projection.{near_end, far_end}
+use Rattle.stitch_feet.proofs.FootLaws.{foot_none, foot_near, foot_far, foot_inside}
 use borrow.Author.Rules.{rules}
 use Rattle.stitch_feet.proofs.foot_of.Statement.{statement}
 use Rattle.stitch_feet.proofs.foot_of.Tie as tie
 
 returns : tie.Need-returns
-returns c = search foot-none
+returns c = search foot_none
 
 sub-requires : tie.Need-sub-requires
 sub-requires c κs = search rules
@@ -21,16 +21,16 @@ sub-requires-2 : tie.Need-sub-requires-2
 sub-requires-2 c κs = search rules
 
 returns-2 : tie.Need-returns-2
-unfolding near-end far-end
-returns-2 c = search foot-inside
+unfolding near_end far_end
+returns-2 c = search foot_inside
 
 returns-3 : tie.Need-returns-3
-unfolding near-end far-end
-returns-3 c = search foot-far
+unfolding near_end far_end
+returns-3 c = search foot_far
 
 returns-4 : tie.Need-returns-4
-unfolding near-end far-end
-returns-4 c = search foot-near
+unfolding near_end far_end
+returns-4 c = search foot_near
 
 pub foot-of-spec : {M : Type 1} → statement M
 foot-of-spec =

@@ -1,5 +1,5 @@
 -- `stitch_feet::project` meets its contract. Assumes nothing.
-use Rattle.stitch_feet.proofs.FootLaws.{project-outside, project-inside}
+use Rattle.stitch_feet.proofs.FootLaws.{project_outside, project_inside}
 use borrow.Author.Rules.{rules}
 use Rattle.stitch_feet.proofs.project.Statement.{statement}
 use Rattle.stitch_feet.proofs.project.Tie as tie
@@ -17,10 +17,10 @@ length-requires : tie.Need-length-requires
 length-requires c κs = search rules
 
 returns : tie.Need-returns
-returns c = search project-outside
+returns c = search project_outside
 
 returns-2 : tie.Need-returns-2
-returns-2 c = search project-inside
+returns-2 c = search project_inside
 
 pub project-spec : {M : Type 1} → statement M
 project-spec =

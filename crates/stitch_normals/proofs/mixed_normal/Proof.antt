@@ -1,6 +1,6 @@
 -- `stitch_normals::mixed_normal` meets its contract. Assumes nothing.
-use Rattle.stitch_projection.specs.Projection.{least-length}
-use Rattle.stitch_normals.proofs.MixLaws.{mixed-is}
+use Rattle.stitch_projection.specs.Projection.{least_length}
+use Rattle.stitch_normals.proofs.MixLaws.{mixed_is}
 use borrow.Author.Rules.{rules}
 use Rattle.stitch_normals.proofs.mixed_normal.Statement.{statement}
 use Rattle.stitch_normals.proofs.mixed_normal.Tie as tie
@@ -30,8 +30,8 @@ narrow-f64-requires-3 : tie.Need-narrow-f64-requires-3
 narrow-f64-requires-3 c κs = search rules
 
 returns : tie.Need-returns
-unfolding least-length
-returns c = search mixed-is
+unfolding least_length
+returns c = search mixed_is
 
 pub mixed-normal-spec : {M : Type 1} → statement M
 mixed-normal-spec =

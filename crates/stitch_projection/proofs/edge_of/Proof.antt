@@ -1,5 +1,5 @@
 -- `stitch_projection::edge_of` meets its contract. Assumes nothing.
-use Rattle.stitch_projection.proofs.EdgeLaws.{edge-is}
+use Rattle.stitch_projection.proofs.EdgeLaws.{edge_is}
 use borrow.Author.Rules.{rules}
 use Rattle.stitch_projection.proofs.edge_of.Statement.{statement}
 use Rattle.stitch_projection.proofs.edge_of.Tie as tie
@@ -11,7 +11,7 @@ dot-requires : tie.Need-dot-requires
 dot-requires c κs = search rules
 
 returns : tie.Need-returns
-returns c = search edge-is
+returns c = search edge_is
 
 pub edge-of-spec : {M : Type 1} → statement M
 edge-of-spec = tie.close (tie.spec sub-requires dot-requires returns)

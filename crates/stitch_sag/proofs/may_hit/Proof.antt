@@ -1,6 +1,6 @@
 -- `may_hit` meets its contract. Assumes nothing.
-use Rattle.stitch_sag.proofs.SagLaws.{ruled-both}
-use Rattle.stitch_projection.specs.Projection.{near-end, far-end}
+use Rattle.stitch_sag.proofs.SagLaws.{ruled_both}
+use Rattle.stitch_projection.specs.Projection.{near_end, far_end}
 use borrow.Author.Rules.{rules}
 use Rattle.stitch_sag.proofs.may_hit.Statement.{statement}
 use Rattle.stitch_sag.proofs.may_hit.Tie as tie
@@ -21,8 +21,8 @@ dot-requires-2 : tie.Need-dot-requires-2
 dot-requires-2 c κs = search rules
 
 returns : tie.Need-returns
-unfolding near-end far-end
-returns c = search ruled-both
+unfolding near_end far_end
+returns c = search ruled_both
 
 pub may-hit-spec : {M : Type 1} → statement M
 may-hit-spec =

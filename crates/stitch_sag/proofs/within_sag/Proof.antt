@@ -1,5 +1,5 @@
 -- `stitch_sag::within_sag` meets its contract. Assumes nothing.
-use Rattle.stitch_sag.proofs.SagLaws.{within-outside, within-beyond, within-root}
+use Rattle.stitch_sag.proofs.SagLaws.{within_outside, within_beyond, within_root}
 use borrow.Author.Rules.{rules}
 use Rattle.stitch_sag.proofs.within_sag.Statement.{statement}
 use Rattle.stitch_sag.proofs.within_sag.Tie as tie
@@ -17,16 +17,16 @@ dot-requires : tie.Need-dot-requires
 dot-requires c κs = search rules
 
 returns : tie.Need-returns
-returns c = search within-beyond
+returns c = search within_beyond
 
 sqrt-f64-requires : tie.Need-sqrt-f64-requires
 sqrt-f64-requires c κs = search rules
 
 returns-2 : tie.Need-returns-2
-returns-2 c = search within-outside
+returns-2 c = search within_outside
 
 returns-3 : tie.Need-returns-3
-returns-3 c = search within-root
+returns-3 c = search within_root
 
 pub within-sag-spec : {M : Type 1} → statement M
 within-sag-spec =

@@ -1,6 +1,6 @@
 -- `turn_accepted` meets its contract. Assumes nothing.
 use Rattle.body_checks.specs.Cleared.{clearable}
-use Rattle.turn_accepted.proofs.AcceptedLaws.{colourable, reversible, accepted-turned}
+use Rattle.turn_accepted.proofs.AcceptedLaws.{colourable, reversible, accepted_turned}
 use mathlib.Core.Path.{refl}
 use native.Mathlib.Omega.{arith}
 use borrow.Author.Rules.{rules}
@@ -56,7 +56,7 @@ returns c =
     let k = s.before.before.before.before.before.before in
     let r = k.before.before.before in
     let v = r.before in
-    accepted-turned _ v.before.before.before.before.before.before.requires v.total-vertices.ensures r.row_count.ensures refl (omega arith) k.colour-rows.ensures s.reverse-rows.ensures z.clear-words.ensures
+    accepted_turned _ v.before.before.before.before.before.before.requires v.total-vertices.ensures r.row_count.ensures refl (omega arith) k.colour-rows.ensures s.reverse-rows.ensures z.clear-words.ensures
 
 pub turn-accepted-spec : {M : Type 1} → statement M
 turn-accepted-spec =

@@ -1,5 +1,5 @@
 -- `turn_chains::chain_pairs` meets its contract: the uses from `i` on are in the chains. Assumes nothing.
-use Rattle.turn_chains.proofs.Chaining.{Chaining, chaining-none, chaining-next, chaining-more, chaining-all}
+use Rattle.turn_chains.proofs.Chaining.{Chaining, chaining_none, chaining_next, chaining_more, chaining_all}
 use borrow.Author.Rules.{rules}
 use Rattle.turn_chains.proofs.chain_pairs.Statement.{statement}
 use Rattle.turn_chains.proofs.chain_pairs.Tie as tie
@@ -14,25 +14,25 @@ clear-heads-requires : tie.Need-clear-heads-requires invariant-loop decreases-lo
 clear-heads-requires c κs = search rules
 
 loop-holds : tie.Need-loop-init invariant-loop decreases-loop
-loop-holds c = search chaining-none
+loop-holds c = search chaining_none
 
 sub-i : tie.Need-overflow-sub-i invariant-loop decreases-loop
 sub-i c = search rules
 
 chain-use-requires : tie.Need-chain-use-requires invariant-loop decreases-loop
-chain-use-requires c κs = search chaining-next
+chain-use-requires c κs = search chaining_next
 
 loop-less : tie.Need-loop-smaller invariant-loop decreases-loop
 loop-less c = search rules
 
 loop-again : tie.Need-loop-preserved invariant-loop decreases-loop
-loop-again c = search chaining-more
+loop-again c = search chaining_more
 
 same_length : tie.Need-same-length invariant-loop decreases-loop
 same_length c = search rules
 
 returns : tie.Need-returns invariant-loop decreases-loop
-returns c = search chaining-all
+returns c = search chaining_all
 
 pub chain-pairs-spec : {M : Type 1} → statement M
 chain-pairs-spec =

@@ -1,5 +1,5 @@
 -- `colour_rows` meets its contract. Assumes nothing.
-use Rattle.turn_colouring.proofs.ColourLaws.{part-walkable, rows-coloured}
+use Rattle.turn_colouring.proofs.ColourLaws.{part_walkable, rows_coloured}
 use mathlib.Core.Path.{refl}
 use native.Mathlib.Omega.{arith}
 use borrow.Author.Rules.{rules}
@@ -46,7 +46,7 @@ part-walk-groups-end : tie.Need-slice-bounds-walk-groups-end
 part-walk-groups-end c = search rules
 
 walk-groups-requires : tie.Need-walk-groups-requires
-walk-groups-requires c κs = search part-walkable
+walk-groups-requires c κs = search part_walkable
 
 same_length : tie.Need-same-length
 same_length c = search rules
@@ -55,7 +55,7 @@ returns : tie.Need-returns
 returns c =
     let w = c.before.before in
     let u = w.before.before.before.before in
-    rows-coloured u.before.before.before.before.before.before.requires refl refl refl u.lay-uses.ensures (omega arith) w.walk-groups.ensures (omega arith)
+    rows_coloured u.before.before.before.before.before.before.requires refl refl refl u.lay-uses.ensures (omega arith) w.walk-groups.ensures (omega arith)
 
 pub colour-rows-spec : {M : Type 1} → statement M
 colour-rows-spec =

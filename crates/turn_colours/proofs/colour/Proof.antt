@@ -1,5 +1,5 @@
 -- `turn_colours::colour` meets its contract. Assumes nothing.
-use Rattle.turn_walk.specs.Kept.{colour-at}
+use Rattle.turn_walk.specs.Kept.{colour_at}
 use mathlib.Core.Path.{sym}
 use borrow.Author.Rules.{rules}
 use Rattle.turn_colours.proofs.colour.Statement.{statement}
@@ -24,7 +24,7 @@ shared-slice-read-result : tie.Need-shared-slice-read-result
 shared-slice-read-result c = search rules
 
 returns : tie.Need-returns
-returns c = sym (colour-at _ _ _ _ c.before.requires.inside)
+returns c = sym (colour_at _ _ _ _ c.before.requires.inside)
 
 pub colour-spec : {M : Type 1} → statement M
 colour-spec =

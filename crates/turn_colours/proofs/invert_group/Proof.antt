@@ -1,5 +1,5 @@
 -- `turn_colours::invert_group` meets its contract: the rest of the queue, inverted from here, is the whole group inverted. Assumes nothing.
-use Rattle.turn_colours.proofs.Colouring.{Inverting, inverting-none, row-index, row-known, inverting-more, inverting-all}
+use Rattle.turn_colours.proofs.Colouring.{Inverting, inverting_none, row_index, row_known, inverting_more, inverting_all}
 use native.Mathlib.Omega.{arith}
 use Prim.Native.Nat.{◌-◌}
 use borrow.Author.Rules.{rules}
@@ -28,7 +28,7 @@ add-colours : tie.Need-overflow-add-colours invariant-loop decreases-loop
 add-colours c = search rules
 
 loop-holds : tie.Need-loop-init invariant-loop decreases-loop
-loop-holds c = search inverting-none
+loop-holds c = search inverting_none
 
 add-x : tie.Need-overflow-add-x invariant-loop decreases-loop
 add-x c = search rules
@@ -40,25 +40,25 @@ slice-read-x : tie.Need-slice-read-x invariant-loop decreases-loop
 slice-read-x c = search rules
 
 add-opposite-colour : tie.Need-overflow-add-opposite-colour invariant-loop decreases-loop
-add-opposite-colour c = omega (arith, row-index c.before.before.before.before.requires c.before.before.loop.invariant c.before.loop-test.true)
+add-opposite-colour c = omega (arith, row_index c.before.before.before.before.requires c.before.before.loop.invariant c.before.loop-test.true)
 
 mul-opposite-colour : tie.Need-overflow-mul-opposite-colour invariant-loop decreases-loop
-mul-opposite-colour c = omega (arith, row-index c.before.before.before.before.requires c.before.before.loop.invariant c.before.loop-test.true)
+mul-opposite-colour c = omega (arith, row_index c.before.before.before.before.requires c.before.before.loop.invariant c.before.loop-test.true)
 
 slice-read-opposite-colour : tie.Need-slice-read-opposite-colour invariant-loop decreases-loop
-slice-read-opposite-colour c = search row-index
+slice-read-opposite-colour c = search row_index
 
 opposite-colour-requires : tie.Need-opposite-colour-requires invariant-loop decreases-loop
-opposite-colour-requires c κs = search row-known
+opposite-colour-requires c κs = search row_known
 
 add-w : tie.Need-overflow-add-w invariant-loop decreases-loop
-add-w c = omega (arith, row-index c.before.before.before.before.before.before.requires c.before.before.before.before.loop.invariant c.before.before.before.loop-test.true)
+add-w c = omega (arith, row_index c.before.before.before.before.before.before.requires c.before.before.before.before.loop.invariant c.before.before.before.loop-test.true)
 
 mul-w : tie.Need-overflow-mul-w invariant-loop decreases-loop
-mul-w c = omega (arith, row-index c.before.before.before.before.before.before.requires c.before.before.before.before.loop.invariant c.before.before.before.loop-test.true)
+mul-w c = omega (arith, row_index c.before.before.before.before.before.before.requires c.before.before.before.before.loop.invariant c.before.before.before.loop-test.true)
 
 slice-write-w : tie.Need-slice-write-w invariant-loop decreases-loop
-slice-write-w c = search row-index
+slice-write-w c = search row_index
 
 add-k : tie.Need-overflow-add-k invariant-loop decreases-loop
 add-k c = search rules
@@ -67,13 +67,13 @@ loop-less : tie.Need-loop-smaller invariant-loop decreases-loop
 loop-less c = search rules
 
 loop-again : tie.Need-loop-preserved invariant-loop decreases-loop
-loop-again c = search inverting-more
+loop-again c = search inverting_more
 
 same_length : tie.Need-same-length invariant-loop decreases-loop
 same_length c = search rules
 
 returns : tie.Need-returns invariant-loop decreases-loop
-returns c = search inverting-all
+returns c = search inverting_all
 
 pub invert-group-spec : {M : Type 1} → statement M
 invert-group-spec =

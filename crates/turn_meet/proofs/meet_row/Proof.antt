@@ -1,5 +1,5 @@
 -- `turn_meet::meet_row` meets its contract, by its two tests. Assumes nothing.
-use Rattle.turn_meet.proofs.Meeting.{meet-new, meet-same, meet-against}
+use Rattle.turn_meet.proofs.Meeting.{meet_new, meet_same, meet_against}
 use lib.ListN.{length-set}
 use native.Mathlib.Omega.{arith}
 use borrow.Author.Rules.{rules}
@@ -55,16 +55,16 @@ same_length : tie.Need-same-length
 same_length c = search rules
 
 returns : tie.Need-returns
-returns c = search meet-new
+returns c = search meet_new
 
 returns-2 : tie.Need-returns-2
-returns-2 c = search meet-same
+returns-2 c = search meet_same
 
 add-t14 : tie.Need-overflow-add-t14
 add-t14 c = search rules
 
 returns-3 : tie.Need-returns-3
-returns-3 c = search meet-against
+returns-3 c = search meet_against
 
 pub meet-row-spec : {M : Type 1} → statement M
 meet-row-spec =

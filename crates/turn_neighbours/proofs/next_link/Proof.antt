@@ -1,5 +1,5 @@
 -- `turn_neighbours::next_link` meets its contract, by its test. Assumes nothing.
-use Rattle.turn_walk.specs.Links.{next-own, next-far}
+use Rattle.turn_walk.specs.Links.{next_own, next_far}
 use borrow.Author.Rules.{rules}
 use Rattle.turn_neighbours.proofs.next_link.Statement.{statement}
 use Rattle.turn_neighbours.proofs.next_link.Tie as tie
@@ -29,7 +29,7 @@ shared-slice-read-result : tie.Need-shared-slice-read-result
 shared-slice-read-result c = search rules
 
 returns : tie.Need-returns
-returns c = search next-own
+returns c = search next_own
 
 mul-result-3 : tie.Need-overflow-mul-result-3
 mul-result-3 c = search rules
@@ -44,7 +44,7 @@ shared-slice-read-result-2 : tie.Need-shared-slice-read-result-2
 shared-slice-read-result-2 c = search rules
 
 returns-2 : tie.Need-returns-2
-returns-2 c = search next-far
+returns-2 c = search next_far
 
 pub next-link-spec : {M : Type 1} → statement M
 next-link-spec =

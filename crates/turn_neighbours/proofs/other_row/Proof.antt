@@ -1,5 +1,5 @@
 -- `turn_neighbours::other_row` meets its contract, by its test. Assumes nothing.
-use Rattle.turn_neighbours.proofs.Across.{other-far, other-own}
+use Rattle.turn_neighbours.proofs.Across.{other_far, other_own}
 use borrow.Author.Rules.{rules}
 use Rattle.turn_neighbours.proofs.other_row.Statement.{statement}
 use Rattle.turn_neighbours.proofs.other_row.Tie as tie
@@ -17,10 +17,10 @@ far-row-requires : tie.Need-far-row-requires
 far-row-requires c κs = search rules
 
 returns : tie.Need-returns
-returns c = search other-far
+returns c = search other_far
 
 returns-2 : tie.Need-returns-2
-returns-2 c = search other-own
+returns-2 c = search other_own
 
 pub other-row-spec : {M : Type 1} → statement M
 other-row-spec =

@@ -1,5 +1,5 @@
 -- `turn_neighbours::wanted` meets its contract, by its test. Assumes nothing.
-use Rattle.turn_neighbours.proofs.Across.{run_index, want-not, want-yes}
+use Rattle.turn_neighbours.proofs.Across.{run_index, want_not, want_yes}
 use native.Mathlib.Omega.{arith}
 use borrow.Author.Rules.{rules}
 use Rattle.turn_neighbours.proofs.wanted.Statement.{statement}
@@ -36,10 +36,10 @@ opposite-colour-requires : tie.Need-opposite-colour-requires
 opposite-colour-requires c κs = search rules
 
 returns : tie.Need-returns
-returns c = search want-not
+returns c = search want_not
 
 returns-2 : tie.Need-returns-2
-returns-2 c = search want-yes
+returns-2 c = search want_yes
 
 pub wanted-spec : {M : Type 1} → statement M
 wanted-spec =

@@ -3,8 +3,8 @@ use Prim.Native.Nat.{◌-◌}
 use native.Mathlib.Omega.{arith}
 use lib.ListN.{length}
 use lib.Dec.{leb}
-use Rattle.lists.specs.Any.{Searched, searched-none, searched-all}
-use Rattle.body_patch_checks.proofs.PatchLaws.{least-hit, least_more}
+use Rattle.lists.specs.Any.{Searched, searched_none, searched_all}
+use Rattle.body_patch_checks.proofs.PatchLaws.{least_hit, least_more}
 use Rattle.body_patch_checks.proofs.patch.any_at_least.Statement.{statement}
 use Rattle.body_patch_checks.proofs.patch.any_at_least.Tie as tie
 use borrow.Author.Rules.{rules}
@@ -16,7 +16,7 @@ abbrev decreases-loop : tie.decreases-loop
 decreases-loop s n k₀ k = length s - k
 
 loop-holds : tie.Need-loop-init invariant-loop decreases-loop
-loop-holds c = searched-none _ _
+loop-holds c = searched_none _ _
 
 mul-if1 : tie.Need-overflow-mul-if1 invariant-loop decreases-loop
 mul-if1 c = search rules
@@ -25,7 +25,7 @@ shared-slice-read-if1 : tie.Need-shared-slice-read-if1 invariant-loop decreases-
 shared-slice-read-if1 c = search rules
 
 returns : tie.Need-returns invariant-loop decreases-loop
-returns c = least-hit _ c.before.before.before.loop.invariant (omega arith) (omega arith)
+returns c = least_hit _ c.before.before.before.loop.invariant (omega arith) (omega arith)
 
 add-k : tie.Need-overflow-add-k invariant-loop decreases-loop
 add-k c = search rules
@@ -37,7 +37,7 @@ loop-again : tie.Need-loop-preserved invariant-loop decreases-loop
 loop-again c = least_more _ c.before.before.before.loop.invariant (omega arith) (omega arith)
 
 returns-2 : tie.Need-returns-2 invariant-loop decreases-loop
-returns-2 c = searched-all c.before.loop.invariant (omega arith)
+returns-2 c = searched_all c.before.loop.invariant (omega arith)
 
 pub any-at-least-spec : {M : Type 1} → statement M
 any-at-least-spec =

@@ -1,7 +1,7 @@
 -- `body_patch_checks::patch::any_bad_index` meets its contract. The first k rows have good indices, which end at base. Assumes nothing.
 use Prim.Native.Nat.{◌-◌}
 use native.Mathlib.Omega.{arith}
-use Rattle.body_patch_checks.proofs.PatchLaws.{Indexing, indexing-none, indexing-room, indexing-hit, indexing-more, indexing-all}
+use Rattle.body_patch_checks.proofs.PatchLaws.{Indexing, indexing_none, indexing_room, indexing_hit, indexing_more, indexing_all}
 use Rattle.body_patch_checks.proofs.patch.any_bad_index.Statement.{statement}
 use Rattle.body_patch_checks.proofs.patch.any_bad_index.Tie as tie
 use borrow.Author.Rules.{rules}
@@ -16,13 +16,13 @@ row-count-requires : tie.Need-row-count-requires invariant-loop decreases-loop
 row-count-requires c κs = search rules
 
 loop-holds : tie.Need-loop-init invariant-loop decreases-loop
-loop-holds c = indexing-none _ _
+loop-holds c = indexing_none _ _
 
 bad-indices-requires : tie.Need-bad-indices-requires invariant-loop decreases-loop
-bad-indices-requires c κs = indexing-room c.before.loop.invariant (omega arith) c.before.before.before.before.before.requires
+bad-indices-requires c κs = indexing_room c.before.loop.invariant (omega arith) c.before.before.before.before.before.requires
 
 returns : tie.Need-returns invariant-loop decreases-loop
-returns c = indexing-hit c.before.before.before.loop.invariant (omega arith) c.before.bad-indices.ensures c.if1.true
+returns c = indexing_hit c.before.before.before.loop.invariant (omega arith) c.before.bad-indices.ensures c.if1.true
 
 indices-requires : tie.Need-indices-requires invariant-loop decreases-loop
 indices-requires c κs = search rules
@@ -31,7 +31,7 @@ cast-base : tie.Need-overflow-cast-base invariant-loop decreases-loop
 cast-base c = search rules
 
 add-base : tie.Need-overflow-add-base invariant-loop decreases-loop
-add-base c = omega (arith, (indexing-room c.before.before.before.before.loop.invariant (omega arith) c.before.before.before.before.before.before.before.before.requires).room, c.indices.ensures)
+add-base c = omega (arith, (indexing_room c.before.before.before.before.loop.invariant (omega arith) c.before.before.before.before.before.before.before.before.requires).room, c.indices.ensures)
 
 add-k : tie.Need-overflow-add-k invariant-loop decreases-loop
 add-k c = search rules
@@ -40,10 +40,10 @@ loop-less : tie.Need-loop-smaller invariant-loop decreases-loop
 loop-less c = search rules
 
 loop-again : tie.Need-loop-preserved invariant-loop decreases-loop
-loop-again c = indexing-more c.before.before.before.before.loop.invariant (omega arith) c.before.before.bad-indices.ensures c.before.if1.false c.indices.ensures
+loop-again c = indexing_more c.before.before.before.before.loop.invariant (omega arith) c.before.before.bad-indices.ensures c.before.if1.false c.indices.ensures
 
 returns-2 : tie.Need-returns-2 invariant-loop decreases-loop
-returns-2 c = indexing-all c.before.loop.invariant (omega arith)
+returns-2 c = indexing_all c.before.loop.invariant (omega arith)
 
 pub any-bad-index-spec : {M : Type 1} → statement M
 any-bad-index-spec =

@@ -3,7 +3,7 @@ use Prim.Native.Nat.{◌-◌}
 use native.Mathlib.Omega.{arith}
 use lib.ListN.{length}
 use lib.Ieee.{nan}
-use Rattle.lists.specs.Any.{Looked, looked-none, looked-more, looked-all}
+use Rattle.lists.specs.Any.{Looked, looked_none, looked_more, looked_all}
 use Rattle.point_rules.specs.Points.{clamps}
 use borrow.Author.Rules.{rules}
 use Rattle.body_patch_checks.proofs.patch.any_clamps.Statement.{statement}
@@ -16,7 +16,7 @@ abbrev decreases-loop : tie.decreases-loop
 decreases-loop positions found₀ k₀ found k = length positions - k
 
 loop-holds : tie.Need-loop-init invariant-loop decreases-loop
-loop-holds c = looked-none _ _
+loop-holds c = looked_none _ _
 
 mul-clamps : tie.Need-overflow-mul-clamps invariant-loop decreases-loop
 mul-clamps c = search rules
@@ -34,10 +34,10 @@ loop-less : tie.Need-loop-smaller invariant-loop decreases-loop
 loop-less c = search rules
 
 loop-again : tie.Need-loop-preserved invariant-loop decreases-loop
-loop-again c = looked-more nan c.before.before.before.loop.invariant (omega arith) c.clamps.ensures
+loop-again c = looked_more nan c.before.before.before.loop.invariant (omega arith) c.clamps.ensures
 
 returns : tie.Need-returns invariant-loop decreases-loop
-returns c = search looked-all
+returns c = search looked_all
 
 pub any-clamps-spec : {M : Type 1} → statement M
 any-clamps-spec =

@@ -5,20 +5,20 @@ use Prim.Native.Nat.{◌-◌}
 use native.Mathlib.Omega.{arith}
 use lib.ListN.{length}
 use lib.Ieee.{nan}
-use Rattle.lists.specs.Any.{Looked, looked-none, looked-more, looked-all}
-use Rattle.body_patch_checks.specs.PatchTests.{notFinite}
+use Rattle.lists.specs.Any.{Looked, looked_none, looked_more, looked_all}
+use Rattle.body_patch_checks.specs.PatchTests.{not_finite}
 use borrow.Author.Rules.{rules}
 use Rattle.body_patch_checks.proofs.patch.any_not_finite.Statement.{statement}
 use Rattle.body_patch_checks.proofs.patch.any_not_finite.Tie as tie
 
 abbrev invariant-loop : tie.invariant-loop
-invariant-loop s found₀ k₀ found k = Looked notFinite s k found
+invariant-loop s found₀ k₀ found k = Looked not_finite s k found
 
 abbrev decreases-loop : tie.decreases-loop
 decreases-loop s found₀ k₀ found k = length s - k
 
 loop-holds : tie.Need-loop-init invariant-loop decreases-loop
-loop-holds c = looked-none _ _
+loop-holds c = looked_none _ _
 
 mul-is-finite-f32 : tie.Need-overflow-mul-is-finite-f32 invariant-loop decreases-loop
 mul-is-finite-f32 c = search rules
@@ -36,10 +36,10 @@ loop-less : tie.Need-loop-smaller invariant-loop decreases-loop
 loop-less c = search rules
 
 loop-again : tie.Need-loop-preserved invariant-loop decreases-loop
-loop-again c = looked-more nan c.before.before.before.loop.invariant (omega arith) (ap not c.is-finite-f32.ensures)
+loop-again c = looked_more nan c.before.before.before.loop.invariant (omega arith) (ap not c.is-finite-f32.ensures)
 
 returns : tie.Need-returns invariant-loop decreases-loop
-returns c = search looked-all
+returns c = search looked_all
 
 pub any-not-finite-spec : {M : Type 1} → statement M
 any-not-finite-spec =

@@ -1,5 +1,5 @@
 -- `body_patch_checks::patch::bad_indices` meets its contract. Assumes nothing.
-use Rattle.body_patch_checks.proofs.PatchLaws.{row-test}
+use Rattle.body_patch_checks.proofs.PatchLaws.{row_test}
 use borrow.Author.Rules.{rules}
 use Rattle.body_patch_checks.proofs.patch.bad_indices.Statement.{statement}
 use Rattle.body_patch_checks.proofs.patch.bad_indices.Tie as tie
@@ -32,7 +32,7 @@ any-at-least-requires : tie.Need-any-at-least-requires
 any-at-least-requires c κs = search rules
 
 returns : tie.Need-returns
-returns c = row-test _ _ c.before.before.before.indices.ensures c.before.vertices.ensures c.any-at-least.ensures
+returns c = row_test _ _ c.before.before.before.indices.ensures c.before.vertices.ensures c.any-at-least.ensures
 
 pub bad-indices-spec : {M : Type 1} → statement M
 bad-indices-spec =

@@ -2,7 +2,7 @@
 use Prim.Native.Nat.{◌-◌}
 use native.Mathlib.Omega.{arith}
 use Rattle.body_rows.specs.Rows.{column}
-use Rattle.body_rows.proofs.Starting.{Starting, starting-none, starting-more, starting-all}
+use Rattle.body_rows.proofs.Starting.{Starting, starting_none, starting_more, starting_all}
 use Rattle.body_rows.proofs.bases.bases.Statement.{statement}
 use Rattle.body_rows.proofs.bases.bases.Tie as tie
 use borrow.Author.Rules.{rules}
@@ -17,7 +17,7 @@ row-count-requires : tie.Need-row-count-requires invariant-loop decreases-loop
 row-count-requires c κs = search rules
 
 loop-holds : tie.Need-loop-init invariant-loop decreases-loop
-loop-holds c = starting-none _ _ _
+loop-holds c = starting_none _ _ _
 
 mul-w : tie.Need-overflow-mul-w invariant-loop decreases-loop
 mul-w c = search rules
@@ -41,13 +41,13 @@ loop-less : tie.Need-loop-smaller invariant-loop decreases-loop
 loop-less c = search rules
 
 loop-again : tie.Need-loop-preserved invariant-loop decreases-loop
-loop-again c = starting-more c.before.before.before.before.before.before.requires.room c.before.before.loop.invariant (omega arith) c.number.ensures (omega arith)
+loop-again c = starting_more c.before.before.before.before.before.before.requires.room c.before.before.loop.invariant (omega arith) c.number.ensures (omega arith)
 
 same_length : tie.Need-same-length invariant-loop decreases-loop
 same_length c = search rules
 
 returns : tie.Need-returns invariant-loop decreases-loop
-returns c = starting-all _ c.before.loop.invariant (omega arith)
+returns c = starting_all _ c.before.loop.invariant (omega arith)
 
 pub bases-spec : {M : Type 1} → statement M
 bases-spec =

@@ -1,7 +1,7 @@
 -- `body_rows::bases::index_bases` meets its contract. Assumes nothing.
 use borrow.Author.Rules.{rules}
-use Rattle.body_rows.specs.Body.{allIndices}
-use Rattle.body_rows.specs.Rows.{columnBefore, indicesBefore}
+use Rattle.body_rows.specs.Body.{all_indices}
+use Rattle.body_rows.specs.Rows.{column_before, indices_before}
 use Rattle.body_rows.proofs.bases.index_bases.Statement.{statement}
 use Rattle.body_rows.proofs.bases.index_bases.Tie as tie
 
@@ -12,7 +12,7 @@ same_length : tie.Need-same-length
 same_length c = search rules
 
 returns : tie.Need-returns
-unfolding columnBefore indicesBefore allIndices
+unfolding column_before indices_before all_indices
 returns c = search rules
 
 pub index-bases-spec : {M : Type 1} → statement M

@@ -1,6 +1,6 @@
 -- `body_rows::rows::number` meets its contract. Assumes nothing.
 use native.Mathlib.Omega.{arith}
-use Rattle.body_rows.specs.Rows.{row_room, row-column}
+use Rattle.body_rows.specs.Rows.{row_room, row_column}
 use borrow.Author.Rules.{rules}
 use Rattle.body_rows.proofs.rows.number.Statement.{statement}
 use Rattle.body_rows.proofs.rows.number.Tie as tie
@@ -18,7 +18,7 @@ shared-slice-read-result : tie.Need-shared-slice-read-result
 shared-slice-read-result c = omega (arith, row_room c.before.args.rows.now c.before.args.k c.before.requires.row)
 
 returns : tie.Need-returns
-returns c = search (rules, row-column)
+returns c = search (rules, row_column)
 
 pub number-spec : {M : Type 1} → statement M
 number-spec =

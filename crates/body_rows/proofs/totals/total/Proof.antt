@@ -2,7 +2,7 @@
 use Prim.Native.Nat.{◌-◌}
 use native.Mathlib.Omega.{arith}
 use Rattle.body_rows.specs.Rows.{column}
-use Rattle.body_rows.proofs.Summing.{Summing, summing-none, summing-more, total-is}
+use Rattle.body_rows.proofs.Summing.{Summing, summing_none, summing_more, total_is}
 use Rattle.body_rows.proofs.totals.total.Statement.{statement}
 use Rattle.body_rows.proofs.totals.total.Tie as tie
 use borrow.Author.Rules.{rules}
@@ -17,7 +17,7 @@ row-count-requires : tie.Need-row-count-requires invariant-loop decreases-loop
 row-count-requires c κs = search rules
 
 loop-holds : tie.Need-loop-init invariant-loop decreases-loop
-loop-holds c = search summing-none
+loop-holds c = search summing_none
 
 number-requires : tie.Need-number-requires invariant-loop decreases-loop
 number-requires c κs = search rules
@@ -35,10 +35,10 @@ loop-less : tie.Need-loop-smaller invariant-loop decreases-loop
 loop-less c = search rules
 
 loop-again : tie.Need-loop-preserved invariant-loop decreases-loop
-loop-again c = summing-more c.before.before.loop.invariant (omega arith) c.number.ensures (omega arith)
+loop-again c = summing_more c.before.before.loop.invariant (omega arith) c.number.ensures (omega arith)
 
 returns : tie.Need-returns invariant-loop decreases-loop
-returns c = total-is c.before.before.before.before.requires.rows c.before.loop.invariant (omega arith)
+returns c = total_is c.before.before.before.before.requires.rows c.before.loop.invariant (omega arith)
 
 pub total-spec : {M : Type 1} → statement M
 total-spec =

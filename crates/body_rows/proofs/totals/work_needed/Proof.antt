@@ -1,5 +1,5 @@
 -- `body_rows::totals::work_needed` meets its contract. Assumes nothing.
-use Rattle.body_rows.proofs.Summing.{needed-is}
+use Rattle.body_rows.proofs.Summing.{needed_is}
 use borrow.Author.Rules.{rules}
 use Rattle.body_rows.proofs.totals.work_needed.Statement.{statement}
 use Rattle.body_rows.proofs.totals.work_needed.Tie as tie
@@ -29,7 +29,7 @@ add-result-2 : tie.Need-overflow-add-result-2
 add-result-2 c = search rules
 
 returns : tie.Need-returns
-returns c = search needed-is
+returns c = search needed_is
 
 pub work-needed-spec : {M : Type 1} → statement M
 work-needed-spec =

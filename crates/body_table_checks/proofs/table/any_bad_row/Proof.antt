@@ -2,16 +2,16 @@
 use Prim.Native.Nat.{◌-◌}
 use native.Mathlib.Omega.{arith}
 use mathlib.Core.Path.{sym, ◌∙◌}
-use Rattle.lists.specs.Any.{Searched, searched-none, searched-more, searched-hit, searched-all}
-use Rattle.body_refusals.specs.TableChecks.{badRow}
+use Rattle.lists.specs.Any.{Searched, searched_none, searched_more, searched_hit, searched_all}
+use Rattle.body_refusals.specs.TableChecks.{bad_row}
 use Rattle.body_rows.specs.Body.{rows_of}
-use Rattle.body_rows.specs.Rows.{no_row, rowAt}
+use Rattle.body_rows.specs.Rows.{no_row, row_at}
 use Rattle.body_table_checks.proofs.table.any_bad_row.Statement.{statement}
 use Rattle.body_table_checks.proofs.table.any_bad_row.Tie as tie
 use borrow.Author.Rules.{rules}
 
 abbrev invariant-loop : tie.invariant-loop
-invariant-loop table n k₀ k = Searched badRow (rows_of table) k
+invariant-loop table n k₀ k = Searched bad_row (rows_of table) k
 
 abbrev decreases-loop : tie.decreases-loop
 decreases-loop table n k₀ k = n - k
@@ -20,14 +20,14 @@ row-count-requires : tie.Need-row-count-requires invariant-loop decreases-loop
 row-count-requires c κs = search rules
 
 loop-holds : tie.Need-loop-init invariant-loop decreases-loop
-loop-holds c = searched-none badRow _
+loop-holds c = searched_none bad_row _
 
 bad-row-requires : tie.Need-bad-row-requires invariant-loop decreases-loop
 bad-row-requires c κs = search rules
 
 returns : tie.Need-returns invariant-loop decreases-loop
-unfolding rowAt
-returns c = searched-hit no_row c.before.before.before.loop.invariant (omega arith) (sym c.before.bad-row.ensures ∙ c.if1.true)
+unfolding row_at
+returns c = searched_hit no_row c.before.before.before.loop.invariant (omega arith) (sym c.before.bad-row.ensures ∙ c.if1.true)
 
 add-k : tie.Need-overflow-add-k invariant-loop decreases-loop
 add-k c = search rules
@@ -36,11 +36,11 @@ loop-less : tie.Need-loop-smaller invariant-loop decreases-loop
 loop-less c = search rules
 
 loop-again : tie.Need-loop-preserved invariant-loop decreases-loop
-unfolding rowAt
-loop-again c = searched-more no_row c.before.before.before.loop.invariant (omega arith) (sym c.before.bad-row.ensures ∙ c.if1.false)
+unfolding row_at
+loop-again c = searched_more no_row c.before.before.before.loop.invariant (omega arith) (sym c.before.bad-row.ensures ∙ c.if1.false)
 
 returns-2 : tie.Need-returns-2 invariant-loop decreases-loop
-returns-2 c = searched-all c.before.loop.invariant (omega arith)
+returns-2 c = searched_all c.before.loop.invariant (omega arith)
 
 pub any-bad-row-spec : {M : Type 1} → statement M
 any-bad-row-spec =

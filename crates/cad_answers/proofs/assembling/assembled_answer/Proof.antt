@@ -1,7 +1,7 @@
 -- `assembled_answer` meets its contract. Case by case. Assumes nothing.
 use mathlib.Core.Path.{sym, ap}
-use Rattle.cad_answers.specs.Assembling.{cadAssembled}
-use Rattle.cad_answers.proofs.AssembleLaws.{done-told}
+use Rattle.cad_answers.specs.Assembling.{cad_assembled}
+use Rattle.cad_answers.proofs.AssembleLaws.{done_told}
 use borrow.Author.Rules.{rules}
 use Rattle.cad_answers.proofs.assembling.assembled_answer.Statement.{statement}
 use Rattle.cad_answers.proofs.assembling.assembled_answer.Tie as tie
@@ -16,10 +16,10 @@ enum-known-t-2 : tie.Need-enum-known-t-2
 enum-known-t-2 c = search rules
 
 returns : tie.Need-returns
-returns c = done-told c.before.before.t.given.1 c.flag.ensures
+returns c = done_told c.before.before.t.given.1 c.flag.ensures
 
 returns-2 : tie.Need-returns-2
-returns-2 c = sym (ap cadAssembled c.before.t2.given.1)
+returns-2 c = sym (ap cad_assembled c.before.t2.given.1)
 
 pub assembled-answer-spec : {M : Type 1} → statement M
 assembled-answer-spec =

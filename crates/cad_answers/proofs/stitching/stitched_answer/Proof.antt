@@ -1,6 +1,6 @@
 -- `stitched_answer` meets its contract, case by case. Assumes nothing.
 use mathlib.Core.Path.{sym, ap}
-use Rattle.cad_answers.specs.Stitching.{cadStitched}
+use Rattle.cad_answers.specs.Stitching.{cad_stitched}
 use borrow.Author.Rules.{rules}
 use Rattle.cad_answers.proofs.stitching.stitched_answer.Statement.{statement}
 use Rattle.cad_answers.proofs.stitching.stitched_answer.Tie as tie
@@ -12,10 +12,10 @@ enum-known-t-2 : tie.Need-enum-known-t-2
 enum-known-t-2 c = search rules
 
 returns : tie.Need-returns
-returns c = sym (ap cadStitched c.before.t.given.1)
+returns c = sym (ap cad_stitched c.before.t.given.1)
 
 returns-2 : tie.Need-returns-2
-returns-2 c = sym (ap cadStitched c.before.t2.given.1)
+returns-2 c = sym (ap cad_stitched c.before.t2.given.1)
 
 pub stitched-answer-spec : {M : Type 1} → statement M
 stitched-answer-spec = tie.close (tie.spec enum-known-t enum-known-t-2 returns returns-2)

@@ -1,6 +1,6 @@
 -- `turned_answer` meets its contract, case by case. Assumes nothing.
 use mathlib.Core.Path.{sym, ap}
-use Rattle.cad_answers.specs.Turning.{cadTurned}
+use Rattle.cad_answers.specs.Turning.{cad_turned}
 use borrow.Author.Rules.{rules}
 use Rattle.cad_answers.proofs.turning.turned_answer.Statement.{statement}
 use Rattle.cad_answers.proofs.turning.turned_answer.Tie as tie
@@ -12,10 +12,10 @@ enum-known-t-2 : tie.Need-enum-known-t-2
 enum-known-t-2 c = search rules
 
 returns : tie.Need-returns
-returns c = sym (ap cadTurned c.before.t.given.1)
+returns c = sym (ap cad_turned c.before.t.given.1)
 
 returns-2 : tie.Need-returns-2
-returns-2 c = sym (ap cadTurned c.before.t2.given.1)
+returns-2 c = sym (ap cad_turned c.before.t2.given.1)
 
 pub turned-answer-spec : {M : Type 1} → statement M
 turned-answer-spec = tie.close (tie.spec enum-known-t enum-known-t-2 returns returns-2)

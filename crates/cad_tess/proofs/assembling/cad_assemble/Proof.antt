@@ -1,5 +1,5 @@
 -- `cad_assemble` meets its contract. The struct tells all that the definition says. Assumes nothing.
-use Rattle.cad_tess.proofs.AssembleLaws.{call-left}
+use Rattle.cad_tess.proofs.AssembleLaws.{call_left}
 use borrow.Author.Rules.{rules}
 use Rattle.cad_tess.proofs.assembling.cad_assemble.Statement.{statement}
 use Rattle.cad_tess.proofs.assembling.cad_assemble.Tie as tie
@@ -35,7 +35,7 @@ same-length-7 : tie.Need-same-length-7
 same-length-7 c = search rules
 
 returns : tie.Need-returns
-returns c = call-left _ _ _ _ _ _ _ _ c.before.before.before.before.before.before.before.before.before.before.before.before.before.before.before.before.before.before.before.before.before.before.before.box_of.ensures c.before.before.before.before.before.before.before.before.before.before.before.before.before.before.before.assemble.ensures c.assembled-answer.ensures
+returns c = call_left _ _ _ _ _ _ _ _ c.before.before.before.before.before.before.before.before.before.before.before.before.before.before.before.before.before.before.before.before.before.before.before.box_of.ensures c.before.before.before.before.before.before.before.before.before.before.before.before.before.before.before.assemble.ensures c.assembled-answer.ensures
 
 pub cad-assemble-spec : {M : Type 1} → statement M
 cad-assemble-spec =

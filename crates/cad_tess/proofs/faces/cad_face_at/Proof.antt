@@ -41,7 +41,7 @@ use denote.Triple.Clauses.{ensured, lasts}
 use Rattle.mesh_materials.specs.declared.FaceId.{FaceId}
 use Rattle.mesh_materials.specs.contracts.FaceId as F
 use Rattle.mesh_materials.proofs.FaceId.TheLaws as F'
-use Rattle.body_row_structs.specs.FaceRows.{faceAt}
+use Rattle.body_row_structs.specs.FaceRows.{face_at}
 use Rattle.body_row_structs.specs.declared.Row.{Row}
 use Rattle.body_row_structs.specs.contracts.Row as T
 use Rattle.body_row_structs.specs.contracts.face_at as faceat
@@ -84,7 +84,7 @@ module _ {M : Type 1} {𝓤 : Ura M} (𝓛 : Logic 𝓤) (mem : Memory → SProp
 
   -- the face that is asked for
   abbrev found : FaceId
-  found = faceAt x.now k
+  found = face_at x.now k
 
   abbrev at : Vals cadfaceat.signature (κ, tt)
   at = (v ∷ [], (vint w64 k ∷ [], tt))
@@ -137,16 +137,16 @@ module _ {M : Type 1} {𝓤 : Ura M} (𝓛 : Logic 𝓤) (mem : Memory → SProp
 module _ {M : Type 1} {𝓤 : Ura M} (𝓛 : Logic 𝓤) (mem : Memory → SProp 𝓤) (run : Routine → Fun 𝓤) where
   open 𝓛 use {H}
 
-  cad-face-at-walks : (C : Calls 𝓤 H) (Λ : Loops 𝓤 H) → FmC 𝓤 H 𝓛.laws C → Triple 𝓤 (C #body-row-structs·face-at) (FaceAt 𝓛 mem run)
+  cad_face_at_walks : (C : Calls 𝓤 H) (Λ : Loops 𝓤 H) → FmC 𝓤 H 𝓛.laws C → Triple 𝓤 (C #body-row-structs·face-at) (FaceAt 𝓛 mem run)
       → Walks 𝓛 cadfaceat.ended stayed (WpFn 𝓤 H C Λ code.function) (cadfaceat.clauses 𝓛 mem run)
-  cad-face-at-walks C Λ fm known = walked 𝓛 cadfaceat.ended stayed (cadfaceat.clauses 𝓛 mem run) (WpFn 𝓤 H C Λ code.function) (λ κs. (shr_slice_vals, (uint_vals w64, tt))) (λ κs. (shr_slice_Tells (named 0) κs.0 R, (uint_Tells w64, tt)))
+  cad_face_at_walks C Λ fm known = walked 𝓛 cadfaceat.ended stayed (cadfaceat.clauses 𝓛 mem run) (WpFn 𝓤 H C Λ code.function) (λ κs. (shr_slice_vals, (uint_vals w64, tt))) (λ κs. (shr_slice_Tells (named 0) κs.0 R, (uint_Tells w64, tt)))
       (λ κs qs bounds a g are. via 𝓤 _ (fst∗ 𝓤 _ (emp 𝓤)) (walk 𝓛 mem run κs.0 qs.0 a.0 a.1.0 are.1.0.1 C Λ fm known are.0))
 
 cad-face-at-meets : {M : Type 1} {𝓤 : Ura M} (𝓛 : Logic 𝓤) (mem : Memory → SProp 𝓤) (run : Routine → Fun 𝓤) (𝓣 : Tables 𝓤 𝓛.H)
     → Triple 𝓤 (𝓣.C #body-row-structs·face-at) (FaceAt 𝓛 mem run)
     → Meets 𝓛 cadfaceat.signature (WpFn 𝓤 𝓛.H 𝓣.C 𝓣.Λ code.function) (cadfaceat.spec 𝓛 mem run)
 cad-face-at-meets {𝓤 = 𝓤} 𝓛 mem run 𝓣 known = walk_Meets 𝓛 cadfaceat.ended stayed (Goes-none_slice 𝓛 1 (0 ∷ []) tt (plain (λ _. R)) yes, (Goes-none 𝓛 1 (λ _. usize) yes (λ κs x f. refl), tt)) (cadfaceat.clauses 𝓛 mem run) (WpFn 𝓤 𝓛.H 𝓣.C 𝓣.Λ code.function) (WpFn-mono 𝓤 𝓛.H 𝓛.laws 𝓣 code.function)
-    (cad-face-at-walks 𝓛 mem run 𝓣.C 𝓣.Λ (fm_of 𝓤 𝓛.H 𝓛.laws 𝓣) known)
+    (cad_face_at_walks 𝓛 mem run 𝓣.C 𝓣.Λ (fm_of 𝓤 𝓛.H 𝓛.laws 𝓣) known)
 
 pub cad-face-at-spec : {M : Type 1} → stated.statement M
 unfolding code.routine tables_of

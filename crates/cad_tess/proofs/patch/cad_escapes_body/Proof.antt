@@ -1,5 +1,5 @@
 -- `cad_escapes_body` meets its contract. Assumes nothing.
-use Rattle.cad_tess.proofs.Laws.{escapes-struct}
+use Rattle.cad_tess.proofs.Laws.{escapes_struct}
 use borrow.Author.Rules.{rules}
 use Rattle.cad_tess.proofs.patch.cad_escapes_body.Statement.{statement}
 use Rattle.cad_tess.proofs.patch.cad_escapes_body.Tie as tie
@@ -14,7 +14,7 @@ judged-answer-requires : tie.Need-judged-answer-requires
 judged-answer-requires c κs = search rules
 
 returns : tie.Need-returns
-returns c = search escapes-struct
+returns c = search escapes_struct
 
 pub cad-escapes-body-spec : {M : Type 1} → statement M
 cad-escapes-body-spec =

@@ -1,5 +1,5 @@
 -- `cad_farthest` meets its contract. Assumes nothing.
-use Rattle.cad_tess.proofs.Laws.{farthest-struct}
+use Rattle.cad_tess.proofs.Laws.{farthest_struct}
 use borrow.Author.Rules.{rules}
 use Rattle.cad_tess.proofs.patch.cad_farthest.Statement.{statement}
 use Rattle.cad_tess.proofs.patch.cad_farthest.Tie as tie
@@ -14,7 +14,7 @@ measured-answer-requires : tie.Need-measured-answer-requires
 measured-answer-requires c κs = search rules
 
 returns : tie.Need-returns
-returns c = search farthest-struct
+returns c = search farthest_struct
 
 pub cad-farthest-spec : {M : Type 1} → statement M
 cad-farthest-spec =

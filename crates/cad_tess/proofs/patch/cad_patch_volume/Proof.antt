@@ -1,5 +1,5 @@
 -- `cad_patch_volume` meets its contract. Assumes nothing.
-use Rattle.cad_tess.proofs.Laws.{volume-struct}
+use Rattle.cad_tess.proofs.Laws.{volume_struct}
 use borrow.Author.Rules.{rules}
 use Rattle.cad_tess.proofs.patch.cad_patch_volume.Statement.{statement}
 use Rattle.cad_tess.proofs.patch.cad_patch_volume.Tie as tie
@@ -11,7 +11,7 @@ measured-answer-requires : tie.Need-measured-answer-requires
 measured-answer-requires c κs = search rules
 
 returns : tie.Need-returns
-returns c = search volume-struct
+returns c = search volume_struct
 
 pub cad-patch-volume-spec : {M : Type 1} → statement M
 cad-patch-volume-spec =

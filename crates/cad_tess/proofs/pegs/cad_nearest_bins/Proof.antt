@@ -1,5 +1,5 @@
 -- `cad_nearest_bins` meets its contract. Assumes nothing.
-use Rattle.cad_tess.proofs.PegLaws.{peg-left, peg-told}
+use Rattle.cad_tess.proofs.PegLaws.{peg_left, peg_told}
 use borrow.Author.Rules.{rules}
 use Rattle.cad_tess.proofs.pegs.cad_nearest_bins.Statement.{statement}
 use Rattle.cad_tess.proofs.pegs.cad_nearest_bins.Tie as tie
@@ -14,7 +14,7 @@ same_length : tie.Need-same-length
 same_length c = search rules
 
 returns : tie.Need-returns
-returns c = search (rules, peg-told, peg-left)
+returns c = search (rules, peg_told, peg_left)
 
 pub cad-nearest-bins-spec : {M : Type 1} → statement M
 cad-nearest-bins-spec =

@@ -1,5 +1,5 @@
 -- `cad_read_plan` meets its contract. Assumes nothing.
-use Rattle.cad_tess.proofs.PlanLaws.{plan-left, plan-told}
+use Rattle.cad_tess.proofs.PlanLaws.{plan_left, plan_told}
 use borrow.Author.Rules.{rules}
 use Rattle.cad_tess.proofs.plans.cad_read_plan.Statement.{statement}
 use Rattle.cad_tess.proofs.plans.cad_read_plan.Tie as tie
@@ -14,7 +14,7 @@ same_length : tie.Need-same-length
 same_length c = search rules
 
 returns : tie.Need-returns
-returns c = search (rules, plan-told, plan-left)
+returns c = search (rules, plan_told, plan_left)
 
 pub cad-read-plan-spec : {M : Type 1} → statement M
 cad-read-plan-spec =

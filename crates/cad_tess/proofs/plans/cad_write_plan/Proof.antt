@@ -1,5 +1,5 @@
 -- `cad_write_plan` meets its contract. Assumes nothing.
-use Rattle.cad_tess.proofs.PlanLaws.{listing-left, listing-told}
+use Rattle.cad_tess.proofs.PlanLaws.{listing_left, listing_told}
 use borrow.Author.Rules.{rules}
 use Rattle.cad_tess.proofs.plans.cad_write_plan.Statement.{statement}
 use Rattle.cad_tess.proofs.plans.cad_write_plan.Tie as tie
@@ -14,7 +14,7 @@ same_length : tie.Need-same-length
 same_length c = search rules
 
 returns : tie.Need-returns
-returns c = search (rules, listing-told, listing-left)
+returns c = search (rules, listing_told, listing_left)
 
 pub cad-write-plan-spec : {M : Type 1} → statement M
 cad-write-plan-spec =

@@ -1,5 +1,5 @@
 -- `cad_report` meets its contract. Assumes nothing.
-use Rattle.cad_tess.proofs.ReportLaws.{report-left}
+use Rattle.cad_tess.proofs.ReportLaws.{report_left}
 use borrow.Author.Rules.{rules}
 use Rattle.cad_tess.proofs.reports.cad_report.Statement.{statement}
 use Rattle.cad_tess.proofs.reports.cad_report.Tie as tie
@@ -23,7 +23,7 @@ same-length-2 : tie.Need-same-length-2
 same-length-2 c = search rules
 
 returns : tie.Need-returns
-returns c = search report-left
+returns c = search report_left
 
 pub cad-report-spec : {M : Type 1} → statement M
 cad-report-spec =

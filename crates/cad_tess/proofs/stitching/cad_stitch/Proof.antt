@@ -1,5 +1,5 @@
 -- `cad_stitch` meets its contract. Assumes nothing.
-use Rattle.cad_tess.proofs.StitchLaws.{call-left}
+use Rattle.cad_tess.proofs.StitchLaws.{call_left}
 use borrow.Author.Rules.{rules}
 use Rattle.cad_tess.proofs.stitching.cad_stitch.Statement.{statement}
 use Rattle.cad_tess.proofs.stitching.cad_stitch.Tie as tie
@@ -26,7 +26,7 @@ same-length-5 : tie.Need-same-length-5
 same-length-5 c = search rules
 
 returns : tie.Need-returns
-returns c = search call-left
+returns c = search call_left
 
 pub cad-stitch-spec : {M : Type 1} → statement M
 cad-stitch-spec =

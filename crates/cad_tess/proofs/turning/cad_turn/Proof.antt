@@ -1,5 +1,5 @@
 -- `cad_turn` meets its contract. Assumes nothing.
-use Rattle.cad_tess.proofs.TurnLaws.{call-left, call_kept}
+use Rattle.cad_tess.proofs.TurnLaws.{call_left, call_kept}
 use borrow.Author.Rules.{rules}
 use Rattle.cad_tess.proofs.turning.cad_turn.Statement.{statement}
 use Rattle.cad_tess.proofs.turning.cad_turn.Tie as tie
@@ -23,7 +23,7 @@ returns : tie.Need-returns
 returns c =
     let t = c.before.before.before.before.before.before.before in
     let k = t.before.before.before.before.before.before.before in
-    search (call-left, call_kept, k.shared-slice-known2.given)
+    search (call_left, call_kept, k.shared-slice-known2.given)
 
 pub cad-turn-spec : {M : Type 1} → statement M
 cad-turn-spec =

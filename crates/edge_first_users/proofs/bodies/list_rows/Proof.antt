@@ -1,7 +1,7 @@
 -- `list_rows` meets its contract: after each row the numbers of those before it are written. Assumes nothing.
 use Prim.Native.Nat.{◌-◌}
 use native.Mathlib.Omega.{arith}
-use Rattle.edge_first_users.proofs.BodyLaws.{Numbering, numbering-none, numbering-more, numbering-all, number-end}
+use Rattle.edge_first_users.proofs.BodyLaws.{Numbering, numbering_none, numbering_more, numbering_all, number_end}
 use borrow.Author.Rules.{rules}
 use Rattle.edge_first_users.proofs.bodies.list_rows.Statement.{statement}
 use Rattle.edge_first_users.proofs.bodies.list_rows.Tie as tie
@@ -16,7 +16,7 @@ row-count-requires : tie.Need-row-count-requires invariant-loop decreases-loop
 row-count-requires c κs = search rules
 
 loop-holds : tie.Need-loop-init invariant-loop decreases-loop
-loop-holds c = numbering-none _ _ _
+loop-holds c = numbering_none _ _ _
 
 indices-requires : tie.Need-indices-requires invariant-loop decreases-loop
 indices-requires c κs = search rules
@@ -29,7 +29,7 @@ add-end c =
     let l = c.before in
     let q = l.before in
     let p = q.before.before.before.before.requires in
-    omega (arith, number-end p q.loop.invariant (omega (arith, l.loop-test.true, q.before.row_count.ensures)), c.indices.ensures)
+    omega (arith, number_end p q.loop.invariant (omega (arith, l.loop-test.true, q.before.row_count.ensures)), c.indices.ensures)
 
 fill-requires : tie.Need-fill-requires invariant-loop decreases-loop
 fill-requires c κs =
@@ -37,7 +37,7 @@ fill-requires c κs =
     let l = i.before in
     let q = l.before in
     let p = q.before.before.before.before.requires in
-    omega (arith, number-end p q.loop.invariant (omega (arith, l.loop-test.true, q.before.row_count.ensures)), i.indices.ensures)
+    omega (arith, number_end p q.loop.invariant (omega (arith, l.loop-test.true, q.before.row_count.ensures)), i.indices.ensures)
 
 add-k : tie.Need-overflow-add-k invariant-loop decreases-loop
 add-k c = search rules
@@ -52,13 +52,13 @@ loop-again c =
     let l = i.before in
     let q = l.before in
     let p = q.before.before.before.before.requires in
-    numbering-more p q.loop.invariant (omega (arith, l.loop-test.true, q.before.row_count.ensures)) (omega (arith, i.indices.ensures)) t.fill.ensures
+    numbering_more p q.loop.invariant (omega (arith, l.loop-test.true, q.before.row_count.ensures)) (omega (arith, i.indices.ensures)) t.fill.ensures
 
 same_length : tie.Need-same-length invariant-loop decreases-loop
 same_length c = search rules
 
 returns : tie.Need-returns invariant-loop decreases-loop
-returns c = numbering-all c.before.loop.invariant (omega (arith, c.loop-test.false, c.before.before.row_count.ensures))
+returns c = numbering_all c.before.loop.invariant (omega (arith, c.loop-test.false, c.before.before.row_count.ensures))
 
 pub list-rows-spec : {M : Type 1} → statement M
 list-rows-spec =

@@ -3,14 +3,14 @@ use mathlib.Core.Path.{refl}
 use Prim.Native.Nat.{◌-◌}
 use native.Mathlib.Omega.{arith}
 use lib.ListN.{drop}
-use Rattle.edge_uses.specs.Named.{useName}
-use Rattle.edge_first_users.proofs.BodyLaws.{WritingBody, body-none, body-all, v-end, i-end, name-ready, names_more}
+use Rattle.edge_uses.specs.Named.{use_name}
+use Rattle.edge_first_users.proofs.BodyLaws.{WritingBody, body_none, body_all, v_end, i_end, name_ready, names_more}
 use borrow.Author.Rules.{rules}
 use Rattle.edge_first_users.proofs.bodies.name_uses.Statement.{statement}
 use Rattle.edge_first_users.proofs.bodies.name_uses.Tie as tie
 
 abbrev invariant-loop : tie.invariant-loop
-invariant-loop rows indices w₀ points shells at n k₀ v₀ i₀ w k v i = WritingBody useName rows indices w₀ (drop shells w₀) points at k v i w
+invariant-loop rows indices w₀ points shells at n k₀ v₀ i₀ w k v i = WritingBody use_name rows indices w₀ (drop shells w₀) points at k v i w
 
 abbrev decreases-loop : tie.decreases-loop
 decreases-loop rows indices w₀ points shells at n k₀ v₀ i₀ w k v i = n - k
@@ -19,7 +19,7 @@ row-count-requires : tie.Need-row-count-requires invariant-loop decreases-loop
 row-count-requires c κs = search rules
 
 loop-holds : tie.Need-loop-init invariant-loop decreases-loop
-loop-holds c = body-none useName _ _ _ _ _ _
+loop-holds c = body_none use_name _ _ _ _ _ _
 
 vertices-requires : tie.Need-vertices-requires invariant-loop decreases-loop
 vertices-requires c κs = search rules
@@ -38,7 +38,7 @@ add-end c =
     let l = c.before.before in
     let q = l.before in
     let p = q.before.before.before.before.before.requires in
-    omega (arith, i-end p.body q.loop.invariant (omega (arith, l.loop-test.true, q.before.row_count.ensures)), c.indices.ensures, p.body.inside)
+    omega (arith, i_end p.body q.loop.invariant (omega (arith, l.loop-test.true, q.before.row_count.ensures)), c.indices.ensures, p.body.inside)
 
 add-shell : tie.Need-overflow-add-shell invariant-loop decreases-loop
 add-shell c = search rules
@@ -55,7 +55,7 @@ name-row-requires c κs =
     let l = i.before.before in
     let q = l.before in
     let p = q.before.before.before.before.before.requires in
-    name-ready p q.loop.invariant (omega (arith, l.loop-test.true, q.before.row_count.ensures)) i.before.vertices.ensures (omega (arith, i.indices.ensures)) refl
+    name_ready p q.loop.invariant (omega (arith, l.loop-test.true, q.before.row_count.ensures)) i.before.vertices.ensures (omega (arith, i.indices.ensures)) refl
 
 add-v : tie.Need-overflow-add-v invariant-loop decreases-loop
 add-v c =
@@ -63,7 +63,7 @@ add-v c =
     let l = i.before.before in
     let q = l.before in
     let p = q.before.before.before.before.before.requires in
-    omega (arith, v-end p.body q.loop.invariant (omega (arith, l.loop-test.true, q.before.row_count.ensures)), i.before.vertices.ensures, p.body.apart, p.body.room)
+    omega (arith, v_end p.body q.loop.invariant (omega (arith, l.loop-test.true, q.before.row_count.ensures)), i.before.vertices.ensures, p.body.apart, p.body.room)
 
 add-k : tie.Need-overflow-add-k invariant-loop decreases-loop
 add-k c = search rules
@@ -84,7 +84,7 @@ same_length : tie.Need-same-length invariant-loop decreases-loop
 same_length c = search rules
 
 returns : tie.Need-returns invariant-loop decreases-loop
-returns c = body-all c.before.loop.invariant (omega (arith, c.loop-test.false, c.before.before.row_count.ensures))
+returns c = body_all c.before.loop.invariant (omega (arith, c.loop-test.false, c.before.before.row_count.ensures))
 
 pub name-uses-spec : {M : Type 1} → statement M
 name-uses-spec =

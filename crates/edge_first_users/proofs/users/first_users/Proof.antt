@@ -1,5 +1,5 @@
 -- `first_users` meets its contract. Assumes nothing.
-use Rattle.edge_first_users.proofs.UserLaws.{users-found}
+use Rattle.edge_first_users.proofs.UserLaws.{users_found}
 use borrow.Author.Rules.{rules}
 use Rattle.edge_first_users.proofs.users.first_users.Statement.{statement}
 use Rattle.edge_first_users.proofs.users.first_users.Tie as tie
@@ -14,7 +14,7 @@ same_length : tie.Need-same-length
 same_length c = search rules
 
 returns : tie.Need-returns
-returns c = search users-found
+returns c = search users_found
 
 pub first-users-spec : {M : Type 1} → statement M
 first-users-spec = tie.close (tie.spec name-uses-requires join-words-at-requires same_length returns)

@@ -1,5 +1,5 @@
 -- `list_uses` meets its contract. Assumes nothing.
-use Rattle.edge_first_users.proofs.ListLaws.{rows-room, runs-room, uses-listed}
+use Rattle.edge_first_users.proofs.ListLaws.{rows_room, runs_room, uses_listed}
 use native.Mathlib.Omega.{arith}
 use borrow.Author.Rules.{rules}
 use Rattle.edge_first_users.proofs.users.list_uses.Statement.{statement}
@@ -15,7 +15,7 @@ add-list-rows : tie.Need-overflow-add-list-rows
 add-list-rows c = search rules
 
 list-rows-requires : tie.Need-list-rows-requires
-list-rows-requires c κs = search rows-room
+list-rows-requires c κs = search rows_room
 
 mul-list-runs : tie.Need-overflow-mul-list-runs
 mul-list-runs c = search rules
@@ -27,13 +27,13 @@ list-runs-requires : tie.Need-list-runs-requires
 list-runs-requires c κs =
     let r = c.before.before.before in
     let u = r.before.before.before.before in
-    runs-room u.before.before.before.before.before.requires u.first-users.ensures (omega arith) r.list-rows.ensures
+    runs_room u.before.before.before.before.before.requires u.first-users.ensures (omega arith) r.list-rows.ensures
 
 same_length : tie.Need-same-length
 same_length c = search rules
 
 returns : tie.Need-returns
-returns c = search uses-listed
+returns c = search uses_listed
 
 pub list-uses-spec : {M : Type 1} → statement M
 list-uses-spec =

@@ -1,7 +1,7 @@
 -- `count_uses` meets its contract: after use i the uses before it are counted. Assumes nothing.
 use mathlib.Core.Path.{refl}
 use Prim.Native.Nat.{◌-◌}
-use Rattle.edge_use_counts.proofs.CountLaws.{CountingUses, cleared-ready, counting-none, step-ready, counting_more, counting-all}
+use Rattle.edge_use_counts.proofs.CountLaws.{CountingUses, cleared_ready, counting_none, step_ready, counting_more, counting_all}
 use borrow.Author.Rules.{rules}
 use Rattle.edge_use_counts.proofs.counts.count_uses.Statement.{statement}
 use Rattle.edge_use_counts.proofs.counts.count_uses.Tie as tie
@@ -21,7 +21,7 @@ fill-requires c κs = search rules
 loop-holds : tie.Need-loop-init invariant-loop decreases-loop
 loop-holds c =
     let f = c.before.before in
-    counting-none f.before.before.before.requires refl f.fill.ensures
+    counting_none f.before.before.before.requires refl f.fill.ensures
 
 count-one-requires : tie.Need-count-one-requires invariant-loop decreases-loop
 count-one-requires c κs =
@@ -29,7 +29,7 @@ count-one-requires c κs =
     let q = l.before in
     let f = q.before.before.before in
     let p = f.before.before.before.requires in
-    step-ready (cleared-ready p refl f.fill.ensures) q.loop.invariant l.loop-test.true
+    step_ready (cleared_ready p refl f.fill.ensures) q.loop.invariant l.loop-test.true
 
 add-i : tie.Need-overflow-add-i invariant-loop decreases-loop
 add-i c = search rules
@@ -44,7 +44,7 @@ loop-again c =
     let q = l.before in
     let f = q.before.before.before in
     let p = f.before.before.before.requires in
-    counting_more (cleared-ready p refl f.fill.ensures) q.loop.invariant l.loop-test.true t.count-one.ensures
+    counting_more (cleared_ready p refl f.fill.ensures) q.loop.invariant l.loop-test.true t.count-one.ensures
 
 same_length : tie.Need-same-length invariant-loop decreases-loop
 same_length c = search rules
@@ -54,7 +54,7 @@ returns c =
     let q = c.before in
     let f = q.before.before.before in
     let p = f.before.before.before.requires in
-    counting-all p refl f.fill.ensures q.loop.invariant c.loop-test.false
+    counting_all p refl f.fill.ensures q.loop.invariant c.loop-test.false
 
 pub count-uses-spec : {M : Type 1} → statement M
 count-uses-spec =

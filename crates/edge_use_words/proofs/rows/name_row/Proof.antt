@@ -1,25 +1,25 @@
 -- `name_row` meets its contract: after each triangle the words of those before it are written. Assumes nothing.
 use Prim.Native.Nat.{◌-◌}
-use Rattle.edge_uses.specs.Named.{useName}
-use Rattle.edge_use_words.proofs.RowLaws.{Writing, writing-none, writing_more, writing-all, point-ready-0, point-ready-1, point-ready-2, three-room, points-low}
+use Rattle.edge_uses.specs.Named.{use_name}
+use Rattle.edge_use_words.proofs.RowLaws.{Writing, writing_none, writing_more, writing_all, point_ready_0, point_ready_1, point_ready_2, three_room, points_low}
 use borrow.Author.Rules.{rules}
 use Rattle.edge_use_words.proofs.rows.name_row.Statement.{statement}
 use Rattle.edge_use_words.proofs.rows.name_row.Tie as tie
 
 abbrev invariant-loop : tie.invariant-loop
-invariant-loop indices w₀ points vertices from to at shell k₀ w k = Writing useName indices w₀ points from to at shell k w
+invariant-loop indices w₀ points vertices from to at shell k₀ w k = Writing use_name indices w₀ points from to at shell k w
 
 abbrev decreases-loop : tie.decreases-loop
 decreases-loop indices w₀ points vertices from to at shell k₀ w k = to - k
 
 loop-holds : tie.Need-loop-init invariant-loop decreases-loop
-loop-holds c = writing-none useName _ c.before.before.requires.row
+loop-holds c = writing_none use_name _ c.before.before.requires.row
 
 point-at-requires : tie.Need-point-at-requires invariant-loop decreases-loop
 point-at-requires c κs =
     let l = c.before in
     let q = l.before in
-    point-ready-0 q.before.before.before.requires.row q.loop.invariant l.loop-test.true
+    point_ready_0 q.before.before.before.requires.row q.loop.invariant l.loop-test.true
 
 add-point-at : tie.Need-overflow-add-point-at invariant-loop decreases-loop
 add-point-at c = search rules
@@ -28,7 +28,7 @@ point-at-requires-2 : tie.Need-point-at-requires-2 invariant-loop decreases-loop
 point-at-requires-2 c κs =
     let l = c.before.before.before in
     let q = l.before in
-    point-ready-1 q.before.before.before.requires.row q.loop.invariant l.loop-test.true
+    point_ready_1 q.before.before.before.requires.row q.loop.invariant l.loop-test.true
 
 add-point-at-2 : tie.Need-overflow-add-point-at-2 invariant-loop decreases-loop
 add-point-at-2 c = search rules
@@ -37,7 +37,7 @@ point-at-requires-3 : tie.Need-point-at-requires-3 invariant-loop decreases-loop
 point-at-requires-3 c κs =
     let l = c.before.before.before.before.before in
     let q = l.before in
-    point-ready-2 q.before.before.before.requires.row q.loop.invariant l.loop-test.true
+    point_ready_2 q.before.before.before.requires.row q.loop.invariant l.loop-test.true
 
 add-name-triangle : tie.Need-overflow-add-name-triangle invariant-loop decreases-loop
 add-name-triangle c = search rules
@@ -52,9 +52,9 @@ name-triangle-requires c κs =
     let q = l.before in
     let s = q.before.before.before in
     record {
-      room = three-room s.requires.row q.loop.invariant l.loop-test.true;
-      shell-low = s.requires.shell-low;
-      low = points-low s.requires.row q.loop.invariant l.loop-test.true p1.point_at.ensures p2.point-at2.ensures p3.point-at3.ensures;
+      room = three_room s.requires.row q.loop.invariant l.loop-test.true;
+      shell_low = s.requires.shell_low;
+      low = points_low s.requires.row q.loop.invariant l.loop-test.true p1.point_at.ensures p2.point-at2.ensures p3.point-at3.ensures;
     }
 
 add-k : tie.Need-overflow-add-k invariant-loop decreases-loop
@@ -77,7 +77,7 @@ same_length : tie.Need-same-length invariant-loop decreases-loop
 same_length c = search rules
 
 returns : tie.Need-returns invariant-loop decreases-loop
-returns c = writing-all c.before.loop.invariant c.loop-test.false
+returns c = writing_all c.before.loop.invariant c.loop-test.false
 
 pub name-row-spec : {M : Type 1} → statement M
 name-row-spec =

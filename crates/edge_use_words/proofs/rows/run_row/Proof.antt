@@ -1,25 +1,25 @@
 -- `run_row` meets its contract: after each triangle the words of those before it are written. Assumes nothing.
 use Prim.Native.Nat.{◌-◌}
-use Rattle.edge_uses.specs.Named.{useRun}
-use Rattle.edge_use_words.proofs.RowLaws.{Writing, writing-none, writing_more, writing-all, point-ready-0, point-ready-1, point-ready-2, three-room}
+use Rattle.edge_uses.specs.Named.{use_run}
+use Rattle.edge_use_words.proofs.RowLaws.{Writing, writing_none, writing_more, writing_all, point_ready_0, point_ready_1, point_ready_2, three_room}
 use borrow.Author.Rules.{rules}
 use Rattle.edge_use_words.proofs.rows.run_row.Statement.{statement}
 use Rattle.edge_use_words.proofs.rows.run_row.Tie as tie
 
 abbrev invariant-loop : tie.invariant-loop
-invariant-loop indices w₀ points vertices from to at k₀ w k = Writing useRun indices w₀ points from to at 0 k w
+invariant-loop indices w₀ points vertices from to at k₀ w k = Writing use_run indices w₀ points from to at 0 k w
 
 abbrev decreases-loop : tie.decreases-loop
 decreases-loop indices w₀ points vertices from to at k₀ w k = to - k
 
 loop-holds : tie.Need-loop-init invariant-loop decreases-loop
-loop-holds c = writing-none useRun _ c.before.before.requires
+loop-holds c = writing_none use_run _ c.before.before.requires
 
 point-at-requires : tie.Need-point-at-requires invariant-loop decreases-loop
 point-at-requires c κs =
     let l = c.before in
     let q = l.before in
-    point-ready-0 q.before.before.before.requires q.loop.invariant l.loop-test.true
+    point_ready_0 q.before.before.before.requires q.loop.invariant l.loop-test.true
 
 add-point-at : tie.Need-overflow-add-point-at invariant-loop decreases-loop
 add-point-at c = search rules
@@ -28,7 +28,7 @@ point-at-requires-2 : tie.Need-point-at-requires-2 invariant-loop decreases-loop
 point-at-requires-2 c κs =
     let l = c.before.before.before in
     let q = l.before in
-    point-ready-1 q.before.before.before.requires q.loop.invariant l.loop-test.true
+    point_ready_1 q.before.before.before.requires q.loop.invariant l.loop-test.true
 
 add-point-at-2 : tie.Need-overflow-add-point-at-2 invariant-loop decreases-loop
 add-point-at-2 c = search rules
@@ -37,7 +37,7 @@ point-at-requires-3 : tie.Need-point-at-requires-3 invariant-loop decreases-loop
 point-at-requires-3 c κs =
     let l = c.before.before.before.before.before in
     let q = l.before in
-    point-ready-2 q.before.before.before.requires q.loop.invariant l.loop-test.true
+    point_ready_2 q.before.before.before.requires q.loop.invariant l.loop-test.true
 
 add-run-triangle : tie.Need-overflow-add-run-triangle invariant-loop decreases-loop
 add-run-triangle c = search rules
@@ -50,7 +50,7 @@ run-triangle-requires c κs =
     let p1 = p2.before.before in
     let l = p1.before.before in
     let q = l.before in
-    three-room q.before.before.before.requires q.loop.invariant l.loop-test.true
+    three_room q.before.before.before.requires q.loop.invariant l.loop-test.true
 
 add-k : tie.Need-overflow-add-k invariant-loop decreases-loop
 add-k c = search rules
@@ -72,7 +72,7 @@ same_length : tie.Need-same-length invariant-loop decreases-loop
 same_length c = search rules
 
 returns : tie.Need-returns invariant-loop decreases-loop
-returns c = writing-all c.before.loop.invariant c.loop-test.false
+returns c = writing_all c.before.loop.invariant c.loop-test.false
 
 pub run-row-spec : {M : Type 1} → statement M
 run-row-spec =

@@ -1,5 +1,5 @@
 -- `edge_name` meets its contract. Assumes nothing.
-use Rattle.edge_uses.specs.Named.{edgeName}
+use Rattle.edge_uses.specs.Named.{edge_name}
 use borrow.Author.Rules.{rules}
 use Rattle.edge_use_words.proofs.words.edge_name.Statement.{statement}
 use Rattle.edge_use_words.proofs.words.edge_name.Tie as tie
@@ -17,7 +17,7 @@ add-result-2 : tie.Need-overflow-add-result-2
 add-result-2 c = search rules
 
 returns : tie.Need-returns
-unfolding edgeName
+unfolding edge_name
 returns c = search rules
 
 mul-result-3 : tie.Need-overflow-mul-result-3
@@ -33,7 +33,7 @@ add-result-4 : tie.Need-overflow-add-result-4
 add-result-4 c = search rules
 
 returns-2 : tie.Need-returns-2
-unfolding edgeName
+unfolding edge_name
 returns-2 c = search rules
 
 pub edge-name-spec : {M : Type 1} → statement M

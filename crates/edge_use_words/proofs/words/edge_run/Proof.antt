@@ -1,10 +1,10 @@
 -- `edge_run` meets its contract. Assumes nothing.
-use Rattle.edge_use_words.proofs.WordLaws.{run-equal, run_up, run_down}
+use Rattle.edge_use_words.proofs.WordLaws.{run_equal, run_up, run_down}
 use Rattle.edge_use_words.proofs.words.edge_run.Statement.{statement}
 use Rattle.edge_use_words.proofs.words.edge_run.Tie as tie
 
 returns : tie.Need-returns
-returns c = search run-equal
+returns c = search run_equal
 
 returns-2 : tie.Need-returns-2
 returns-2 c = search run_up

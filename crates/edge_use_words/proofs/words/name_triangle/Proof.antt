@@ -1,7 +1,7 @@
 -- `name_triangle` meets its contract: three stores in turn. Assumes nothing.
 use native.Mathlib.Omega.{arith}
 use lib.ListN.{length-set}
-use Rattle.edge_use_words.proofs.RowLaws.{three-written}
+use Rattle.edge_use_words.proofs.RowLaws.{three_written}
 use borrow.Author.Rules.{rules}
 use Rattle.edge_use_words.proofs.words.name_triangle.Statement.{statement}
 use Rattle.edge_use_words.proofs.words.name_triangle.Tie as tie
@@ -45,7 +45,7 @@ same_length c = search rules
 returns : tie.Need-returns
 returns c =
     let s = c.before.before.before.before.args in
-    three-written s.w.now s.at c.before.before.edge-name.ensures c.before.edge-name2.ensures c.edge-name3.ensures
+    three_written s.w.now s.at c.before.before.edge-name.ensures c.before.edge-name2.ensures c.edge-name3.ensures
 
 pub name-triangle-spec : {M : Type 1} → statement M
 name-triangle-spec =

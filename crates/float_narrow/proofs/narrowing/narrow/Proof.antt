@@ -6,17 +6,17 @@ use native.Mathlib.Omega.{arith}
 use lib.Pow.{pow_mono}
 use native.Mathlib.Nat.{lt_of_lt_of_le}
 use lib.Ieee.Nearest.{closest}
-use Rattle.float_steps.specs.Patterns.{sign, field, tail, sign-weight}
-use Rattle.float_narrow.proofs.NarrowBits.{nearest-small, narrow-zero, narrow-subnormal, narrow-normal, narrow-nan}
+use Rattle.float_steps.specs.Patterns.{sign, field, tail, sign_weight}
+use Rattle.float_narrow.proofs.NarrowBits.{nearest_small, narrow_zero, narrow_subnormal, narrow_normal, narrow_nan}
 use borrow.Author.Rules.{rules}
 use Rattle.float_narrow.proofs.narrowing.narrow.Statement.{statement}
 use Rattle.float_narrow.proofs.narrowing.narrow.Tie as tie
 
 weight : (c : tie.Start) → cond (sign c.args.b) 2147483648 0 ≡ c.args.b / 9223372036854775808 * 2147483648
-weight c = sign-weight c.args.b 2147483648 (omega arith)
+weight c = sign_weight c.args.b 2147483648 (omega arith)
 
 few : (c : tie.Start) → 872 ≤ field c.args.b → field c.args.b < 897 → closest (4503599627370496 + tail c.args.b) (2 ^ (926 - field c.args.b)) ≤ 2 ^ 24
-few c h k = nearest-small (4503599627370496 + tail c.args.b) 24 (926 - field c.args.b) (lt_of_lt_of_le {m = 2 ^ 53} (omega arith) (pow_mono {i = 53} {j = 24 + (926 - field c.args.b)} (omega arith)))
+few c h k = nearest_small (4503599627370496 + tail c.args.b) 24 (926 - field c.args.b) (lt_of_lt_of_le {m = 2 ^ 53} (omega arith) (pow_mono {i = 53} {j = 24 + (926 - field c.args.b)} (omega arith)))
 
 mul-s : tie.Need-overflow-mul-s
 mul-s c = search rules
@@ -28,7 +28,7 @@ cast-result : tie.Need-overflow-cast-result
 cast-result c = search rules
 
 returns : tie.Need-returns
-returns c = let b = c.before.args.b in omega (arith, narrow-zero b c.if1.true, weight c.before)
+returns c = let b = c.before.args.b in omega (arith, narrow_zero b c.if1.true, weight c.before)
 
 sub-nearest : tie.Need-overflow-sub-nearest
 sub-nearest c = search rules
@@ -43,10 +43,10 @@ cast-result-2 : tie.Need-overflow-cast-result-2
 cast-result-2 c = omega (arith, c.nearest.ensures, few c.before.before.before c.before.before.if1.false c.before.if2.true)
 
 returns-2 : tie.Need-returns-2
-returns-2 c = let s = c.before.before.before in omega (arith, c.nearest.ensures, narrow-subnormal s.args.b c.before.before.if1.false c.before.if2.true, weight s)
+returns-2 c = let s = c.before.before.before in omega (arith, c.nearest.ensures, narrow_subnormal s.args.b c.before.before.if1.false c.before.if2.true, weight s)
 
 returns-3 : tie.Need-returns-3
-returns-3 c = sym (narrow-nan c.before.before.before.args.b c.if3.true)
+returns-3 c = sym (narrow_nan c.before.before.before.args.b c.if3.true)
 
 mul-n : tie.Need-overflow-mul-n
 mul-n c = search rules
@@ -55,7 +55,7 @@ nearest-requires-2 : tie.Need-nearest-requires-2
 nearest-requires-2 c κs = search rules
 
 add-n : tie.Need-overflow-add-n
-add-n c = let b = c.before.before.before.before.args.b in omega (arith, c.nearest2.ensures, nearest-small (4503599627370496 + tail b) 24 29 (omega arith))
+add-n c = let b = c.before.before.before.before.args.b in omega (arith, c.nearest2.ensures, nearest_small (4503599627370496 + tail b) 24 29 (omega arith))
 
 add-result-2 : tie.Need-overflow-add-result-2
 add-result-2 c = search rules
@@ -70,10 +70,10 @@ cast-result-4 : tie.Need-overflow-cast-result-4
 cast-result-4 c = search rules
 
 returns-4 : tie.Need-returns-4
-returns-4 c = let s = c.before.before.before.before.before in omega (arith, c.before.nearest2.ensures, narrow-normal s.args.b c.before.before.before.if2.false c.before.before.if3.false, weight s)
+returns-4 c = let s = c.before.before.before.before.before in omega (arith, c.before.nearest2.ensures, narrow_normal s.args.b c.before.before.before.if2.false c.before.before.if3.false, weight s)
 
 returns-5 : tie.Need-returns-5
-returns-5 c = let s = c.before.before.before.before.before in omega (arith, c.before.nearest2.ensures, narrow-normal s.args.b c.before.before.before.if2.false c.before.before.if3.false, weight s)
+returns-5 c = let s = c.before.before.before.before.before in omega (arith, c.before.nearest2.ensures, narrow_normal s.args.b c.before.before.before.if2.false c.before.before.if3.false, weight s)
 
 pub narrow-spec : {M : Type 1} → statement M
 narrow-spec =

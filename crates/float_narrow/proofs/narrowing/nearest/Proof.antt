@@ -5,7 +5,7 @@ use native.Mathlib.Omega.{arith}
 use lib.Pow.{pow_pos, pow_mono}
 use lib.Ieee.Nearest.{closest}
 use Rattle.float_rounding.specs.Near.{twice}
-use Rattle.float_narrow.proofs.NarrowBits.{nearest-sum}
+use Rattle.float_narrow.proofs.NarrowBits.{nearest_sum}
 use borrow.Author.Rules.{rules}
 use Rattle.float_narrow.proofs.narrowing.nearest.Statement.{statement}
 use Rattle.float_narrow.proofs.narrowing.nearest.Tie as tie
@@ -38,7 +38,7 @@ returns : tie.Need-returns
 returns c = let a = c.before.args in
     let k : 0 < a.k = omega arith in
     ap (λ (h : ℕ). (a.m + (h - 1) + a.m / 2 ^ a.k % 2) / 2 ^ a.k) c.power.ensures
-    ∙ subst (λ (u : ℕ). (a.m + (2 ^ (a.k - 1) - 1) + a.m / u % 2) / u ≡ closest a.m u) (sym (twice a.k k)) (nearest-sum a.m (2 ^ (a.k - 1)) (pow_pos (a.k - 1)))
+    ∙ subst (λ (u : ℕ). (a.m + (2 ^ (a.k - 1) - 1) + a.m / u % 2) / u ≡ closest a.m u) (sym (twice a.k k)) (nearest_sum a.m (2 ^ (a.k - 1)) (pow_pos (a.k - 1)))
 
 pub nearest-spec : {M : Type 1} → statement M
 nearest-spec =

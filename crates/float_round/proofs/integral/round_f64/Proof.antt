@@ -2,9 +2,9 @@
 use mathlib.Core.Path.{ap, ◌∙◌}
 use lib.Ieee.{binary64}
 use Rattle.float_steps.specs.Floats.{f64}
-use Rattle.float_round.specs.Integral.{roundAway, roundBits}
+use Rattle.float_round.specs.Integral.{round_away, round_bits}
 use Rattle.float_steps.specs.Patterns.{through}
-use Rattle.float_round.proofs.RoundBits.{round-away-fits}
+use Rattle.float_round.proofs.RoundBits.{round_away_fits}
 use borrow.Author.Rules.{rules}
 use Rattle.float_round.proofs.integral.round_f64.Statement.{statement}
 use Rattle.float_round.proofs.integral.round_f64.Tie as tie
@@ -20,8 +20,8 @@ f64-of-bits-requires c κs = search rules
 
 returns : tie.Need-returns
 returns c = let x = c.before.before.before.args.x in
-    c.f64-of-bits.ensures ∙ ap f64 (c.before.round.ensures ∙ ap roundBits c.before.before.bits-of-f64.ensures)
-    ∙ through binary64 binary64 roundAway x c.before.before.before.well-formed.0.1 (λ y f. round-away-fits y)
+    c.f64-of-bits.ensures ∙ ap f64 (c.before.round.ensures ∙ ap round_bits c.before.before.bits-of-f64.ensures)
+    ∙ through binary64 binary64 round_away x c.before.before.before.well-formed.0.1 (λ y f. round_away_fits y)
 
 pub round-f64-spec : {M : Type 1} → statement M
 round-f64-spec =

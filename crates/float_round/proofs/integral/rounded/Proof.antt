@@ -5,8 +5,8 @@ use native.Mathlib.Nat.{pow-succ'}
 use native.Mathlib.Numerals.{add-one}
 use native.Mathlib.Omega.{arith}
 use lib.Pow.{pow_mono}
-use Rattle.float_round.specs.Integral.{halfUp}
-use Rattle.float_round.proofs.RoundBits.{halfUp-le}
+use Rattle.float_round.specs.Integral.{half_up}
+use Rattle.float_round.proofs.RoundBits.{half_up_le}
 use borrow.Author.Rules.{rules}
 use Rattle.float_round.proofs.integral.rounded.Statement.{statement}
 use Rattle.float_round.proofs.integral.rounded.Tie as tie
@@ -36,10 +36,10 @@ shr-result : tie.Need-overflow-shr-result
 shr-result c = search rules
 
 mul-result-2 : tie.Need-overflow-mul-result-2
-mul-result-2 c = record { fits = small ((c.before.args.m * 2 + c.power.result) / 2 ^ (c.before.args.k + 1) * c.power.result) c.power.result (2 ^ c.before.args.k) (halfUp c.before.args.m c.power.result) c.before.args.m (power_le c) c.power.ensures (ap (λ (z : ℕ). (c.before.args.m * 2 + c.power.result) / z * c.power.result) (doubled c)) (halfUp-le c.before.args.m c.power.result) (omega arith) }
+mul-result-2 c = record { fits = small ((c.before.args.m * 2 + c.power.result) / 2 ^ (c.before.args.k + 1) * c.power.result) c.power.result (2 ^ c.before.args.k) (half_up c.before.args.m c.power.result) c.before.args.m (power_le c) c.power.ensures (ap (λ (z : ℕ). (c.before.args.m * 2 + c.power.result) / z * c.power.result) (doubled c)) (half_up_le c.before.args.m c.power.result) (omega arith) }
 
 returns : tie.Need-returns
-returns c = ap (λ (z : ℕ). (c.before.args.m * 2 + c.power.result) / z * c.power.result) (doubled c) ∙ ap (λ (u : ℕ). halfUp c.before.args.m u * u) c.power.ensures
+returns c = ap (λ (z : ℕ). (c.before.args.m * 2 + c.power.result) / z * c.power.result) (doubled c) ∙ ap (λ (u : ℕ). half_up c.before.args.m u * u) c.power.ensures
 
 pub rounded-spec : {M : Type 1} → statement M
 rounded-spec =

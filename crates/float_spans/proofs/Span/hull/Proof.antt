@@ -1,6 +1,6 @@
 -- `float_spans::Span::hull` meets its contract. Assumes nothing.
 use borrow.Author.Rules.{rules}
-use Rattle.float_spans.proofs.SpanLaws.{hull-is}
+use Rattle.float_spans.proofs.SpanLaws.{hull_is}
 use Rattle.float_spans.proofs.Span.hull.Statement.{statement}
 use Rattle.float_spans.proofs.Span.hull.Tie as tie
 
@@ -11,7 +11,7 @@ higher-of-requires : tie.Need-higher-of-requires
 higher-of-requires c κs = search rules
 
 returns : tie.Need-returns
-returns c = search hull-is
+returns c = search hull_is
 
 pub hull-spec : {M : Type 1} → statement M
 hull-spec = tie.close (tie.spec lower-of-requires higher-of-requires returns)

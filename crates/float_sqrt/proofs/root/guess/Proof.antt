@@ -1,7 +1,7 @@
 -- `float_sqrt::root::guess` is safe, and its answer has 53 bits. Assumes nothing.
 use native.Mathlib.Omega.{arith}
 use lib.Ieee.{binary64}
-use Rattle.float_rounding.specs.Fields.{no-nan-bits}
+use Rattle.float_rounding.specs.Fields.{no_nan_bits}
 use borrow.Author.Rules.{rules}
 use Rattle.float_sqrt.proofs.root.guess.Statement.{statement}
 use Rattle.float_sqrt.proofs.root.guess.Tie as tie
@@ -16,13 +16,13 @@ add-b-2 : tie.Need-overflow-add-b-2
 add-b-2 c = search rules
 
 float-from-bits-x : tie.Need-float-from-bits-x
-float-from-bits-x c = no-nan-bits binary64 _ (omega arith)
+float-from-bits-x c = no_nan_bits binary64 _ (omega arith)
 
 sub-y0 : tie.Need-overflow-sub-y0
 sub-y0 c = search rules
 
 float-from-bits-y0 : tie.Need-float-from-bits-y0
-float-from-bits-y0 c = no-nan-bits binary64 _ (omega arith)
+float-from-bits-y0 c = no_nan_bits binary64 _ (omega arith)
 
 bits-of-f64-requires : tie.Need-bits-of-f64-requires
 bits-of-f64-requires c κs = search rules

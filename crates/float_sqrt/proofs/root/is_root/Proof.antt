@@ -1,15 +1,15 @@
 -- `float_sqrt::root::is_root` meets its contract. Assumes nothing.
 use native.Mathlib.Omega.{arith}
-use Rattle.float_sqrt.proofs.Guess.{square-high, square-mixed, square-rest, tested, refused}
+use Rattle.float_sqrt.proofs.Guess.{square_high, square_mixed, square_rest, tested, refused}
 use borrow.Author.Rules.{rules}
 use Rattle.float_sqrt.proofs.root.is_root.Statement.{statement}
 use Rattle.float_sqrt.proofs.root.is_root.Tie as tie
 
 mul-b : tie.Need-overflow-mul-b
-mul-b c = omega (arith, square-high c.args.q (omega arith))
+mul-b c = omega (arith, square_high c.args.q (omega arith))
 
 mul-b-2 : tie.Need-overflow-mul-b-2
-mul-b-2 c = omega (arith, square-high c.args.q (omega arith))
+mul-b-2 c = omega (arith, square_high c.args.q (omega arith))
 
 add-if1 : tie.Need-overflow-add-if1
 add-if1 c = search rules
@@ -27,7 +27,7 @@ returns-2 : tie.Need-returns-2
 returns-2 c = refused
 
 mul-d : tie.Need-overflow-mul-d
-mul-d c = omega (arith, square-mixed c.before.before.args.q (omega arith))
+mul-d c = omega (arith, square_mixed c.before.before.args.q (omega arith))
 
 mul-if3 : tie.Need-overflow-mul-if3
 mul-if3 c = search rules
@@ -48,10 +48,10 @@ mul-r : tie.Need-overflow-mul-r
 mul-r c = search rules
 
 mul-w : tie.Need-overflow-mul-w
-mul-w c = omega (arith, square-rest c.before.before.before.before.args.q (omega arith))
+mul-w c = omega (arith, square_rest c.before.before.before.before.args.q (omega arith))
 
 add-w : tie.Need-overflow-add-w
-add-w c = omega (arith, square-rest c.before.before.before.before.args.q (omega arith))
+add-w c = omega (arith, square_rest c.before.before.before.before.args.q (omega arith))
 
 add-if5 : tie.Need-overflow-add-if5
 add-if5 c = search rules

@@ -2,7 +2,7 @@
 use native.Mathlib.Omega.{arith}
 use Prim.Native.Nat.{◌+◌, ◌*◌, ◌%◌}
 use Rattle.float_sqrt.proofs.Guess.{Kept, kept, pattern}
-use Rattle.float_sqrt.proofs.SqrtBits.{nearest-lt}
+use Rattle.float_sqrt.proofs.SqrtBits.{nearest_lt}
 use borrow.Author.Rules.{rules}
 use Rattle.float_sqrt.proofs.root.root_bits.Statement.{statement}
 use Rattle.float_sqrt.proofs.root.root_bits.Tie as tie
@@ -29,7 +29,7 @@ mul-result : tie.Need-overflow-mul-result
 mul-result c = search rules
 
 add-result : tie.Need-overflow-add-result
-add-result c = omega (arith, c.root.ensures, nearest-lt _ (scaled c.before.before).lo (scaled c.before.before).hi)
+add-result c = omega (arith, c.root.ensures, nearest_lt _ (scaled c.before.before).lo (scaled c.before.before).hi)
 
 returns : tie.Need-returns
 returns c = let a = c.before.before.args in omega (arith, c.root.ensures, pattern a.m a.e (omega arith) (omega arith) (omega arith) (omega arith))

@@ -1,5 +1,5 @@
 -- `join_points::vertices::join_points` meets its contract. Assumes nothing.
-use Rattle.join_points.proofs.Rules.{points-ready, points-joined}
+use Rattle.join_points.proofs.Rules.{points_ready, points_joined}
 use borrow.Author.Rules.{rules}
 use Rattle.join_points.proofs.vertices.join_points.Statement.{statement}
 use Rattle.join_points.proofs.vertices.join_points.Tie as tie
@@ -11,13 +11,13 @@ source-of-requires : tie.Need-source-of-requires
 source-of-requires c κs = search rules
 
 join-table-requires : tie.Need-join-table-requires
-join-table-requires c κs = search points-ready
+join-table-requires c κs = search points_ready
 
 same_length : tie.Need-same-length
 same_length c = search rules
 
 returns : tie.Need-returns
-returns c = search points-joined
+returns c = search points_joined
 
 pub join-points-spec : {M : Type 1} → statement M
 join-points-spec =

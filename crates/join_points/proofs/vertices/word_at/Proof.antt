@@ -1,5 +1,5 @@
 -- `word_at` meets its contract. Assumes nothing.
-use Rattle.join_points.proofs.Rules.{key-word, bits-word, zeros-word}
+use Rattle.join_points.proofs.Rules.{key_word, bits_word, zeros_word}
 use borrow.Author.Rules.{rules}
 use Rattle.join_points.proofs.vertices.word_at.Statement.{statement}
 use Rattle.join_points.proofs.vertices.word_at.Tie as tie
@@ -23,13 +23,13 @@ digest-at-requires-2 : tie.Need-digest-at-requires-2
 digest-at-requires-2 c κs = search rules
 
 returns : tie.Need-returns
-returns c = search key-word
+returns c = search key_word
 
 returns-2 : tie.Need-returns-2
-returns-2 c = search bits-word
+returns-2 c = search bits_word
 
 returns-3 : tie.Need-returns-3
-returns-3 c = search zeros-word
+returns-3 c = search zeros_word
 
 pub word-at-spec : {M : Type 1} → statement M
 word-at-spec =

@@ -1,5 +1,5 @@
 -- `join_points::vertices::write_words` meets its contract. Assumes nothing.
-use Rattle.join_points.proofs.Rules.{fit-within, fit-more, fit_all}
+use Rattle.join_points.proofs.Rules.{fit_within, fit_more, fit_all}
 use Rattle.join_points.proofs.Loops.{Written, written_none}
 use Rattle.join_points.specs.Rules.{words_of}
 use Prim.Native.Nat.{◌-◌}
@@ -17,7 +17,7 @@ loop-holds : tie.Need-loop-init invariant-loop decreases-loop
 loop-holds c = search written_none
 
 word-at-requires : tie.Need-word-at-requires invariant-loop decreases-loop
-word-at-requires c κs = search fit-within
+word-at-requires c κs = search fit_within
 
 mul-w : tie.Need-overflow-mul-w invariant-loop decreases-loop
 mul-w c = search rules
@@ -32,7 +32,7 @@ loop-less : tie.Need-loop-smaller invariant-loop decreases-loop
 loop-less c = search rules
 
 loop-again : tie.Need-loop-preserved invariant-loop decreases-loop
-loop-again c = search fit-more
+loop-again c = search fit_more
 
 same_length : tie.Need-same-length invariant-loop decreases-loop
 same_length c = search rules

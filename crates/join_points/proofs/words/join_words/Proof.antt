@@ -1,5 +1,5 @@
 -- `join_points::words::join_words` meets its contract. Assumes nothing.
-use Rattle.join_points.proofs.Rules.{words-ready}
+use Rattle.join_points.proofs.Rules.{words_ready}
 use Rattle.join_table.specs.Naming.{names_of}
 use borrow.Author.Rules.{rules}
 use Rattle.join_points.proofs.words.join_words.Statement.{statement}
@@ -10,7 +10,7 @@ slice-aggregate-join-table c = search rules
 
 join-table-requires : tie.Need-join-table-requires
 unfolding names_of
-join-table-requires c κs = search words-ready
+join-table-requires c κs = search words_ready
 
 same_length : tie.Need-same-length
 same_length c = search rules

@@ -1,5 +1,5 @@
 -- `join_words_at` meets its contract. Assumes nothing.
-use Rattle.join_points.proofs.Parts.{joined-part}
+use Rattle.join_points.proofs.Parts.{joined_part}
 use borrow.Author.Rules.{rules}
 use Rattle.join_points.proofs.words.join_words_at.Statement.{statement}
 use Rattle.join_points.proofs.words.join_words_at.Tie as tie
@@ -29,7 +29,7 @@ same_length : tie.Need-same-length
 same_length c = search rules
 
 returns : tie.Need-returns
-returns c = search joined-part
+returns c = search joined_part
 
 pub join-words-at-spec : {M : Type 1} → statement M
 join-words-at-spec =

@@ -1,7 +1,7 @@
 -- `assemble` meets its contract. A body that no check refuses is assembled. Assumes nothing.
 use mathlib.Core.Path.{sym, ◌∙◌}
 use Rattle.body_checks.specs.Accepted.{passed}
-use Rattle.mesh_assemble.proofs.CallLaws.{call-done, call-refused}
+use Rattle.mesh_assemble.proofs.CallLaws.{call_done, call_refused}
 use borrow.Author.Rules.{rules}
 use Rattle.mesh_assemble.proofs.assembling.assemble.Statement.{statement}
 use Rattle.mesh_assemble.proofs.assembling.assemble.Tie as tie
@@ -34,10 +34,10 @@ same-length-7 : tie.Need-same-length-7
 same-length-7 c = search rules
 
 returns : tie.Need-returns
-returns c = call-done _ _ _ _ _ _ _ _ c.before.before.before.before.before.before.before.before.before.before.before.before.before.before.before.before.before.before.before.before.before.before.before.first-failing.ensures c.before.before.before.before.before.before.before.before.before.before.before.before.before.before.before.before.before.before.before.before.before.before.if1.true c.before.before.before.before.before.before.before.before.before.before.before.before.before.before.assemble-accepted.ensures
+returns c = call_done _ _ _ _ _ _ _ _ c.before.before.before.before.before.before.before.before.before.before.before.before.before.before.before.before.before.before.before.before.before.before.before.first-failing.ensures c.before.before.before.before.before.before.before.before.before.before.before.before.before.before.before.before.before.before.before.before.before.before.if1.true c.before.before.before.before.before.before.before.before.before.before.before.before.before.before.assemble-accepted.ensures
 
 returns-2 : tie.Need-returns-2
-returns-2 c = call-refused _ _ _ _ _ _ _ _ c.before.first-failing.ensures c.if1.false
+returns-2 c = call_refused _ _ _ _ _ _ _ _ c.before.first-failing.ensures c.if1.false
 
 pub assemble-spec : {M : Type 1} → statement M
 assemble-spec =

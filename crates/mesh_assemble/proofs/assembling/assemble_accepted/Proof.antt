@@ -1,6 +1,6 @@
 -- `assemble_accepted` meets its contract. What is cleared in the end does not matter to what was written. Assumes nothing.
 use Rattle.body_checks.specs.Cleared.{clearable}
-use Rattle.mesh_assemble.proofs.CallLaws.{accepted-assembled}
+use Rattle.mesh_assemble.proofs.CallLaws.{accepted_assembled}
 use borrow.Author.Rules.{rules}
 use Rattle.mesh_assemble.proofs.assembling.assemble_accepted.Statement.{statement}
 use Rattle.mesh_assemble.proofs.assembling.assemble_accepted.Tie as tie
@@ -39,7 +39,7 @@ returns : tie.Need-returns
 returns c =
     let r = c.before.before.before.before.before.before.before.before.before.before.before.before.before.before.before.before.before.before in
     let s = r.before.before.before.before.before.before.before.before.before.before.before.before.before.before.before.before.before.before.before.before.before in
-    accepted-assembled _ s.requires r.assemble-rows.ensures c.before.before.clear-words.ensures
+    accepted_assembled _ s.requires r.assemble-rows.ensures c.before.before.clear-words.ensures
 
 pub assemble-accepted-spec : {M : Type 1} → statement M
 assemble-accepted-spec =

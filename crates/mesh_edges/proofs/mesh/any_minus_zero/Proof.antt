@@ -2,20 +2,20 @@
 use borrow.Author.Rules.{rules}
 use Prim.Native.Nat.{◌-◌}
 use lib.ListN.{length}
-use Rattle.lists.specs.Any.{Looked, looked-all, looked-none}
-use Rattle.point_rules.specs.Zeros.{minusZero}
-use Rattle.mesh_edges.proofs.ClosedLaws.{minus-more}
+use Rattle.lists.specs.Any.{Looked, looked_all, looked_none}
+use Rattle.point_rules.specs.Zeros.{minus_zero}
+use Rattle.mesh_edges.proofs.ClosedLaws.{minus_more}
 use Rattle.mesh_edges.proofs.mesh.any_minus_zero.Statement.{statement}
 use Rattle.mesh_edges.proofs.mesh.any_minus_zero.Tie as tie
 
 abbrev invariant-loop : tie.invariant-loop
-invariant-loop positions found₀ k₀ found k = Looked minusZero positions k found
+invariant-loop positions found₀ k₀ found k = Looked minus_zero positions k found
 
 abbrev decreases-loop : tie.decreases-loop
 decreases-loop positions found₀ k₀ found k = length positions - k
 
 loop-holds : tie.Need-loop-init invariant-loop decreases-loop
-loop-holds c = search looked-none
+loop-holds c = search looked_none
 
 mul-bits-of-f32 : tie.Need-overflow-mul-bits-of-f32 invariant-loop decreases-loop
 mul-bits-of-f32 c = search rules
@@ -33,10 +33,10 @@ loop-less : tie.Need-loop-smaller invariant-loop decreases-loop
 loop-less c = search rules
 
 loop-again : tie.Need-loop-preserved invariant-loop decreases-loop
-loop-again c = search minus-more
+loop-again c = search minus_more
 
 returns : tie.Need-returns invariant-loop decreases-loop
-returns c = search looked-all
+returns c = search looked_all
 
 pub any-minus-zero-spec : {M : Type 1} → statement M
 any-minus-zero-spec =

@@ -1,5 +1,5 @@
 -- `closed_mesh` meets its contract. Assumes nothing.
-use Rattle.mesh_edges.proofs.ClosedLaws.{closed-once, closed-twice}
+use Rattle.mesh_edges.proofs.ClosedLaws.{closed_once, closed_twice}
 use borrow.Author.Rules.{rules}
 use Rattle.mesh_edges.proofs.mesh.closed_mesh.Statement.{statement}
 use Rattle.mesh_edges.proofs.mesh.closed_mesh.Tie as tie
@@ -11,7 +11,7 @@ is-closed-requires : tie.Need-is-closed-requires
 is-closed-requires c κs = search rules
 
 returns : tie.Need-returns
-returns c = search closed-once
+returns c = search closed_once
 
 count-edges-requires : tie.Need-count-edges-requires
 count-edges-requires c κs = search rules
@@ -23,7 +23,7 @@ same_length : tie.Need-same-length
 same_length c = search rules
 
 returns-2 : tie.Need-returns-2
-returns-2 c = search closed-twice
+returns-2 c = search closed_twice
 
 pub closed-mesh-spec : {M : Type 1} → statement M
 closed-mesh-spec =

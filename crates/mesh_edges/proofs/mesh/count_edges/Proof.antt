@@ -1,5 +1,5 @@
 -- `count_edges` meets its contract. Assumes nothing.
-use Rattle.mesh_edges.proofs.MeshLaws.{runs-ready, mesh-counted}
+use Rattle.mesh_edges.proofs.MeshLaws.{runs_ready, mesh_counted}
 use native.Mathlib.Omega.{arith}
 use borrow.Author.Rules.{rules}
 use Rattle.mesh_edges.proofs.mesh.count_edges.Statement.{statement}
@@ -27,7 +27,7 @@ run-row-requires : tie.Need-run-row-requires
 run-row-requires c κs =
     let f = c.before.before.before in
     let m = f.before.before.before.before in
-    runs-ready _ m.before.before.before.before.before.requires m.name-edges.ensures (omega arith) f.count-firsts.ensures (omega arith)
+    runs_ready _ m.before.before.before.before.before.requires m.name-edges.ensures (omega arith) f.count_firsts.ensures (omega arith)
 
 mul-tally : tie.Need-overflow-mul-tally
 mul-tally c = search rules
@@ -46,7 +46,7 @@ returns c =
     let u = c.before.before.before.before in
     let f = u.before.before.before.before in
     let m = f.before.before.before.before in
-    mesh-counted _ m.before.before.before.before.before.requires m.name-edges.ensures (omega arith) f.count-firsts.ensures (omega arith) u.run_row.ensures (omega arith) c.tally.ensures
+    mesh_counted _ m.before.before.before.before.before.requires m.name-edges.ensures (omega arith) f.count_firsts.ensures (omega arith) u.run_row.ensures (omega arith) c.tally.ensures
 
 pub count-edges-spec : {M : Type 1} → statement M
 count-edges-spec =

@@ -1,5 +1,5 @@
 -- `put_failure` meets its contract. Each case writes its five numbers. Assumes nothing.
-use Rattle.mesh_failures.proofs.FailureLaws.{put-empty, put-upstream, put-escape}
+use Rattle.mesh_failures.proofs.FailureLaws.{put_empty, put_upstream, put_escape}
 use borrow.Author.Rules.{rules}
 use Rattle.mesh_failures.proofs.failures.put_failure.Statement.{statement}
 use Rattle.mesh_failures.proofs.failures.put_failure.Tie as tie
@@ -44,19 +44,19 @@ same_length : tie.Need-same-length
 same_length c = search rules
 
 returns : tie.Need-returns
-returns c = put-empty c.before.before.before.before.enum_told.given.1 c.before.before.put_five.ensures
+returns c = put_empty c.before.before.before.before.enum_told.given.1 c.before.before.put_five.ensures
 
 same-length-2 : tie.Need-same-length-2
 same-length-2 c = search rules
 
 returns-2 : tie.Need-returns-2
-returns-2 c = put-upstream c.before.before.before.before.before.failure.given.1 c.before.before.put-five2.ensures
+returns-2 c = put_upstream c.before.before.before.before.before.failure.given.1 c.before.before.put-five2.ensures
 
 same-length-3 : tie.Need-same-length-3
 same-length-3 c = search rules
 
 returns-3 : tie.Need-returns-3
-returns-3 c = put-escape c.before.before.before.before.before.before.before.failure2.given.1 c.before.before.before.before.bits-of-f64.ensures c.before.before.before.bits-of-f642.ensures c.before.before.put-five3.ensures
+returns-3 c = put_escape c.before.before.before.before.before.before.before.failure2.given.1 c.before.before.before.before.bits-of-f64.ensures c.before.before.before.bits-of-f642.ensures c.before.before.put-five3.ensures
 
 pub put-failure-spec : {M : Type 1} → statement M
 put-failure-spec =

@@ -1,8 +1,8 @@
 -- `decision` meets its contract. An accepted row's decision tells its material. Assumes nothing.
 use mathlib.Core.Path.{refl, sym, ap, ◌∙◌}
-use Rattle.mesh_materials.specs.Materials.{materialOf}
-use Rattle.mesh_verdicts.specs.Verdicts.{failureIn}
-use Rattle.mesh_judge.proofs.JudgeLaws.{decision-yes, decision-no}
+use Rattle.mesh_materials.specs.Materials.{material_of}
+use Rattle.mesh_verdicts.specs.Verdicts.{failure_in}
+use Rattle.mesh_judge.proofs.JudgeLaws.{decision_yes, decision_no}
 use borrow.Author.Rules.{rules}
 use Rattle.mesh_judge.proofs.judge.decision.Statement.{statement}
 use Rattle.mesh_judge.proofs.judge.decision.Tie as tie
@@ -29,10 +29,10 @@ enum-told-2 : tie.Need-enum-told-2
 enum-told-2 c = search rules
 
 returns : tie.Need-returns
-returns c = decision-yes _ _ _ _ (sym (ap failureIn c.before.before.before.enum_told.given.1) ∙ c.before.before.before.before.before.row-verdict.ensures) (c.before.material-of.ensures ∙ ap (materialOf _ _) c.before.before.face.ensures) refl
+returns c = decision_yes _ _ _ _ (sym (ap failure_in c.before.before.before.enum_told.given.1) ∙ c.before.before.before.before.before.row-verdict.ensures) (c.before.material-of.ensures ∙ ap (material_of _ _) c.before.before.face.ensures) refl
 
 returns-2 : tie.Need-returns-2
-returns-2 c = decision-no _ _ _ _ (sym (ap failureIn c.enum-told2.given.1) ∙ c.before.before.row-verdict.ensures)
+returns-2 c = decision_no _ _ _ _ (sym (ap failure_in c.enum-told2.given.1) ∙ c.before.before.row-verdict.ensures)
 
 pub decision-spec : {M : Type 1} → statement M
 decision-spec =

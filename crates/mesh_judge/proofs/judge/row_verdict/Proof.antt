@@ -1,7 +1,7 @@
 -- `row_verdict` meets its contract. The stretches lent are the patch's. Assumes nothing.
 use mathlib.Core.Path.{refl}
 use native.Mathlib.Omega.{arith}
-use Rattle.mesh_judge.proofs.JudgeLaws.{row-fails}
+use Rattle.mesh_judge.proofs.JudgeLaws.{row_fails}
 use borrow.Author.Rules.{rules}
 use Rattle.mesh_judge.proofs.judge.row_verdict.Statement.{statement}
 use Rattle.mesh_judge.proofs.judge.row_verdict.Tie as tie
@@ -61,7 +61,7 @@ verdict-of-requires : tie.Need-verdict-of-requires
 verdict-of-requires c κs = search rules
 
 returns : tie.Need-returns
-returns c = row-fails c.before.before.before.before.before.before.before.before.before.requires c.before.before.before.outcome.ensures refl (omega (arith, c.before.before.before.before.before.vertices.ensures)) (omega (arith, c.before.before.before.before.indices.ensures)) c.verdict-of.ensures
+returns c = row_fails c.before.before.before.before.before.before.before.before.before.requires c.before.before.before.outcome.ensures refl (omega (arith, c.before.before.before.before.before.vertices.ensures)) (omega (arith, c.before.before.before.before.indices.ensures)) c.verdict-of.ensures
 
 pub row-verdict-spec : {M : Type 1} → statement M
 row-verdict-spec =

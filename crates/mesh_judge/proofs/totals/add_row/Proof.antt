@@ -1,6 +1,6 @@
 -- `add_row` meets its contract. The two branches are the two cases of the definition. Assumes nothing.
 use native.Mathlib.Omega.{arith}
-use Rattle.mesh_judge.proofs.TotalLaws.{total-no, total-yes}
+use Rattle.mesh_judge.proofs.TotalLaws.{total_no, total_yes}
 use borrow.Author.Rules.{rules}
 use Rattle.mesh_judge.proofs.totals.add_row.Statement.{statement}
 use Rattle.mesh_judge.proofs.totals.add_row.Tie as tie
@@ -15,7 +15,7 @@ shared-slice-read-if1 : tie.Need-shared-slice-read-if1
 shared-slice-read-if1 c = search rules
 
 returns : tie.Need-returns
-returns c = total-no _ _ _ (omega arith)
+returns c = total_no _ _ _ (omega arith)
 
 add-t6 : tie.Need-overflow-add-t6
 add-t6 c = search rules
@@ -39,7 +39,7 @@ add-t15 : tie.Need-overflow-add-t15
 add-t15 c = search rules
 
 returns-2 : tie.Need-returns-2
-returns-2 c = total-yes _ _ _ c.before.before.before.before.before.if1.false c.before.before.before.vertices.ensures c.before.indices.ensures
+returns-2 c = total_yes _ _ _ c.before.before.before.before.before.if1.false c.before.before.before.vertices.ensures c.before.indices.ensures
 
 pub add-row-spec : {M : Type 1} → statement M
 add-row-spec =

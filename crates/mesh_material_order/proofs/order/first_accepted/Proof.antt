@@ -1,6 +1,6 @@
 -- `first_accepted` meets its contract. The words passed are those of failed rows. Assumes nothing.
 use Prim.Native.Nat.{◌-◌}
-use Rattle.mesh_material_order.proofs.OrderLaws.{Failing, failing-none, failing-more, failing-hit, failing-all}
+use Rattle.mesh_material_order.proofs.OrderLaws.{Failing, failing_none, failing_more, failing_hit, failing_all}
 use borrow.Author.Rules.{rules}
 use Rattle.mesh_material_order.proofs.order.first_accepted.Statement.{statement}
 use Rattle.mesh_material_order.proofs.order.first_accepted.Tie as tie
@@ -12,7 +12,7 @@ abbrev decreases-loop : tie.decreases-loop
 decreases-loop w order m p₀ p = m - p
 
 loop-holds : tie.Need-loop-init invariant-loop decreases-loop
-loop-holds c = failing-none
+loop-holds c = failing_none
 
 add-if1 : tie.Need-overflow-add-if1 invariant-loop decreases-loop
 add-if1 c = search rules
@@ -24,7 +24,7 @@ shared-slice-read-if1 : tie.Need-shared-slice-read-if1 invariant-loop decreases-
 shared-slice-read-if1 c = search rules
 
 returns : tie.Need-returns invariant-loop decreases-loop
-returns c = search (failing-hit, rules)
+returns c = search (failing_hit, rules)
 
 add-p : tie.Need-overflow-add-p invariant-loop decreases-loop
 add-p c = search rules
@@ -33,10 +33,10 @@ loop-less : tie.Need-loop-smaller invariant-loop decreases-loop
 loop-less c = search rules
 
 loop-again : tie.Need-loop-preserved invariant-loop decreases-loop
-loop-again c = search (failing-more, rules)
+loop-again c = search (failing_more, rules)
 
 returns-2 : tie.Need-returns-2 invariant-loop decreases-loop
-returns-2 c = search (failing-all, rules)
+returns-2 c = search (failing_all, rules)
 
 pub first-accepted-spec : {M : Type 1} → statement M
 first-accepted-spec =

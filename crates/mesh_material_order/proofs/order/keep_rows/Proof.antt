@@ -3,7 +3,7 @@ use mathlib.Core.Path.{refl}
 use Prim.Native.Nat.{◌-◌}
 use native.Mathlib.Omega.{arith}
 use lib.ListN.{length-set}
-use Rattle.mesh_material_order.proofs.OrderLaws.{Keeping, keeping_none, decision-low, base-low, index-low, row-few, keeping-more, keeping_all}
+use Rattle.mesh_material_order.proofs.OrderLaws.{Keeping, keeping_none, decision_low, base_low, index_low, row_few, keeping_more, keeping_all}
 use borrow.Author.Rules.{rules}
 use Rattle.mesh_material_order.proofs.order.keep_rows.Statement.{statement}
 use Rattle.mesh_material_order.proofs.order.keep_rows.Tie as tie
@@ -27,10 +27,10 @@ slice-read-d : tie.Need-slice-read-d invariant-loop decreases-loop
 slice-read-d c = search rules
 
 mul-w : tie.Need-overflow-mul-w invariant-loop decreases-loop
-mul-w c = omega (arith, base-low c.before.before.before.before.before.requires c.before.before.loop.invariant c.before.loop-test.true, index-low c.before.before.before.before.before.requires c.before.before.loop.invariant c.before.loop-test.true)
+mul-w c = omega (arith, base_low c.before.before.before.before.before.requires c.before.before.loop.invariant c.before.loop-test.true, index_low c.before.before.before.before.before.requires c.before.before.loop.invariant c.before.loop-test.true)
 
 add-w : tie.Need-overflow-add-w invariant-loop decreases-loop
-add-w c = omega (arith, base-low c.before.before.before.before.before.requires c.before.before.loop.invariant c.before.loop-test.true, index-low c.before.before.before.before.before.requires c.before.before.loop.invariant c.before.loop-test.true)
+add-w c = omega (arith, base_low c.before.before.before.before.before.requires c.before.before.loop.invariant c.before.loop-test.true, index_low c.before.before.before.before.before.requires c.before.before.loop.invariant c.before.loop-test.true)
 
 add-w-2 : tie.Need-overflow-add-w-2 invariant-loop decreases-loop
 add-w-2 c = search rules
@@ -42,7 +42,7 @@ slice-write-w : tie.Need-slice-write-w invariant-loop decreases-loop
 slice-write-w c = search rules
 
 order-word-requires : tie.Need-order-word-requires invariant-loop decreases-loop
-order-word-requires c κs = record { decision = decision-low c.before.before.before.before.before.requires c.before.before.loop.invariant c.before.loop-test.true; row = row-few c.before.before.before.before.before.requires c.before.before.loop.invariant c.before.loop-test.true }
+order-word-requires c κs = record { decision = decision_low c.before.before.before.before.before.requires c.before.before.loop.invariant c.before.loop-test.true; row = row_few c.before.before.before.before.before.requires c.before.before.loop.invariant c.before.loop-test.true }
 
 add-w-3 : tie.Need-overflow-add-w-3 invariant-loop decreases-loop
 add-w-3 c = search rules
@@ -60,7 +60,7 @@ cast-base-after : tie.Need-overflow-cast-base-after invariant-loop decreases-loo
 cast-base-after c = search rules
 
 base-after-requires : tie.Need-base-after-requires invariant-loop decreases-loop
-base-after-requires c κs = record { small = omega (arith, base-low c.before.before.before.before.before.before.before.requires c.before.before.before.before.loop.invariant c.before.before.before.loop-test.true, c.vertices.ensures) }
+base-after-requires c κs = record { small = omega (arith, base_low c.before.before.before.before.before.before.before.requires c.before.before.before.before.loop.invariant c.before.before.before.loop-test.true, c.vertices.ensures) }
 
 indices-requires : tie.Need-indices-requires invariant-loop decreases-loop
 indices-requires c κs = search rules
@@ -69,7 +69,7 @@ cast-i : tie.Need-overflow-cast-i invariant-loop decreases-loop
 cast-i c = search rules
 
 add-i : tie.Need-overflow-add-i invariant-loop decreases-loop
-add-i c = omega (arith, index-low c.before.before.before.before.before.before.before.before.before.requires c.before.before.before.before.before.before.loop.invariant c.before.before.before.before.before.loop-test.true, c.indices.ensures)
+add-i c = omega (arith, index_low c.before.before.before.before.before.before.before.before.before.requires c.before.before.before.before.before.before.loop.invariant c.before.before.before.before.before.loop-test.true, c.indices.ensures)
 
 add-k : tie.Need-overflow-add-k invariant-loop decreases-loop
 add-k c = search rules
@@ -78,7 +78,7 @@ loop-less : tie.Need-loop-smaller invariant-loop decreases-loop
 loop-less c = search rules
 
 loop-again : tie.Need-loop-preserved invariant-loop decreases-loop
-loop-again c = keeping-more c.before.before.before.before.before.before.before.before.before.requires c.before.before.before.before.before.before.loop.invariant c.before.before.before.before.before.loop-test.true refl c.before.before.vertices.ensures c.indices.ensures c.before.base-after.ensures refl c.before.before.before.order-word.ensures refl
+loop-again c = keeping_more c.before.before.before.before.before.before.before.before.before.requires c.before.before.before.before.before.before.loop.invariant c.before.before.before.before.before.loop-test.true refl c.before.before.vertices.ensures c.indices.ensures c.before.base-after.ensures refl c.before.before.before.order-word.ensures refl
 
 same_length : tie.Need-same-length invariant-loop decreases-loop
 same_length c = search rules

@@ -2,8 +2,8 @@
 use Prim.Native.Nat.{◌-◌}
 use native.Mathlib.Omega.{arith}
 use lib.ListN.{length}
-use Rattle.lists.specs.Any.{Searched, searched-none, searched-all}
-use Rattle.mesh_materials.proofs.MaterialLaws.{high, high-hit, high-more}
+use Rattle.lists.specs.Any.{Searched, searched_none, searched_all}
+use Rattle.mesh_materials.proofs.MaterialLaws.{high, high_hit, high_more}
 use borrow.Author.Rules.{rules}
 use Rattle.mesh_materials.proofs.materials.any_above.Statement.{statement}
 use Rattle.mesh_materials.proofs.materials.any_above.Tie as tie
@@ -15,7 +15,7 @@ abbrev decreases-loop : tie.decreases-loop
 decreases-loop materials k₀ k = length materials - k
 
 loop-holds : tie.Need-loop-init invariant-loop decreases-loop
-loop-holds c = searched-none _ _
+loop-holds c = searched_none _ _
 
 mul-if1 : tie.Need-overflow-mul-if1 invariant-loop decreases-loop
 mul-if1 c = search rules
@@ -24,7 +24,7 @@ shared-slice-read-if1 : tie.Need-shared-slice-read-if1 invariant-loop decreases-
 shared-slice-read-if1 c = search rules
 
 returns : tie.Need-returns invariant-loop decreases-loop
-returns c = high-hit c.before.before.before.loop.invariant (omega arith) (omega arith)
+returns c = high_hit c.before.before.before.loop.invariant (omega arith) (omega arith)
 
 add-k : tie.Need-overflow-add-k invariant-loop decreases-loop
 add-k c = search rules
@@ -33,10 +33,10 @@ loop-less : tie.Need-loop-smaller invariant-loop decreases-loop
 loop-less c = search rules
 
 loop-again : tie.Need-loop-preserved invariant-loop decreases-loop
-loop-again c = high-more c.before.before.before.loop.invariant (omega arith) (omega arith)
+loop-again c = high_more c.before.before.before.loop.invariant (omega arith) (omega arith)
 
 returns-2 : tie.Need-returns-2 invariant-loop decreases-loop
-returns-2 c = searched-all c.before.loop.invariant (omega arith)
+returns-2 c = searched_all c.before.loop.invariant (omega arith)
 
 pub any-above-spec : {M : Type 1} → statement M
 any-above-spec =

@@ -1,7 +1,7 @@
 -- `append_range` meets its contract. A row that fails has none, another one. Assumes nothing.
 use native.Mathlib.Omega.{arith}
 use mathlib.Core.Path.{refl}
-use Rattle.mesh_rows.proofs.RangeLaws.{range-no, range-yes}
+use Rattle.mesh_rows.proofs.RangeLaws.{range_no, range_yes}
 use borrow.Author.Rules.{rules}
 use Rattle.mesh_rows.proofs.ranges.append_range.Statement.{statement}
 use Rattle.mesh_rows.proofs.ranges.append_range.Tie as tie
@@ -16,7 +16,7 @@ shared-slice-read-if1 : tie.Need-shared-slice-read-if1
 shared-slice-read-if1 c = search rules
 
 returns : tie.Need-returns
-returns c = range-no c.before.before.before.before.before.pre (omega arith)
+returns c = range_no c.before.before.before.before.before.pre (omega arith)
 
 add-first : tie.Need-add-first
 add-first c = search rules
@@ -52,7 +52,7 @@ same_length : tie.Need-same-length
 same_length c = search rules
 
 returns-2 : tie.Need-returns-2
-returns-2 c = range-yes c.before.before.before.before.before.before.before.before.before.before.before.before.before.pre c.before.before.before.before.before.before.before.before.if1.left c.before.before.before.before.before.face.ensures c.before.before.before.before.bin.ensures refl (omega (arith, c.before.before.before.indices.ensures)) c.before.before.put-range.ensures
+returns-2 c = range_yes c.before.before.before.before.before.before.before.before.before.before.before.before.before.pre c.before.before.before.before.before.before.before.before.if1.left c.before.before.before.before.before.face.ensures c.before.before.before.before.bin.ensures refl (omega (arith, c.before.before.before.indices.ensures)) c.before.before.put-range.ensures
 
 pub append-range-spec : {M : Type 1} → statement M
 append-range-spec =

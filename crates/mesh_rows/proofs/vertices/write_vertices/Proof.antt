@@ -1,7 +1,7 @@
 -- `write_vertices` meets its contract. With k rows done, their numbers are written and those of the rest are left. Assumes nothing.
 use Prim.Native.Nat.{◌-◌}
 use native.Mathlib.Omega.{arith}
-use Rattle.mesh_rows.proofs.VertexLaws.{Copying, inside, copying-none, copying-ready, copying-more, copying-all}
+use Rattle.mesh_rows.proofs.VertexLaws.{Copying, inside, copying_none, copying_ready, copying_more, copying_all}
 use borrow.Author.Rules.{rules}
 use Rattle.mesh_rows.proofs.vertices.write_vertices.Statement.{statement}
 use Rattle.mesh_rows.proofs.vertices.write_vertices.Tie as tie
@@ -16,7 +16,7 @@ row-count-requires : tie.Need-row-count-requires invariant-loop decreases-loop
 row-count-requires c κs = search rules
 
 loop-holds : tie.Need-loop-init invariant-loop decreases-loop
-loop-holds c = copying-none
+loop-holds c = copying_none
 
 vertices-requires : tie.Need-vertices-requires invariant-loop decreases-loop
 vertices-requires c κs = search rules
@@ -34,7 +34,7 @@ shared-slice-read-append-row : tie.Need-shared-slice-read-append-row invariant-l
 shared-slice-read-append-row c = search rules
 
 append-row-requires : tie.Need-append-row-requires invariant-loop decreases-loop
-append-row-requires c κs = copying-ready c.before.before.before.before.before.before.before.before.before.before.requires c.before.before.before.before.loop.invariant (omega (arith, c.before.before.before.loop-test.true, c.before.before.before.before.before.row_count.ensures)) c.before.before.vertices.ensures
+append-row-requires c κs = copying_ready c.before.before.before.before.before.before.before.before.before.before.requires c.before.before.before.before.loop.invariant (omega (arith, c.before.before.before.loop-test.true, c.before.before.before.before.before.row_count.ensures)) c.before.before.vertices.ensures
 
 add-base : tie.Need-overflow-add-base invariant-loop decreases-loop
 add-base c = omega (arith, inside c.before.before.before.before.before.before.before.before.before.before.before.before.before.requires c.before.before.before.before.before.before.before.loop.invariant (omega (arith, c.before.before.before.before.before.before.loop-test.true, c.before.before.before.before.before.before.before.before.row_count.ensures)) c.before.before.before.before.before.vertices.ensures)
@@ -46,13 +46,13 @@ loop-less : tie.Need-loop-smaller invariant-loop decreases-loop
 loop-less c = search rules
 
 loop-again : tie.Need-loop-preserved invariant-loop decreases-loop
-loop-again c = copying-more c.before.before.before.before.before.before.before.before.before.before.before.before.before.requires c.before.before.before.before.before.before.before.loop.invariant (omega (arith, c.before.before.before.before.before.before.loop-test.true, c.before.before.before.before.before.before.before.before.row_count.ensures)) c.before.before.before.before.before.vertices.ensures c.before.before.append-row.ensures
+loop-again c = copying_more c.before.before.before.before.before.before.before.before.before.before.before.before.before.requires c.before.before.before.before.before.before.before.loop.invariant (omega (arith, c.before.before.before.before.before.before.loop-test.true, c.before.before.before.before.before.before.before.before.row_count.ensures)) c.before.before.before.before.before.vertices.ensures c.before.before.append-row.ensures
 
 same_length : tie.Need-same-length invariant-loop decreases-loop
 same_length c = search rules
 
 returns : tie.Need-returns invariant-loop decreases-loop
-returns c = copying-all c.before.before.before.before.before.before.before.requires c.before.loop.invariant (omega (arith, c.loop-test.false, c.before.before.row_count.ensures))
+returns c = copying_all c.before.before.before.before.before.before.before.requires c.before.loop.invariant (omega (arith, c.loop-test.false, c.before.before.row_count.ensures))
 
 pub write-vertices-spec : {M : Type 1} → statement M
 write-vertices-spec =

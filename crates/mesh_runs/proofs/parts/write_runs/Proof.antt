@@ -2,7 +2,7 @@
 use mathlib.Core.Path.{refl}
 use Prim.Native.Nat.{◌-◌}
 use native.Mathlib.Omega.{arith}
-use Rattle.mesh_runs.proofs.PartLaws.{Parting, order-ready, parts-ready, first-ready, parting-none, next_low, next-some, few, run-ready, part_room, run_end, place-more, parting-more, parting-all, runs_same}
+use Rattle.mesh_runs.proofs.PartLaws.{Parting, order_ready, parts_ready, first_ready, parting_none, next_low, next_some, few, run_ready, part_room, run_end, place_more, parting_more, parting_all, runs_same}
 use borrow.Author.Rules.{rules}
 use Rattle.mesh_runs.proofs.parts.write_runs.Statement.{statement}
 use Rattle.mesh_runs.proofs.parts.write_runs.Tie as tie
@@ -20,13 +20,13 @@ add-order : tie.Need-overflow-add-order invariant-loop decreases-loop
 add-order c = search rules
 
 order-rows-requires : tie.Need-order-rows-requires invariant-loop decreases-loop
-order-rows-requires c κs = order-ready c.before.before.before.before.before.before.before.requires c.before.row_count.ensures refl
+order-rows-requires c κs = order_ready c.before.before.before.before.before.before.before.requires c.before.row_count.ensures refl
 
 first-accepted-requires : tie.Need-first-accepted-requires invariant-loop decreases-loop
-first-accepted-requires c κs = first-ready (parts-ready c.before.before.before.before.before.before.before.before.before.before.before.requires c.before.before.before.before.before.row_count.ensures refl c.before.before.before.order-rows.ensures)
+first-accepted-requires c κs = first_ready (parts_ready c.before.before.before.before.before.before.before.before.before.before.before.requires c.before.before.before.before.before.row_count.ensures refl c.before.before.before.order-rows.ensures)
 
 loop-holds : tie.Need-loop-init invariant-loop decreases-loop
-loop-holds c = parting-none (parts-ready c.before.before.before.before.before.before.before.before.before.before.before.before.requires c.before.before.before.before.before.before.row_count.ensures refl c.before.before.before.before.order-rows.ensures) c.first-accepted.ensures
+loop-holds c = parting_none (parts_ready c.before.before.before.before.before.before.before.before.before.before.before.before.requires c.before.before.before.before.before.before.row_count.ensures refl c.before.before.before.before.order-rows.ensures) c.first-accepted.ensures
 
 add-d : tie.Need-overflow-add-d invariant-loop decreases-loop
 add-d c = search rules
@@ -38,10 +38,10 @@ slice-read-d : tie.Need-slice-read-d invariant-loop decreases-loop
 slice-read-d c = search rules
 
 write-run-requires : tie.Need-write-run-requires invariant-loop decreases-loop
-write-run-requires c κs = run-ready c.before.before.before.before.loop.invariant c.before.before.before.loop-test.true refl
+write-run-requires c κs = run_ready c.before.before.before.before.loop.invariant c.before.before.before.loop-test.true refl
 
 sub-t24 : tie.Need-overflow-sub-t24 invariant-loop decreases-loop
-sub-t24 c = omega (arith, next-some c.before.before.before.before.before.before.before.before.before.before.loop.invariant c.before.before.before.before.before.before.before.before.before.loop-test.true refl)
+sub-t24 c = omega (arith, next_some c.before.before.before.before.before.before.before.before.before.before.loop.invariant c.before.before.before.before.before.before.before.before.before.loop-test.true refl)
 
 cast-t32 : tie.Need-overflow-cast-t32 invariant-loop decreases-loop
 cast-t32 c = omega (arith, next_low c.before.before.before.before.before.before.before.before.before.before.loop.invariant c.before.before.before.before.before.before.before.before.before.loop-test.true refl)
@@ -59,13 +59,13 @@ put-part-requires : tie.Need-put-part-requires invariant-loop decreases-loop
 put-part-requires c κs = part_room c.before.before.before.before.before.before.before.before.before.before.before.loop.invariant c.before.before.before.before.before.before.before.before.before.before.loop-test.true refl
 
 add-p : tie.Need-overflow-add-p invariant-loop decreases-loop
-add-p c = omega (arith, part_room c.before.before.before.before.before.before.before.before.before.before.before.before.before.before.loop.invariant c.before.before.before.before.before.before.before.before.before.before.before.before.before.loop-test.true refl, c.before.before.before.before.before.before.before.before.before.before.before.before.before.before.loop.invariant.parts-long, c.before.before.before.before.before.before.before.before.before.before.before.before.before.before.before.before.before.before.before.before.before.before.before.before.before.before.before.well-formed.1.1.1.1.1.1.0.0)
+add-p c = omega (arith, part_room c.before.before.before.before.before.before.before.before.before.before.before.before.before.before.loop.invariant c.before.before.before.before.before.before.before.before.before.before.before.before.before.loop-test.true refl, c.before.before.before.before.before.before.before.before.before.before.before.before.before.before.loop.invariant.parts_long, c.before.before.before.before.before.before.before.before.before.before.before.before.before.before.before.before.before.before.before.before.before.before.before.before.before.before.before.well-formed.1.1.1.1.1.1.0.0)
 
 loop-less : tie.Need-loop-smaller invariant-loop decreases-loop
-loop-less c = omega (arith, place-more c.before.before.before.before.before.before.before.before.before.before.before.before.before.before.loop.invariant c.before.before.before.before.before.before.before.before.before.before.before.before.before.loop-test.true refl c.before.before.before.before.before.before.before.before.before.write-run.ensures)
+loop-less c = omega (arith, place_more c.before.before.before.before.before.before.before.before.before.before.before.before.before.before.loop.invariant c.before.before.before.before.before.before.before.before.before.before.before.before.before.loop-test.true refl c.before.before.before.before.before.before.before.before.before.write-run.ensures)
 
 loop-again : tie.Need-loop-preserved invariant-loop decreases-loop
-loop-again c = parting-more c.before.before.before.before.before.before.before.before.before.before.before.before.before.before.loop.invariant c.before.before.before.before.before.before.before.before.before.before.before.before.before.loop-test.true refl c.before.before.before.before.before.before.before.before.before.write-run.ensures c.before.before.put-part.ensures refl refl refl
+loop-again c = parting_more c.before.before.before.before.before.before.before.before.before.before.before.before.before.before.loop.invariant c.before.before.before.before.before.before.before.before.before.before.before.before.before.loop-test.true refl c.before.before.before.before.before.before.before.before.before.write-run.ensures c.before.before.put-part.ensures refl refl refl
 
 same_length : tie.Need-same-length invariant-loop decreases-loop
 same_length c = search rules
@@ -77,7 +77,7 @@ same-length-3 : tie.Need-same-length-3 invariant-loop decreases-loop
 same-length-3 c = search rules
 
 returns : tie.Need-returns invariant-loop decreases-loop
-returns c = runs_same c.before.before.before.before.before.before.before.before.before.before.before.before.before.before.requires c.before.before.before.before.before.before.before.before.row_count.ensures refl c.before.before.before.before.before.before.order-rows.ensures (parting-all c.before.loop.invariant c.loop-test.false)
+returns c = runs_same c.before.before.before.before.before.before.before.before.before.before.before.before.before.before.requires c.before.before.before.before.before.before.before.before.row_count.ensures refl c.before.before.before.before.before.before.order-rows.ensures (parting_all c.before.loop.invariant c.loop-test.false)
 
 pub write-runs-spec : {M : Type 1} → statement M
 write-runs-spec =

@@ -2,7 +2,7 @@
 use mathlib.Core.Path.{refl}
 use Prim.Native.Nat.{◌-◌}
 use native.Mathlib.Omega.{arith}
-use Rattle.mesh_runs.proofs.WalkLaws.{Walking, walking-none, row_low, walking-stop, walking-ready, walking-more, walking-done}
+use Rattle.mesh_runs.proofs.WalkLaws.{Walking, walking_none, row_low, walking_stop, walking_ready, walking_more, walking_done}
 use borrow.Author.Rules.{rules}
 use Rattle.mesh_runs.proofs.runs.write_run.Statement.{statement}
 use Rattle.mesh_runs.proofs.runs.write_run.Tie as tie
@@ -14,7 +14,7 @@ abbrev decreases-loop : tie.decreases-loop
 decreases-loop rows indices w₀ at starts order m first wanted out₀ start o₀ p₀ w out o p = m - p
 
 loop-holds : tie.Need-loop-init invariant-loop decreases-loop
-loop-holds c = search (walking-none, rules)
+loop-holds c = search (walking_none, rules)
 
 add-k : tie.Need-overflow-add-k invariant-loop decreases-loop
 add-k c = search rules
@@ -41,7 +41,7 @@ same-length-2 : tie.Need-same-length-2 invariant-loop decreases-loop
 same-length-2 c = search rules
 
 returns : tie.Need-returns invariant-loop decreases-loop
-returns c = walking-stop c.before.before.before.before.before.before.before.before.before.requires c.before.before.before.before.loop.invariant c.before.before.before.loop-test.true refl c.if1.true
+returns c = walking_stop c.before.before.before.before.before.before.before.before.before.requires c.before.before.before.before.loop.invariant c.before.before.before.loop-test.true refl c.if1.true
 
 add-found : tie.Need-overflow-add-found invariant-loop decreases-loop
 add-found c = omega (arith, row_low c.before.before.before.before.before.before.before.before.before.requires c.before.before.before.before.loop.invariant c.before.before.before.loop-test.true)
@@ -65,7 +65,7 @@ add-append-row : tie.Need-overflow-add-append-row invariant-loop decreases-loop
 add-append-row c = omega (arith, row_low c.before.before.before.before.before.before.before.before.before.before.before.before.requires c.before.before.before.before.before.before.before.loop.invariant c.before.before.before.before.before.before.loop-test.true)
 
 append-row-requires : tie.Need-append-row-requires invariant-loop decreases-loop
-append-row-requires c κs = walking-ready c.before.before.before.before.before.before.before.before.before.before.before.before.before.requires c.before.before.before.before.before.before.before.before.loop.invariant c.before.before.before.before.before.before.before.loop-test.true refl c.before.before.before.before.if1.false refl c.before.before.indices.ensures refl refl
+append-row-requires c κs = walking_ready c.before.before.before.before.before.before.before.before.before.before.before.before.before.requires c.before.before.before.before.before.before.before.before.loop.invariant c.before.before.before.before.before.before.before.loop-test.true refl c.before.before.before.before.if1.false refl c.before.before.indices.ensures refl refl
 
 add-p : tie.Need-overflow-add-p invariant-loop decreases-loop
 add-p c = search rules
@@ -74,7 +74,7 @@ loop-less : tie.Need-loop-smaller invariant-loop decreases-loop
 loop-less c = search rules
 
 loop-again : tie.Need-loop-preserved invariant-loop decreases-loop
-loop-again c = walking-more c.before.before.before.before.before.before.before.before.before.before.before.before.before.before.before.before.before.before.requires c.before.before.before.before.before.before.before.before.before.before.before.before.before.loop.invariant c.before.before.before.before.before.before.before.before.before.before.before.before.loop-test.true refl c.before.before.before.before.before.before.before.before.before.if1.false refl c.before.before.before.before.before.before.before.indices.ensures refl refl c.before.before.before.before.append-row.ensures
+loop-again c = walking_more c.before.before.before.before.before.before.before.before.before.before.before.before.before.before.before.before.before.before.requires c.before.before.before.before.before.before.before.before.before.before.before.before.before.loop.invariant c.before.before.before.before.before.before.before.before.before.before.before.before.loop-test.true refl c.before.before.before.before.before.before.before.before.before.if1.false refl c.before.before.before.before.before.before.before.indices.ensures refl refl c.before.before.before.before.append-row.ensures
 
 same-length-3 : tie.Need-same-length-3 invariant-loop decreases-loop
 same-length-3 c = search rules
@@ -83,7 +83,7 @@ same-length-4 : tie.Need-same-length-4 invariant-loop decreases-loop
 same-length-4 c = search rules
 
 returns-2 : tie.Need-returns-2 invariant-loop decreases-loop
-returns-2 c = walking-done c.before.before.before.before.before.before.requires c.before.loop.invariant (λ i x y. absurd (omega arith))
+returns-2 c = walking_done c.before.before.before.before.before.before.requires c.before.loop.invariant (λ i x y. absurd (omega arith))
 
 pub write-run-spec : {M : Type 1} → statement M
 write-run-spec =

@@ -1,5 +1,5 @@
 -- `patch_geometry::Aabb::centre` meets its contract. Assumes nothing.
-use Rattle.patch_geometry.proofs.BoxLaws.{centre-empty, centre-is}
+use Rattle.patch_geometry.proofs.BoxLaws.{centre_empty, centre_is}
 use borrow.Author.Rules.{rules}
 use Rattle.patch_geometry.proofs.Aabb.centre.Statement.{statement}
 use Rattle.patch_geometry.proofs.Aabb.centre.Tie as tie
@@ -11,7 +11,7 @@ new-requires : tie.Need-new-requires
 new-requires c κs = search rules
 
 returns : tie.Need-returns
-returns c = search centre-empty
+returns c = search centre_empty
 
 add-requires : tie.Need-add-requires
 add-requires c κs = search rules
@@ -20,7 +20,7 @@ scale-requires : tie.Need-scale-requires
 scale-requires c κs = search rules
 
 returns-2 : tie.Need-returns-2
-returns-2 c = search centre-is
+returns-2 c = search centre_is
 
 pub centre-spec : {M : Type 1} → statement M
 centre-spec =

@@ -1,5 +1,5 @@
 -- `patch_geometry::Aabb::size` meets its contract. Assumes nothing.
-use Rattle.patch_geometry.proofs.BoxLaws.{size-empty, size_is}
+use Rattle.patch_geometry.proofs.BoxLaws.{size_empty, size_is}
 use borrow.Author.Rules.{rules}
 use Rattle.patch_geometry.proofs.Aabb.size.Statement.{statement}
 use Rattle.patch_geometry.proofs.Aabb.size.Tie as tie
@@ -11,7 +11,7 @@ new-requires : tie.Need-new-requires
 new-requires c κs = search rules
 
 returns : tie.Need-returns
-returns c = search size-empty
+returns c = search size_empty
 
 sub-requires : tie.Need-sub-requires
 sub-requires c κs = search rules

@@ -1,5 +1,5 @@
 -- `reach::reach::distance_squared` meets its contract. Assumes nothing.
-use Rattle.patch_reach.proofs.ReachLaws.{square-is}
+use Rattle.patch_reach.proofs.ReachLaws.{square_is}
 use borrow.Author.Rules.{rules}
 use Rattle.patch_reach.proofs.reach.distance_squared.Statement.{statement}
 use Rattle.patch_reach.proofs.reach.distance_squared.Tie as tie
@@ -14,7 +14,7 @@ dot-requires : tie.Need-dot-requires
 dot-requires c κs = search rules
 
 returns : tie.Need-returns
-returns c = search square-is
+returns c = search square_is
 
 pub distance-squared-spec : {M : Type 1} → statement M
 distance-squared-spec = tie.close (tie.spec vertex-requires sub-requires dot-requires returns)

@@ -1,6 +1,6 @@
 -- `reach::reach::reach_from` meets its contract. What is left to look at gives the same reach at each turn, from the root of the square so far. Assumes nothing.
 use Prim.Native.Nat.{◌-◌}
-use Rattle.patch_reach.proofs.ReachLaws.{Reaching, reaching-none, reaching-more, reaching-all}
+use Rattle.patch_reach.proofs.ReachLaws.{Reaching, reaching_none, reaching_more, reaching_all}
 use Rattle.patch_reach.proofs.reach.reach_from.Statement.{statement}
 use Rattle.patch_reach.proofs.reach.reach_from.Tie as tie
 use borrow.Author.Rules.{rules}
@@ -12,7 +12,7 @@ abbrev decreases-loop : tie.decreases-loop
 decreases-loop positions c far₀ k₀ n far k = n - k
 
 loop-holds : tie.Need-loop-init invariant-loop decreases-loop
-loop-holds c = search reaching-none
+loop-holds c = search reaching_none
 
 sub-loop : tie.Need-overflow-sub-loop invariant-loop decreases-loop
 sub-loop c = search rules
@@ -30,13 +30,13 @@ loop-less : tie.Need-loop-smaller invariant-loop decreases-loop
 loop-less c = search rules
 
 loop-again : tie.Need-loop-preserved invariant-loop decreases-loop
-loop-again c = search reaching-more
+loop-again c = search reaching_more
 
 sqrt-f64-requires : tie.Need-sqrt-f64-requires invariant-loop decreases-loop
 sqrt-f64-requires c κs = search rules
 
 returns : tie.Need-returns invariant-loop decreases-loop
-returns c = search reaching-all
+returns c = search reaching_all
 
 pub reach-from-spec : {M : Type 1} → statement M
 reach-from-spec =

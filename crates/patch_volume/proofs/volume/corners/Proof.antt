@@ -1,5 +1,5 @@
 -- `patch_volume::volume::corners` meets its contract. Assumes nothing.
-use Rattle.patch_volume.proofs.VolumeLaws.{corners-are}
+use Rattle.patch_volume.proofs.VolumeLaws.{corners_are}
 use borrow.Author.Rules.{rules}
 use Rattle.patch_volume.proofs.volume.corners.Statement.{statement}
 use Rattle.patch_volume.proofs.volume.corners.Tie as tie
@@ -17,7 +17,7 @@ triple-requires : tie.Need-triple-requires
 triple-requires c κs = search rules
 
 returns : tie.Need-returns
-returns c = search corners-are
+returns c = search corners_are
 
 pub corners-spec : {M : Type 1} → statement M
 corners-spec =

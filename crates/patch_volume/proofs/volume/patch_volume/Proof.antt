@@ -1,6 +1,6 @@
 -- `patch_volume::volume::patch_volume` meets its contract. What is left to add to the total is the same at each turn. Assumes nothing.
 use Prim.Native.Nat.{◌-◌}
-use Rattle.patch_volume.proofs.VolumeLaws.{Summing, summing-none, summing-more, summing-all, corners-within}
+use Rattle.patch_volume.proofs.VolumeLaws.{Summing, summing_none, summing_more, summing_all, corners_within}
 use Rattle.patch_volume.proofs.volume.patch_volume.Statement.{statement}
 use Rattle.patch_volume.proofs.volume.patch_volume.Tie as tie
 use borrow.Author.Rules.{rules}
@@ -12,7 +12,7 @@ abbrev decreases-loop : tie.decreases-loop
 decreases-loop positions indices flip total₀ k₀ n total k = n - k
 
 loop-holds : tie.Need-loop-init invariant-loop decreases-loop
-loop-holds c = search summing-none
+loop-holds c = search summing_none
 
 sub-loop : tie.Need-overflow-sub-loop invariant-loop decreases-loop
 sub-loop c = search rules
@@ -42,7 +42,7 @@ shared-slice-read-c : tie.Need-shared-slice-read-c invariant-loop decreases-loop
 shared-slice-read-c c = search rules
 
 triangle-requires : tie.Need-triangle-requires invariant-loop decreases-loop
-triangle-requires c κs = search corners-within
+triangle-requires c κs = search corners_within
 
 add-k : tie.Need-overflow-add-k invariant-loop decreases-loop
 add-k c = search rules
@@ -51,10 +51,10 @@ loop-less : tie.Need-loop-smaller invariant-loop decreases-loop
 loop-less c = search rules
 
 loop-again : tie.Need-loop-preserved invariant-loop decreases-loop
-loop-again c = search summing-more
+loop-again c = search summing_more
 
 returns : tie.Need-returns invariant-loop decreases-loop
-returns c = search summing-all
+returns c = search summing_all
 
 pub patch-volume-spec : {M : Type 1} → statement M
 patch-volume-spec =

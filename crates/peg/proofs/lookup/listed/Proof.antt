@@ -1,5 +1,5 @@
 -- `listed` meets its contract. Assumes nothing.
-use Rattle.peg.proofs.LookupLaws.{listed_found, listed-short}
+use Rattle.peg.proofs.LookupLaws.{listed_found, listed_short}
 use borrow.Author.Rules.{rules}
 use Rattle.peg.proofs.lookup.listed.Statement.{statement}
 use Rattle.peg.proofs.lookup.listed.Tie as tie
@@ -17,7 +17,7 @@ same_length : tie.Need-same-length
 same_length c = search rules
 
 returns : tie.Need-returns
-returns c = search listed-short
+returns c = search listed_short
 
 list-bins-requires-2 : tie.Need-list-bins-requires-2
 list-bins-requires-2 c κs = search rules

@@ -1,5 +1,5 @@
 -- `placed_bins` meets its contract. Assumes nothing.
-use Rattle.peg.proofs.LookupLaws.{near-listed, none-near, placed, some_near}
+use Rattle.peg.proofs.LookupLaws.{near_listed, none_near, placed, some_near}
 use borrow.Author.Rules.{rules}
 use Rattle.peg.proofs.lookup.placed_bins.Statement.{statement}
 use Rattle.peg.proofs.lookup.placed_bins.Tie as tie
@@ -11,7 +11,7 @@ find-best-requires : tie.Need-find-best-requires
 find-best-requires c κs = search (rules, placed)
 
 returns : tie.Need-returns
-returns c = search (rules, none-near)
+returns c = search (rules, none_near)
 
 listed-requires : tie.Need-listed-requires
 listed-requires c κs = search (rules, placed, some_near)
@@ -20,7 +20,7 @@ same_length : tie.Need-same-length
 same_length c = search rules
 
 returns-2 : tie.Need-returns-2
-returns-2 c = search (rules, near-listed)
+returns-2 c = search (rules, near_listed)
 
 pub placed-bins-spec : {M : Type 1} → statement M
 placed-bins-spec =

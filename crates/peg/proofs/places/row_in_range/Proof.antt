@@ -1,5 +1,5 @@
 -- `row_in_range` meets its contract. Assumes nothing.
-use Rattle.peg.proofs.RangeLaws.{row-tested}
+use Rattle.peg.proofs.RangeLaws.{row_tested}
 use borrow.Author.Rules.{rules}
 use Rattle.peg.proofs.places.row_in_range.Statement.{statement}
 use Rattle.peg.proofs.places.row_in_range.Tie as tie
@@ -35,7 +35,7 @@ place-in-range-requires : tie.Need-place-in-range-requires
 place-in-range-requires c κs = search rules
 
 returns : tie.Need-returns
-returns c = search (rules, row-tested)
+returns c = search (rules, row_tested)
 
 pub row-in-range-spec : {M : Type 1} → statement M
 row-in-range-spec =

@@ -1,11 +1,11 @@
 -- `apart` meets its contract. Assumes nothing.
-use Rattle.peg_distance.proofs.DistanceLaws.{apart_above, apart_below, peg-scale}
+use Rattle.peg_distance.proofs.DistanceLaws.{apart_above, apart_below, peg_scale}
 use borrow.Author.Rules.{rules}
 use Rattle.peg_distance.proofs.distance.apart.Statement.{statement}
 use Rattle.peg_distance.proofs.distance.apart.Tie as tie
 
 nearest-word-requires : tie.Need-nearest-word-requires
-nearest-word-requires c κs = search (rules, peg-scale)
+nearest-word-requires c κs = search (rules, peg_scale)
 
 sub-result : tie.Need-overflow-sub-result
 sub-result c = search rules

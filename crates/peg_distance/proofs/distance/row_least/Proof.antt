@@ -1,7 +1,7 @@
 -- `row_least` meets its contract. Assumes nothing.
 use borrow.Author.Rules.{rules}
 use Prim.Native.Nat.{◌-◌}
-use Rattle.peg_distance.proofs.DistanceLaws.{Lessening, least-all, least_more, least-none}
+use Rattle.peg_distance.proofs.DistanceLaws.{Lessening, least_all, least_more, least_none}
 use Rattle.peg_distance.proofs.distance.row_least.Statement.{statement}
 use Rattle.peg_distance.proofs.distance.row_least.Tie as tie
 
@@ -12,7 +12,7 @@ abbrev decreases-loop : tie.decreases-loop
 decreases-loop positions target least₀ k₀ n least k = n - k
 
 loop-holds : tie.Need-loop-init invariant-loop decreases-loop
-loop-holds c = search least-none
+loop-holds c = search least_none
 
 sub-loop : tie.Need-overflow-sub-loop invariant-loop decreases-loop
 sub-loop c = search rules
@@ -33,7 +33,7 @@ loop-again : tie.Need-loop-preserved invariant-loop decreases-loop
 loop-again c = search least_more
 
 returns : tie.Need-returns invariant-loop decreases-loop
-returns c = search least-all
+returns c = search least_all
 
 pub row-least-spec : {M : Type 1} → statement M
 row-least-spec =

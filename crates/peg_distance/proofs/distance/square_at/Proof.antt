@@ -1,5 +1,5 @@
 -- `square_at` meets its contract. Assumes nothing.
-use Rattle.peg_distance.proofs.DistanceLaws.{far-x, far-y, far-z, square-sum}
+use Rattle.peg_distance.proofs.DistanceLaws.{far_x, far_y, far_z, square_sum}
 use borrow.Author.Rules.{rules}
 use Rattle.peg_distance.proofs.distance.square_at.Statement.{statement}
 use Rattle.peg_distance.proofs.distance.square_at.Tie as tie
@@ -14,7 +14,7 @@ apart-requires : tie.Need-apart-requires
 apart-requires c κs = search rules
 
 returns : tie.Need-returns
-returns c = search far-x
+returns c = search far_x
 
 add_apart : tie.Need-overflow-add-apart
 add_apart c = search rules
@@ -29,7 +29,7 @@ apart-requires-2 : tie.Need-apart-requires-2
 apart-requires-2 c κs = search rules
 
 returns-2 : tie.Need-returns-2
-returns-2 c = search far-y
+returns-2 c = search far_y
 
 add-apart-2 : tie.Need-overflow-add-apart-2
 add-apart-2 c = search rules
@@ -44,7 +44,7 @@ apart-requires-3 : tie.Need-apart-requires-3
 apart-requires-3 c κs = search rules
 
 returns-3 : tie.Need-returns-3
-returns-3 c = search far-z
+returns-3 c = search far_z
 
 squared-requires : tie.Need-squared-requires
 squared-requires c κs = search rules
@@ -62,7 +62,7 @@ add-result-2 : tie.Need-overflow-add-result-2
 add-result-2 c = search rules
 
 returns-4 : tie.Need-returns-4
-returns-4 c = search square-sum
+returns-4 c = search square_sum
 
 pub square-at-spec : {M : Type 1} → statement M
 square-at-spec =

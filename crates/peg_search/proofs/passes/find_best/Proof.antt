@@ -1,8 +1,8 @@
 -- `find_best` meets its contract. Assumes nothing.
 use borrow.Author.Rules.{rules}
 use Prim.Native.Nat.{◌-◌}
-use Rattle.peg_search.proofs.BestLaws.{Finding, finding-all, finding-more, finding-none}
-use Rattle.peg_search.proofs.RowLaws.{coordinates-fit, end_fits, end-there, row-range, row-there}
+use Rattle.peg_search.proofs.BestLaws.{Finding, finding_all, finding_more, finding_none}
+use Rattle.peg_search.proofs.RowLaws.{coordinates_fit, end_fits, end_there, row_range, row_there}
 use Rattle.peg_search.proofs.passes.find_best.Statement.{statement}
 use Rattle.peg_search.proofs.passes.find_best.Tie as tie
 
@@ -19,25 +19,25 @@ no-best-requires : tie.Need-no-best-requires invariant-loop decreases-loop
 no-best-requires c κs = search rules
 
 loop-holds : tie.Need-loop-init invariant-loop decreases-loop
-loop-holds c = search finding-none
+loop-holds c = search finding_none
 
 vertices-requires : tie.Need-vertices-requires invariant-loop decreases-loop
-vertices-requires c κs = search row-there
+vertices-requires c κs = search row_there
 
 cast-to : tie.Need-overflow-cast-to invariant-loop decreases-loop
 cast-to c = search rules
 
 mul-to : tie.Need-overflow-mul-to invariant-loop decreases-loop
-mul-to c = search (rules, coordinates-fit)
+mul-to c = search (rules, coordinates_fit)
 
 add-to : tie.Need-overflow-add-to invariant-loop decreases-loop
 add-to c = search (rules, end_fits)
 
 row-square-requires : tie.Need-row-square-requires invariant-loop decreases-loop
-row-square-requires c κs = search (rules, end-there, row-range, row-there)
+row-square-requires c κs = search (rules, end_there, row_range, row_there)
 
 bin-requires : tie.Need-bin-requires invariant-loop decreases-loop
-bin-requires c κs = search row-there
+bin-requires c κs = search row_there
 
 best-with-requires : tie.Need-best-with-requires invariant-loop decreases-loop
 best-with-requires c κs = search rules
@@ -49,10 +49,10 @@ loop-less : tie.Need-loop-smaller invariant-loop decreases-loop
 loop-less c = search rules
 
 loop-again : tie.Need-loop-preserved invariant-loop decreases-loop
-loop-again c = search finding-more
+loop-again c = search finding_more
 
 returns : tie.Need-returns invariant-loop decreases-loop
-returns c = search finding-all
+returns c = search finding_all
 
 pub find-best-spec : {M : Type 1} → statement M
 find-best-spec =

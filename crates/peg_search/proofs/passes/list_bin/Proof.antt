@@ -1,5 +1,5 @@
 -- `list_bin` meets its contract. Assumes nothing.
-use Rattle.peg_search.proofs.ListLaws.{one_kept, one-put}
+use Rattle.peg_search.proofs.ListLaws.{one_kept, one_put}
 use borrow.Author.Rules.{rules}
 use Rattle.peg_search.proofs.passes.list_bin.Statement.{statement}
 use Rattle.peg_search.proofs.passes.list_bin.Tie as tie
@@ -20,7 +20,7 @@ same_length : tie.Need-same-length
 same_length c = search rules
 
 returns-2 : tie.Need-returns-2
-returns-2 c = search one-put
+returns-2 c = search one_put
 
 pub list-bin-spec : {M : Type 1} → statement M
 list-bin-spec =

@@ -1,13 +1,13 @@
 -- `list_bins` meets its contract. Assumes nothing.
 use borrow.Author.Rules.{rules}
 use Prim.Native.Nat.{◌-◌}
-use Rattle.peg_search.specs.Search.{bodyHits}
-use Rattle.peg_search.proofs.ListLaws.{Listing, count-few, count_fits, least-is, listing-all, listing-fits, listing-more, listing-nearer, listing_none}
+use Rattle.peg_search.specs.Search.{body_hits}
+use Rattle.peg_search.proofs.ListLaws.{Listing, count_few, count_fits, least_is, listing_all, listing_fits, listing_more, listing_nearer, listing_none}
 use Rattle.peg_search.proofs.passes.list_bins.Statement.{statement}
 use Rattle.peg_search.proofs.passes.list_bins.Tie as tie
 
 abbrev invariant-loop : tie.invariant-loop
-invariant-loop rows positions places peg best bins₀ b₀ i₀ bins b i = Listing (bodyHits rows positions places peg) best bins₀ bins b i
+invariant-loop rows positions places peg best bins₀ b₀ i₀ bins b i = Listing (body_hits rows positions places peg) best bins₀ bins b i
 
 abbrev decreases-loop : tie.decreases-loop
 decreases-loop rows positions places peg best bins₀ b₀ i₀ bins b i = best.high - b
@@ -16,19 +16,19 @@ loop-holds : tie.Need-loop-init invariant-loop decreases-loop
 loop-holds c = search listing_none
 
 list-bin-requires : tie.Need-list-bin-requires invariant-loop decreases-loop
-list-bin-requires c κs = (search rules, (search least-is, (search rules, search count-few)))
+list-bin-requires c κs = (search rules, (search least_is, (search rules, search count_few)))
 
 add-next-bin : tie.Need-overflow-add-next-bin invariant-loop decreases-loop
-add-next-bin c = search (rules, listing-fits)
+add-next-bin c = search (rules, listing_fits)
 
 next-bin-requires : tie.Need-next-bin-requires invariant-loop decreases-loop
 next-bin-requires c κs = search rules
 
 loop-less : tie.Need-loop-smaller invariant-loop decreases-loop
-loop-less c = search listing-nearer
+loop-less c = search listing_nearer
 
 loop-again : tie.Need-loop-preserved invariant-loop decreases-loop
-loop-again c = search listing-more
+loop-again c = search listing_more
 
 put-bin-requires : tie.Need-put-bin-requires invariant-loop decreases-loop
 put-bin-requires c κs = search rules
@@ -40,7 +40,7 @@ same_length : tie.Need-same-length invariant-loop decreases-loop
 same_length c = search rules
 
 returns : tie.Need-returns invariant-loop decreases-loop
-returns c = search listing-all
+returns c = search listing_all
 
 pub list-bins-spec : {M : Type 1} → statement M
 list-bins-spec =

@@ -1,7 +1,7 @@
 -- `next_bin` meets its contract. Assumes nothing.
 use borrow.Author.Rules.{rules}
 use Prim.Native.Nat.{◌-◌}
-use Rattle.peg_search.proofs.NextLaws.{Lowering, bin-there, lowering-all, lowering-more, lowering-none}
+use Rattle.peg_search.proofs.NextLaws.{Lowering, bin_there, lowering_all, lowering_more, lowering_none}
 use Rattle.peg_search.proofs.passes.next_bin.Statement.{statement}
 use Rattle.peg_search.proofs.passes.next_bin.Tie as tie
 
@@ -15,10 +15,10 @@ row-count-requires : tie.Need-row-count-requires invariant-loop decreases-loop
 row-count-requires c κs = search rules
 
 loop-holds : tie.Need-loop-init invariant-loop decreases-loop
-loop-holds c = search lowering-none
+loop-holds c = search lowering_none
 
 bin-requires : tie.Need-bin-requires invariant-loop decreases-loop
-bin-requires c κs = search bin-there
+bin-requires c κs = search bin_there
 
 lower-bin-requires : tie.Need-lower-bin-requires invariant-loop decreases-loop
 lower-bin-requires c κs = search rules
@@ -30,10 +30,10 @@ loop-less : tie.Need-loop-smaller invariant-loop decreases-loop
 loop-less c = search rules
 
 loop-again : tie.Need-loop-preserved invariant-loop decreases-loop
-loop-again c = search lowering-more
+loop-again c = search lowering_more
 
 returns : tie.Need-returns invariant-loop decreases-loop
-returns c = search lowering-all
+returns c = search lowering_all
 
 pub next-bin-spec : {M : Type 1} → statement M
 next-bin-spec =

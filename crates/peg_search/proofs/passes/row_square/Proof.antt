@@ -1,5 +1,5 @@
 -- `row_square` meets its contract. Assumes nothing.
-use Rattle.peg_search.proofs.RowLaws.{row-aimed, row_made}
+use Rattle.peg_search.proofs.RowLaws.{row_aimed, row_made}
 use borrow.Author.Rules.{rules}
 use Rattle.peg_search.proofs.passes.row_square.Statement.{statement}
 use Rattle.peg_search.proofs.passes.row_square.Tie as tie
@@ -20,7 +20,7 @@ part-row-least-end : tie.Need-slice-bounds-row-least-end
 part-row-least-end c = search rules
 
 row-least-requires : tie.Need-row-least-requires
-row-least-requires c κs = search row-aimed
+row-least-requires c κs = search row_aimed
 
 returns : tie.Need-returns
 returns c = search row_made

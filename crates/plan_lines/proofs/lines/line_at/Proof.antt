@@ -1,5 +1,5 @@
 -- `line_at` meets its contract. Assumes nothing.
-use Rattle.plan_lines.proofs.KindLaws.{found_none, found-line}
+use Rattle.plan_lines.proofs.KindLaws.{found_none, found_line}
 use borrow.Author.Rules.{rules}
 use Rattle.plan_lines.proofs.lines.line_at.Statement.{statement}
 use Rattle.plan_lines.proofs.lines.line_at.Tie as tie
@@ -23,7 +23,7 @@ plan-line-requires : tie.Need-plan-line-requires
 plan-line-requires c κs = search rules
 
 returns-2 : tie.Need-returns-2
-returns-2 c = search (rules, found-line)
+returns-2 c = search (rules, found_line)
 
 pub line-at-spec : {M : Type 1} → statement M
 line-at-spec =

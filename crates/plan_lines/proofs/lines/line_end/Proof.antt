@@ -2,7 +2,7 @@
 use Prim.Native.Nat.{◌-◌}
 use lib.ListN.{length}
 use borrow.Author.Rules.{rules}
-use Rattle.plan_lines.proofs.EndLaws.{Ending, ending-none, ending-more, ending-feed, ending-all}
+use Rattle.plan_lines.proofs.EndLaws.{Ending, ending_none, ending_more, ending_feed, ending_all}
 use Rattle.plan_lines.proofs.lines.line_end.Statement.{statement}
 use Rattle.plan_lines.proofs.lines.line_end.Tie as tie
 
@@ -13,7 +13,7 @@ abbrev decreases-loop : tie.decreases-loop
 decreases-loop text at i₀ i = length text - i
 
 loop-holds : tie.Need-loop-init invariant-loop decreases-loop
-loop-holds c = search (rules, ending-none)
+loop-holds c = search (rules, ending_none)
 
 shared-slice-read-if1 : tie.Need-shared-slice-read-if1 invariant-loop decreases-loop
 shared-slice-read-if1 c = search rules
@@ -22,7 +22,7 @@ add-result : tie.Need-overflow-add-result invariant-loop decreases-loop
 add-result c = search rules
 
 returns : tie.Need-returns invariant-loop decreases-loop
-returns c = search (rules, ending-feed)
+returns c = search (rules, ending_feed)
 
 add-i : tie.Need-overflow-add-i invariant-loop decreases-loop
 add-i c = search rules
@@ -31,10 +31,10 @@ loop-less : tie.Need-loop-smaller invariant-loop decreases-loop
 loop-less c = search rules
 
 loop-again : tie.Need-loop-preserved invariant-loop decreases-loop
-loop-again c = search (rules, ending-more)
+loop-again c = search (rules, ending_more)
 
 returns-2 : tie.Need-returns-2 invariant-loop decreases-loop
-returns-2 c = search (rules, ending-all)
+returns-2 c = search (rules, ending_all)
 
 pub line-end-spec : {M : Type 1} → statement M
 line-end-spec =

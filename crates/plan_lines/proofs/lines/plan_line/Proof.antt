@@ -1,5 +1,5 @@
 -- `plan_line` meets its contract. Assumes nothing.
-use Rattle.plan_lines.proofs.KindLaws.{group-count, bin-count, close-count, opens, stands, stands-none, closes, no-form}
+use Rattle.plan_lines.proofs.KindLaws.{group_count, bin_count, close_count, opens, stands, stands_none, closes, no_form}
 use borrow.Author.Rules.{rules}
 use Rattle.plan_lines.proofs.lines.plan_line.Statement.{statement}
 use Rattle.plan_lines.proofs.lines.plan_line.Tie as tie
@@ -11,7 +11,7 @@ slice-aggregate-scan-2 : tie.Need-slice-aggregate-scan-2
 slice-aggregate-scan-2 c = search rules
 
 scan-requires : tie.Need-scan-requires
-scan-requires c κs = rw group-count (search rules)
+scan-requires c κs = rw group_count (search rules)
 
 array-read-t13 : tie.Need-array-read-t13
 array-read-t13 c = search rules
@@ -32,13 +32,13 @@ slice-aggregate-scan-4 : tie.Need-slice-aggregate-scan-4
 slice-aggregate-scan-4 c = search rules
 
 scan-requires-2 : tie.Need-scan-requires-2
-scan-requires-2 c κs = rw bin-count (search rules)
+scan-requires-2 c κs = rw bin_count (search rules)
 
 array-read-if3 : tie.Need-array-read-if3
 array-read-if3 c = search rules
 
 returns-2 : tie.Need-returns-2
-returns-2 c = search (rules, stands-none)
+returns-2 c = search (rules, stands_none)
 
 array-read-t28 : tie.Need-array-read-t28
 array-read-t28 c = search rules
@@ -62,13 +62,13 @@ slice-aggregate-scan-6 : tie.Need-slice-aggregate-scan-6
 slice-aggregate-scan-6 c = search rules
 
 scan-requires-3 : tie.Need-scan-requires-3
-scan-requires-3 c κs = rw close-count (search rules)
+scan-requires-3 c κs = rw close_count (search rules)
 
 returns-4 : tie.Need-returns-4
 returns-4 c = search (rules, closes)
 
 returns-5 : tie.Need-returns-5
-returns-5 c = search (rules, no-form)
+returns-5 c = search (rules, no_form)
 
 pub plan-line-spec : {M : Type 1} → statement M
 plan-line-spec =

@@ -1,5 +1,5 @@
 -- `put_entry` meets its contract. Assumes nothing.
-use Rattle.plan_lines.proofs.EntryLaws.{sum-small, entry-none, entry-put}
+use Rattle.plan_lines.proofs.EntryLaws.{sum_small, entry_none, entry_put}
 use native.Mathlib.Omega.{arith}
 use lib.ListN.{length-set}
 use borrow.Author.Rules.{rules}
@@ -13,7 +13,7 @@ add-if1 : tie.Need-overflow-add-if1
 add-if1 c = search rules
 
 returns : tie.Need-returns
-returns c = search (rules, entry-none)
+returns c = search (rules, entry_none)
 
 less-requires : tie.Need-less-requires
 less-requires c κs = search rules
@@ -64,7 +64,7 @@ same_length : tie.Need-same-length
 same_length c = search rules
 
 returns-2 : tie.Need-returns-2
-returns-2 c = search (rules, entry-put)
+returns-2 c = search (rules, entry_put)
 
 pub put-entry-spec : {M : Type 1} → statement M
 put-entry-spec =

@@ -1,5 +1,5 @@
 -- `read_bin` meets its contract. Assumes nothing.
-use Rattle.plan_read.proofs.ItemLaws.{bin-out, bin-many, bin-stands, near-more}
+use Rattle.plan_read.proofs.ItemLaws.{bin_out, bin_many, bin_stands, near_more}
 use borrow.Author.Rules.{rules}
 use Rattle.plan_read.proofs.items.read_bin.Statement.{statement}
 use Rattle.plan_read.proofs.items.read_bin.Tie as tie
@@ -14,16 +14,16 @@ refused-requires : tie.Need-refused-requires
 refused-requires c κs = search rules
 
 returns : tie.Need-returns
-returns c = search (rules, bin-out)
+returns c = search (rules, bin_out)
 
 refused-requires-2 : tie.Need-refused-requires-2
 refused-requires-2 c κs = search rules
 
 returns-2 : tie.Need-returns-2
-returns-2 c = search (rules, bin-many)
+returns-2 c = search (rules, bin_many)
 
 put-entry-requires : tie.Need-put-entry-requires
-put-entry-requires c κs = search (rules, near-more)
+put-entry-requires c κs = search (rules, near_more)
 
 add-t15 : tie.Need-overflow-add-t15
 add-t15 c = search rules
@@ -32,7 +32,7 @@ same_length : tie.Need-same-length
 same_length c = search rules
 
 returns-3 : tie.Need-returns-3
-returns-3 c = search (rules, bin-stands)
+returns-3 c = search (rules, bin_stands)
 
 pub read-bin-spec : {M : Type 1} → statement M
 read-bin-spec =

@@ -1,5 +1,5 @@
 -- `read_leaf` meets its contract. Assumes nothing.
-use Rattle.plan_read.proofs.ItemLaws.{bin-number, bin-offset, leaf-bin, leaf-close, leaf-end, leaf-malformed, leaf-open}
+use Rattle.plan_read.proofs.ItemLaws.{bin_number, bin_offset, leaf_bin, leaf_close, leaf_end, leaf_malformed, leaf_open}
 use borrow.Author.Rules.{rules}
 use Rattle.plan_read.proofs.items.read_leaf.Statement.{statement}
 use Rattle.plan_read.proofs.items.read_leaf.Tie as tie
@@ -14,7 +14,7 @@ enum-known-line : tie.Need-enum-known-line
 enum-known-line c = search rules
 
 read-bin-requires : tie.Need-read-bin-requires
-read-bin-requires c κs = search (rules, bin-number, bin-offset)
+read-bin-requires c κs = search (rules, bin_number, bin_offset)
 
 enum-told-2 : tie.Need-enum-told-2
 enum-told-2 c = search rules
@@ -35,22 +35,22 @@ end-text-requires : tie.Need-end-text-requires
 end-text-requires c κs = search rules
 
 returns : tie.Need-returns
-returns c = search (rules, leaf-open)
+returns c = search (rules, leaf_open)
 
 same_length : tie.Need-same-length
 same_length c = search rules
 
 returns-2 : tie.Need-returns-2
-returns-2 c = search (rules, leaf-bin)
+returns-2 c = search (rules, leaf_bin)
 
 returns-3 : tie.Need-returns-3
-returns-3 c = search (rules, leaf-close)
+returns-3 c = search (rules, leaf_close)
 
 returns-4 : tie.Need-returns-4
-returns-4 c = search (rules, leaf-malformed)
+returns-4 c = search (rules, leaf_malformed)
 
 returns-5 : tie.Need-returns-5
-returns-5 c = search (rules, leaf-end)
+returns-5 c = search (rules, leaf_end)
 
 pub read-leaf-spec : {M : Type 1} → statement M
 read-leaf-spec =

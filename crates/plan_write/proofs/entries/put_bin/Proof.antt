@@ -1,5 +1,5 @@
 -- `put_bin` meets its contract. Assumes nothing.
-use Rattle.plan_write.proofs.EntryLaws.{words-wrote}
+use Rattle.plan_write.proofs.EntryLaws.{words_wrote}
 use borrow.Author.Rules.{rules}
 use Rattle.plan_write.proofs.entries.put_bin.Statement.{statement}
 use Rattle.plan_write.proofs.entries.put_bin.Tie as tie
@@ -20,7 +20,7 @@ same_length : tie.Need-same-length
 same_length c = search rules
 
 returns : tie.Need-returns
-returns c = search (rules, words-wrote)
+returns c = search (rules, words_wrote)
 
 pub put-bin-spec : {M : Type 1} → statement M
 put-bin-spec =

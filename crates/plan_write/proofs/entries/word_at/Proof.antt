@@ -1,5 +1,5 @@
 -- `word_at` meets its contract. Assumes nothing.
-use Rattle.plan_write.proofs.WordLaws.{word-asked, word_in, word_out}
+use Rattle.plan_write.proofs.WordLaws.{word_asked, word_in, word_out}
 use borrow.Author.Rules.{rules}
 use Rattle.plan_write.proofs.entries.word_at.Statement.{statement}
 use Rattle.plan_write.proofs.entries.word_at.Tie as tie
@@ -17,7 +17,7 @@ returns : tie.Need-returns
 returns c = search word_out
 
 word-of-requires : tie.Need-word-of-requires
-word-of-requires c κs = search word-asked
+word-of-requires c κs = search word_asked
 
 returns-2 : tie.Need-returns-2
 returns-2 c = search word_in

@@ -1,7 +1,7 @@
 -- `check_listing` meets its contract. Assumes nothing.
 use Prim.Native.Nat.{◌-◌}
 use borrow.Author.Rules.{rules}
-use Rattle.plan_write.proofs.ListingLaws.{Checking, bin-there, checking-all, checking-more, checking-none, checking-refused, checking-room, entry-there}
+use Rattle.plan_write.proofs.ListingLaws.{Checking, bin_there, checking_all, checking_more, checking_none, checking_refused, checking_room, entry_there}
 use Rattle.plan_write.proofs.listing.check_listing.Statement.{statement}
 use Rattle.plan_write.proofs.listing.check_listing.Tie as tie
 
@@ -12,22 +12,22 @@ abbrev decreases-loop : tie.decreases-loop
 decreases-loop list count total₀ k₀ total k = count - k
 
 loop-holds : tie.Need-loop-init invariant-loop decreases-loop
-loop-holds c = search (rules, checking-none)
+loop-holds c = search (rules, checking_none)
 
 entry-words-requires : tie.Need-entry-words-requires invariant-loop decreases-loop
-entry-words-requires c κs = search (rules, entry-there)
+entry-words-requires c κs = search (rules, entry_there)
 
 entry-refusal-requires : tie.Need-entry-refusal-requires invariant-loop decreases-loop
 entry-refusal-requires c κs = search rules
 
 returns : tie.Need-returns invariant-loop decreases-loop
-returns c = search (rules, checking-refused)
+returns c = search (rules, checking_refused)
 
 line-length-requires : tie.Need-line-length-requires invariant-loop decreases-loop
-line-length-requires c κs = search (rules, bin-there)
+line-length-requires c κs = search (rules, bin_there)
 
 add_total : tie.Need-overflow-add-total invariant-loop decreases-loop
-add_total c = search (rules, checking-room)
+add_total c = search (rules, checking_room)
 
 add-k : tie.Need-overflow-add-k invariant-loop decreases-loop
 add-k c = search rules
@@ -36,10 +36,10 @@ loop-less : tie.Need-loop-smaller invariant-loop decreases-loop
 loop-less c = search rules
 
 loop-again : tie.Need-loop-preserved invariant-loop decreases-loop
-loop-again c = search (rules, checking-more)
+loop-again c = search (rules, checking_more)
 
 returns-2 : tie.Need-returns-2 invariant-loop decreases-loop
-returns-2 c = search (rules, checking-all)
+returns-2 c = search (rules, checking_all)
 
 pub check-listing-spec : {M : Type 1} → statement M
 check-listing-spec =

@@ -1,5 +1,5 @@
 -- `key` meets its contract. Assumes nothing.
-use Rattle.point_key.proofs.Steps.{key-told}
+use Rattle.point_key.proofs.Steps.{key_told_lem}
 use Rattle.std.proofs.Common.{rules}
 use Rattle.point_key.proofs.key.key.Statement.{statement}
 use Rattle.point_key.proofs.key.key.Tie as tie
@@ -17,7 +17,7 @@ clamps-requires-3 : tie.Need-clamps-requires-3
 clamps-requires-3 c κs = search rules
 
 returns : tie.Need-returns
-returns c = search key-told
+returns c = search key_told_lem
 
 pub key_spec : {M : Type 1} → statement M
 key_spec =

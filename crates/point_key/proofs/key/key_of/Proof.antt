@@ -1,5 +1,5 @@
 -- `point_key::key::key_of` meets its contract. Assumes nothing.
-use Rattle.point_key.proofs.Steps.{key-is}
+use Rattle.point_key.proofs.Steps.{key_is}
 use Rattle.std.proofs.Common.{rules}
 use Rattle.point_key.proofs.key.key_of.Statement.{statement}
 use Rattle.point_key.proofs.key.key_of.Tie as tie
@@ -29,7 +29,7 @@ key-low-requires-3 : tie.Need-key-low-requires-3
 key-low-requires-3 c κs = search rules
 
 returns : tie.Need-returns
-returns c = search key-is
+returns c = search key_is
 
 key-word-requires : tie.Need-key-word-requires
 key-word-requires c κs = search rules
@@ -41,7 +41,7 @@ key-word-requires-3 : tie.Need-key-word-requires-3
 key-word-requires-3 c κs = search rules
 
 returns-2 : tie.Need-returns-2
-returns-2 c = search key-is
+returns-2 c = search key_is
 
 pub key-of-spec : {M : Type 1} → statement M
 key-of-spec =

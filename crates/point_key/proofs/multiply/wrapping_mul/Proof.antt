@@ -1,20 +1,20 @@
 -- `point_key::multiply::wrapping_mul` meets its contract. Assumes nothing.
 use Rattle.std.proofs.Common.{◌∙◌, arith, rules}
-use Rattle.point_key.proofs.Halves.{halves-fit, halves_product}
+use Rattle.point_key.proofs.Halves.{halves_fit, halves_product}
 use Rattle.point_key.proofs.multiply.wrapping_mul.Statement.{statement}
 use Rattle.point_key.proofs.multiply.wrapping_mul.Tie as tie
 
 mul-cross : tie.Need-overflow-mul-cross
-mul-cross c = halves-fit (omega arith) (omega arith)
+mul-cross c = halves_fit (omega arith) (omega arith)
 
 mul-cross-2 : tie.Need-overflow-mul-cross-2
-mul-cross-2 c = halves-fit (omega arith) (omega arith)
+mul-cross-2 c = halves_fit (omega arith) (omega arith)
 
 add-cross : tie.Need-overflow-add-cross
 add-cross c = search rules
 
 mul-wrapping-add-u64 : tie.Need-overflow-mul-wrapping-add-u64
-mul-wrapping-add-u64 c = halves-fit (omega arith) (omega arith)
+mul-wrapping-add-u64 c = halves_fit (omega arith) (omega arith)
 
 mul-wrapping-add-u64-2 : tie.Need-overflow-mul-wrapping-add-u64-2
 mul-wrapping-add-u64-2 c = search rules

@@ -1,5 +1,5 @@
 -- `bits_at` meets its contract. Assumes nothing.
-use Rattle.point_key.proofs.Positions.{bits-apart, bits-joined, bits-minus-zero}
+use Rattle.point_key.proofs.Positions.{bits_apart, bits_joined, bits_minus_zero}
 use Rattle.std.proofs.Common.{rules}
 use Rattle.point_key.proofs.vertex.bits_at.Statement.{statement}
 use Rattle.point_key.proofs.vertex.bits_at.Tie as tie
@@ -17,13 +17,13 @@ cast-b : tie.Need-overflow-cast-b
 cast-b c = search rules
 
 returns : tie.Need-returns
-returns c = search (rules, bits-apart)
+returns c = search (rules, bits_apart)
 
 returns-2 : tie.Need-returns-2
-returns-2 c = search (rules, bits-minus-zero)
+returns-2 c = search (rules, bits_minus_zero)
 
 returns-3 : tie.Need-returns-3
-returns-3 c = search (rules, bits-joined)
+returns-3 c = search (rules, bits_joined)
 
 pub bits-at-spec : {M : Type 1} → statement M
 bits-at-spec =

@@ -1,5 +1,5 @@
 -- `point_key::vertex::digest_at` meets its contract. Assumes nothing.
-use Rattle.point_key.proofs.Positions.{digest-is}
+use Rattle.point_key.proofs.Positions.{digest_is}
 use Rattle.std.proofs.Common.{rules}
 use Rattle.point_key.proofs.vertex.digest_at.Statement.{statement}
 use Rattle.point_key.proofs.vertex.digest_at.Tie as tie
@@ -26,7 +26,7 @@ wrapping-add-u64-requires : tie.Need-wrapping-add-u64-requires
 wrapping-add-u64-requires c κs = search rules
 
 returns : tie.Need-returns
-returns c = search digest-is
+returns c = search digest_is
 
 pub digest-at-spec : {M : Type 1} → statement M
 digest-at-spec =

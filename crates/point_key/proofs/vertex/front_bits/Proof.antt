@@ -1,5 +1,5 @@
 -- `point_key::vertex::front_bits` meets its contract. Assumes nothing.
-use Rattle.point_key.proofs.Positions.{front-is}
+use Rattle.point_key.proofs.Positions.{front_is}
 use Rattle.std.proofs.Common.{rules}
 use Rattle.point_key.proofs.vertex.front_bits.Statement.{statement}
 use Rattle.point_key.proofs.vertex.front_bits.Tie as tie
@@ -26,7 +26,7 @@ add-result : tie.Need-overflow-add-result
 add-result c = search rules
 
 returns : tie.Need-returns
-returns c = search front-is
+returns c = search front_is
 
 pub front-bits-spec : {M : Type 1} → statement M
 front-bits-spec =

@@ -1,5 +1,5 @@
 -- `point_key::vertex::key_at` meets its contract. Assumes nothing.
-use Rattle.point_key.proofs.Positions.{key-named}
+use Rattle.point_key.proofs.Positions.{key_named}
 use Rattle.std.proofs.Common.{rules}
 use Rattle.point_key.proofs.vertex.key_at.Statement.{statement}
 use Rattle.point_key.proofs.vertex.key_at.Tie as tie
@@ -41,7 +41,7 @@ key-of-requires : tie.Need-key-of-requires
 key-of-requires c κs = search rules
 
 returns : tie.Need-returns
-returns c = search key-named
+returns c = search key_named
 
 pub key-at-spec : {M : Type 1} → statement M
 key-at-spec =

@@ -1,5 +1,5 @@
 -- `point_key::vertex::same_bits` meets its contract. Assumes nothing.
-use Rattle.point_key.proofs.Positions.{last-differs, fronts-decide}
+use Rattle.point_key.proofs.Positions.{last_differs, fronts_decide}
 use Rattle.std.proofs.Common.{rules}
 use Rattle.point_key.proofs.vertex.same_bits.Statement.{statement}
 use Rattle.point_key.proofs.vertex.same_bits.Tie as tie
@@ -23,7 +23,7 @@ bits-at-requires-2 : tie.Need-bits-at-requires-2
 bits-at-requires-2 c κs = search rules
 
 returns : tie.Need-returns
-returns c = search last-differs
+returns c = search last_differs
 
 front-bits-requires : tie.Need-front-bits-requires
 front-bits-requires c κs = search rules
@@ -32,7 +32,7 @@ front-bits-requires-2 : tie.Need-front-bits-requires-2
 front-bits-requires-2 c κs = search rules
 
 returns-2 : tie.Need-returns-2
-returns-2 c = search fronts-decide
+returns-2 c = search fronts_decide
 
 pub same-bits-spec : {M : Type 1} → statement M
 same-bits-spec =

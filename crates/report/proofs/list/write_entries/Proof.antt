@@ -2,7 +2,7 @@
 use Prim.Native.Nat.{◌+◌, ◌-◌}
 use native.Mathlib.Omega.{arith}
 use lib.ListN.{get_or}
-use Rattle.report.proofs.ListLaws.{Writing, writing-none, writing-room, writing_more, writing-all}
+use Rattle.report.proofs.ListLaws.{Writing, writing_none, writing_room, writing_more, writing_all}
 use borrow.Author.Rules.{rules}
 use Rattle.report.proofs.list.write_entries.Statement.{statement}
 use Rattle.report.proofs.list.write_entries.Tie as tie
@@ -14,7 +14,7 @@ abbrev decreases-loop : tie.decreases-loop
 decreases-loop w at r list₀ listed k₀ list k = r - k
 
 loop-holds : tie.Need-loop-init invariant-loop decreases-loop
-loop-holds c = writing-none _ _ _ _ _
+loop-holds c = writing_none _ _ _ _ _
 
 add-x : tie.Need-overflow-add-x invariant-loop decreases-loop
 add-x c = search rules
@@ -38,7 +38,7 @@ cast-put-two-2 : tie.Need-overflow-cast-put-two-2 invariant-loop decreases-loop
 cast-put-two-2 c = omega (arith, c.before.shared-slice-known2.given (c.before.before.before.before.before.before.args.at + c.before.before.before.loop.k))
 
 put-two-requires : tie.Need-put-two-requires invariant-loop decreases-loop
-put-two-requires c κs = search writing-room
+put-two-requires c κs = search writing_room
 
 add-k : tie.Need-overflow-add-k invariant-loop decreases-loop
 add-k c = search rules
@@ -56,7 +56,7 @@ same_length : tie.Need-same-length invariant-loop decreases-loop
 same_length c = search rules
 
 returns : tie.Need-returns invariant-loop decreases-loop
-returns c = search writing-all
+returns c = search writing_all
 
 pub write-entries-spec : {M : Type 1} → statement M
 write-entries-spec =

@@ -1,5 +1,5 @@
 -- `audit` meets its contract. Assumes nothing.
-use Rattle.report_audit.proofs.BodyLaws.{area-ready, audited}
+use Rattle.report_audit.proofs.BodyLaws.{area_ready, audited}
 use borrow.Author.Rules.{rules}
 use Rattle.report_audit.proofs.bodies.audit.Statement.{statement}
 use Rattle.report_audit.proofs.bodies.audit.Tie as tie
@@ -14,7 +14,7 @@ audit-body-requires : tie.Need-audit-body-requires
 audit-body-requires c κs =
     let k = c.before in
     let t = k.before in
-    area-ready t.total-vertices.ensures k.row_count.ensures t.before.before.before.before.before.requires
+    area_ready t.total-vertices.ensures k.row_count.ensures t.before.before.before.before.before.requires
 
 same_length : tie.Need-same-length
 same_length c = search rules

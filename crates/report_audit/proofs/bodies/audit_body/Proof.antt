@@ -1,6 +1,6 @@
 -- `audit_body` meets its contract. Assumes nothing.
 use native.Mathlib.Omega.{arith}
-use Rattle.report_audit.proofs.BodyLaws.{counts-ready, rank-ready, body-audited}
+use Rattle.report_audit.proofs.BodyLaws.{counts_ready, rank_ready, body_audited}
 use borrow.Author.Rules.{rules}
 use Rattle.report_audit.proofs.bodies.audit_body.Statement.{statement}
 use Rattle.report_audit.proofs.bodies.audit_body.Tie as tie
@@ -42,14 +42,14 @@ count-marks-requires : tie.Need-count-marks-requires
 count-marks-requires c κs =
     let j = c.before.before.before in
     let u = j.before.before.before.before in
-    counts-ready u.before.before.before.before.before.before.requires u.lay-uses.ensures j.join-faces.ensures (omega arith)
+    counts_ready u.before.before.before.before.before.before.requires u.lay-uses.ensures j.join-faces.ensures (omega arith)
 
 rank-counts-requires : tie.Need-rank-counts-requires
 rank-counts-requires c κs =
     let k = c.before.before.before in
     let j = k.before.before.before.before in
     let u = j.before.before.before.before in
-    rank-ready u.before.before.before.before.before.before.requires u.lay-uses.ensures j.join-faces.ensures (omega arith) k.count-marks.ensures
+    rank_ready u.before.before.before.before.before.before.requires u.lay-uses.ensures j.join-faces.ensures (omega arith) k.count-marks.ensures
 
 same_length : tie.Need-same-length
 same_length c = search rules
@@ -60,7 +60,7 @@ returns c =
     let k = r.before.before.before.before in
     let j = k.before.before.before.before in
     let u = j.before.before.before.before in
-    body-audited u.before.before.before.before.before.before.requires u.lay-uses.ensures j.join-faces.ensures (omega arith) k.count-marks.ensures r.rank-counts.ensures
+    body_audited u.before.before.before.before.before.before.requires u.lay-uses.ensures j.join-faces.ensures (omega arith) k.count-marks.ensures r.rank-counts.ensures
 
 pub audit-body-spec : {M : Type 1} → statement M
 audit-body-spec =

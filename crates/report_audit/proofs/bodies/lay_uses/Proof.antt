@@ -1,6 +1,6 @@
 -- `lay_uses` meets its contract. Assumes nothing.
 use native.Mathlib.Omega.{arith}
-use Rattle.report_audit.proofs.BodyLaws.{uses-ready, uses-laid}
+use Rattle.report_audit.proofs.BodyLaws.{uses_ready, uses_laid}
 use borrow.Author.Rules.{rules}
 use Rattle.report_audit.proofs.bodies.lay_uses.Statement.{statement}
 use Rattle.report_audit.proofs.bodies.lay_uses.Tie as tie
@@ -27,7 +27,7 @@ list-uses-requires : tie.Need-list-uses-requires
 list-uses-requires c κs =
     let f = c.before.before.before in
     let j = f.before.before.before.before in
-    uses-ready j.before.before.before.before.before.before.requires j.join-points.ensures (omega arith) f.fill.ensures
+    uses_ready j.before.before.before.before.before.before.requires j.join-points.ensures (omega arith) f.fill.ensures
 
 same_length : tie.Need-same-length
 same_length c = search rules
@@ -37,7 +37,7 @@ returns c =
     let u = c.before.before in
     let f = u.before.before.before.before in
     let j = f.before.before.before.before in
-    uses-laid j.before.before.before.before.before.before.requires j.join-points.ensures (omega arith) f.fill.ensures u.list-uses.ensures (omega arith)
+    uses_laid j.before.before.before.before.before.before.requires j.join-points.ensures (omega arith) f.fill.ensures u.list-uses.ensures (omega arith)
 
 pub lay-uses-spec : {M : Type 1} → statement M
 lay-uses-spec =

@@ -1,7 +1,7 @@
 -- `count_marks` meets its contract: after use i the marks of the uses before it are counted. Assumes nothing.
 use mathlib.Core.Path.{refl}
 use Prim.Native.Nat.{◌-◌}
-use Rattle.report_audit.proofs.CountLaws.{Counting, cleared-ready, counting-none, mark-ready, counting_more, counting-all}
+use Rattle.report_audit.proofs.CountLaws.{Counting, cleared_ready, counting_none, mark_ready, counting_more, counting_all}
 use borrow.Author.Rules.{rules}
 use Rattle.report_audit.proofs.counts.count_marks.Statement.{statement}
 use Rattle.report_audit.proofs.counts.count_marks.Tie as tie
@@ -21,14 +21,14 @@ fill-requires c κs = search rules
 loop-holds : tie.Need-loop-init invariant-loop decreases-loop
 loop-holds c =
     let f = c.before.before in
-    counting-none f.before.before.before.requires refl f.fill.ensures
+    counting_none f.before.before.before.requires refl f.fill.ensures
 
 mark-use-requires : tie.Need-mark-use-requires invariant-loop decreases-loop
 mark-use-requires c κs =
     let l = c.before in
     let q = l.before in
     let f = q.before.before.before in
-    mark-ready (cleared-ready f.before.before.before.requires refl f.fill.ensures) q.loop.invariant l.loop-test.true
+    mark_ready (cleared_ready f.before.before.before.requires refl f.fill.ensures) q.loop.invariant l.loop-test.true
 
 add-i : tie.Need-overflow-add-i invariant-loop decreases-loop
 add-i c = search rules
@@ -42,7 +42,7 @@ loop-again c =
     let l = t.before.before in
     let q = l.before in
     let f = q.before.before.before in
-    counting_more (cleared-ready f.before.before.before.requires refl f.fill.ensures) q.loop.invariant l.loop-test.true t.mark-use.ensures
+    counting_more (cleared_ready f.before.before.before.requires refl f.fill.ensures) q.loop.invariant l.loop-test.true t.mark-use.ensures
 
 same_length : tie.Need-same-length invariant-loop decreases-loop
 same_length c = search rules
@@ -51,7 +51,7 @@ returns : tie.Need-returns invariant-loop decreases-loop
 returns c =
     let q = c.before in
     let f = q.before.before.before in
-    counting-all f.before.before.before.requires refl f.fill.ensures q.loop.invariant c.loop-test.false
+    counting_all f.before.before.before.requires refl f.fill.ensures q.loop.invariant c.loop-test.false
 
 pub count-marks-spec : {M : Type 1} → statement M
 count-marks-spec =

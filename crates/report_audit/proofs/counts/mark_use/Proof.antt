@@ -1,5 +1,5 @@
 -- `mark_use` meets its contract. Assumes nothing.
-use Rattle.report_audit.proofs.CountLaws.{own-ready, far-ready, marked-yes, marked-no}
+use Rattle.report_audit.proofs.CountLaws.{own_ready, far_ready, marked_yes, marked_no}
 use borrow.Author.Rules.{rules}
 use Rattle.report_audit.proofs.counts.mark_use.Statement.{statement}
 use Rattle.report_audit.proofs.counts.mark_use.Tie as tie
@@ -41,22 +41,22 @@ slice-read-far : tie.Need-slice-read-far
 slice-read-far c = search rules
 
 count-one-requires : tie.Need-count-one-requires
-count-one-requires c κs = search (own-ready, rules)
+count-one-requires c κs = search (own_ready, rules)
 
 count-one-requires-2 : tie.Need-count-one-requires-2
-count-one-requires-2 c κs = search (far-ready, rules)
+count-one-requires-2 c κs = search (far_ready, rules)
 
 same_length : tie.Need-same-length
 same_length c = search rules
 
 returns : tie.Need-returns
-returns c = search (marked-yes, rules)
+returns c = search (marked_yes, rules)
 
 same-length-2 : tie.Need-same-length-2
 same-length-2 c = search rules
 
 returns-2 : tie.Need-returns-2
-returns-2 c = search (marked-no, rules)
+returns-2 c = search (marked_no, rules)
 
 pub mark-use-spec : {M : Type 1} → statement M
 mark-use-spec =

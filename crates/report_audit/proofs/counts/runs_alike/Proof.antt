@@ -1,5 +1,5 @@
 -- `runs_alike` meets its contract. Assumes nothing.
-use Rattle.report_audit.proofs.CountLaws.{alike-own, alike-ends, alike_runs}
+use Rattle.report_audit.proofs.CountLaws.{alike_own, alike_ends, alike_runs}
 use borrow.Author.Rules.{rules}
 use Rattle.report_audit.proofs.counts.runs_alike.Statement.{statement}
 use Rattle.report_audit.proofs.counts.runs_alike.Tie as tie
@@ -29,10 +29,10 @@ shared-slice-read-run : tie.Need-shared-slice-read-run
 shared-slice-read-run c = search rules
 
 returns : tie.Need-returns
-returns c = search (alike-own, rules)
+returns c = search (alike_own, rules)
 
 returns-2 : tie.Need-returns-2
-returns-2 c = search (alike-ends, rules)
+returns-2 c = search (alike_ends, rules)
 
 mul-result : tie.Need-overflow-mul-result
 mul-result c = search rules

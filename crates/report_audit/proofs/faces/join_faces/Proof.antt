@@ -1,5 +1,5 @@
 -- `join_faces` meets its contract. Assumes nothing.
-use Rattle.report_audit.proofs.FaceLaws.{faces-joined}
+use Rattle.report_audit.proofs.FaceLaws.{faces_joined}
 use borrow.Author.Rules.{rules}
 use Rattle.report_audit.proofs.faces.join_faces.Statement.{statement}
 use Rattle.report_audit.proofs.faces.join_faces.Tie as tie
@@ -17,7 +17,7 @@ same_length : tie.Need-same-length
 same_length c = search rules
 
 returns : tie.Need-returns
-returns c = search faces-joined
+returns c = search faces_joined
 
 pub join-faces-spec : {M : Type 1} → statement M
 join-faces-spec =

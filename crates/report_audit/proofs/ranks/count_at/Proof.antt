@@ -1,4 +1,4 @@
--- `count_at` meets its contract. Assumes nothing.
+-- `count_at_lem` meets its contract. Assumes nothing.
 use Rattle.report_audit.proofs.RankLaws.{count_yes, count_no}
 use borrow.Author.Rules.{rules}
 use Rattle.report_audit.proofs.ranks.count_at.Statement.{statement}

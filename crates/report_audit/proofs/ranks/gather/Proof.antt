@@ -2,7 +2,7 @@
 use mathlib.Core.Path.{refl}
 use Prim.Native.Nat.{◌-◌}
 use native.Mathlib.Omega.{arith}
-use Rattle.report_audit.proofs.RankLaws.{Gathering, gathering-none, count-ready, count_low, gathering-more, gathering-all}
+use Rattle.report_audit.proofs.RankLaws.{Gathering, gathering_none, count_ready, count_low, gathering_more, gathering_all}
 use borrow.Author.Rules.{rules}
 use Rattle.report_audit.proofs.ranks.gather.Statement.{statement}
 use Rattle.report_audit.proofs.ranks.gather.Tie as tie
@@ -20,10 +20,10 @@ add-order : tie.Need-overflow-add-order invariant-loop decreases-loop
 add-order c = search rules
 
 loop-holds : tie.Need-loop-init invariant-loop decreases-loop
-loop-holds c = search (gathering-none, rules)
+loop-holds c = search (gathering_none, rules)
 
 count-at-requires : tie.Need-count-at-requires invariant-loop decreases-loop
-count-at-requires c κs = search (count-ready, rules)
+count-at-requires c κs = search (count_ready, rules)
 
 sub-w : tie.Need-overflow-sub-w invariant-loop decreases-loop
 sub-w c = omega (arith, count_low c.before.before.before.before.before.requires c.before.before.before.loop.invariant c.before.before.loop-test.true c.count_at.ensures)
@@ -59,13 +59,13 @@ loop-again : tie.Need-loop-preserved invariant-loop decreases-loop
 loop-again c =
     let t = c.before in
     let l = t.before.before in
-    gathering-more l.before.before.before.requires l.before.loop.invariant l.loop-test.true t.count_at.ensures refl refl c.at_most_one.ensures
+    gathering_more l.before.before.before.requires l.before.loop.invariant l.loop-test.true t.count_at.ensures refl refl c.at_most_one.ensures
 
 same_length : tie.Need-same-length invariant-loop decreases-loop
 same_length c = search rules
 
 returns : tie.Need-returns invariant-loop decreases-loop
-returns c = search (gathering-all, rules)
+returns c = search (gathering_all, rules)
 
 pub gather-spec : {M : Type 1} → statement M
 gather-spec =

@@ -1,6 +1,6 @@
 -- `list_ranks` meets its contract: the words of the first k rows are listed. Assumes nothing.
 use Prim.Native.Nat.{◌-◌}
-use Rattle.report_audit.proofs.RankLaws.{Listing, listing_none, word_small, listing-more, listing-all}
+use Rattle.report_audit.proofs.RankLaws.{Listing, listing_none, word_small, listing_more, listing_all}
 use borrow.Author.Rules.{rules}
 use Rattle.report_audit.proofs.ranks.list_ranks.Statement.{statement}
 use Rattle.report_audit.proofs.ranks.list_ranks.Tie as tie
@@ -48,13 +48,13 @@ loop-less : tie.Need-loop-smaller invariant-loop decreases-loop
 loop-less c = search rules
 
 loop-again : tie.Need-loop-preserved invariant-loop decreases-loop
-loop-again c = search (listing-more, rules)
+loop-again c = search (listing_more, rules)
 
 same_length : tie.Need-same-length invariant-loop decreases-loop
 same_length c = search rules
 
 returns : tie.Need-returns invariant-loop decreases-loop
-returns c = search (listing-all, rules)
+returns c = search (listing_all, rules)
 
 pub list-ranks-spec : {M : Type 1} → statement M
 list-ranks-spec =

@@ -1,6 +1,6 @@
 -- `write_entries` meets its contract: the first k entries are written. Assumes nothing.
 use Prim.Native.Nat.{◌-◌}
-use Rattle.report_audit.proofs.RankLaws.{Writing, writing-none, entry_ready, writing_more, writing-all}
+use Rattle.report_audit.proofs.RankLaws.{Writing, writing_none, entry_ready, writing_more, writing_all}
 use borrow.Author.Rules.{rules}
 use Rattle.report_audit.proofs.ranks.write_entries.Statement.{statement}
 use Rattle.report_audit.proofs.ranks.write_entries.Tie as tie
@@ -18,7 +18,7 @@ add-entries : tie.Need-overflow-add-entries invariant-loop decreases-loop
 add-entries c = search rules
 
 loop-holds : tie.Need-loop-init invariant-loop decreases-loop
-loop-holds c = search (writing-none, rules)
+loop-holds c = search (writing_none, rules)
 
 entry-at-requires : tie.Need-entry-at-requires invariant-loop decreases-loop
 entry-at-requires c κs = search (entry_ready, rules)
@@ -45,7 +45,7 @@ same_length : tie.Need-same-length invariant-loop decreases-loop
 same_length c = search rules
 
 returns : tie.Need-returns invariant-loop decreases-loop
-returns c = search (writing-all, rules)
+returns c = search (writing_all, rules)
 
 pub write-entries-spec : {M : Type 1} → statement M
 write-entries-spec =

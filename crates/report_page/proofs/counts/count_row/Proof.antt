@@ -1,8 +1,8 @@
 -- `count_row` meets its contract. The verdict tells the failure of the row's patch. Assumes nothing.
 use mathlib.Core.Path.{sym, ap, ◌∙◌}
-use Rattle.mesh_verdicts.specs.Verdicts.{failureIn}
+use Rattle.mesh_verdicts.specs.Verdicts.{failure_in}
 use borrow.Author.Rules.{rules}
-use Rattle.report_page.proofs.CountLaws.{row-yes, row-no}
+use Rattle.report_page.proofs.CountLaws.{row_yes, row_no}
 use Rattle.report_page.proofs.counts.count_row.Statement.{statement}
 use Rattle.report_page.proofs.counts.count_row.Tie as tie
 
@@ -29,11 +29,11 @@ with-failed-requires c κs = search rules
 
 returns : tie.Need-returns
 returns c =
-    row-yes _ (sym (ap failureIn c.before.before.before.enum_told.given.1) ∙ c.before.before.before.before.before.row-verdict.ensures)
+    row_yes _ (sym (ap failure_in c.before.before.before.enum_told.given.1) ∙ c.before.before.before.before.before.row-verdict.ensures)
     c.before.before.indices.ensures c.before.vertices.ensures c.with-accepted.ensures
 
 returns-2 : tie.Need-returns-2
-returns-2 c = row-no _ _ _ (sym (ap failureIn c.before.before.verdict.given.1) ∙ c.before.before.before.before.row-verdict.ensures) c.with-failed.ensures
+returns-2 c = row_no _ _ _ (sym (ap failure_in c.before.before.verdict.given.1) ∙ c.before.before.before.before.row-verdict.ensures) c.with-failed.ensures
 
 pub count-row-spec : {M : Type 1} → statement M
 count-row-spec =

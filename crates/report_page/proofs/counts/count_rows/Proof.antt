@@ -1,8 +1,8 @@
 -- `count_rows` meets its contract. With k rows counted, the counts and what the rest count make the whole. Assumes nothing.
 use Prim.Native.Nat.{◌-◌}
 use native.Mathlib.Omega.{arith}
-use Rattle.mesh_acceptance.specs.RowStarts.{vertices-in, indices-in}
-use Rattle.report_page.proofs.CountLaws.{Counting, counting-none, counting-ready, counting_more, counting-all}
+use Rattle.mesh_acceptance.specs.RowStarts.{vertices_in, indices_in}
+use Rattle.report_page.proofs.CountLaws.{Counting, counting_none, counting_ready, counting_more, counting_all}
 use borrow.Author.Rules.{rules}
 use Rattle.report_page.proofs.counts.count_rows.Statement.{statement}
 use Rattle.report_page.proofs.counts.count_rows.Tie as tie
@@ -23,11 +23,11 @@ no-counts-requires : tie.Need-no-counts-requires invariant-loop decreases-loop
 no-counts-requires c κs = search rules
 
 loop-holds : tie.Need-loop-init invariant-loop decreases-loop
-loop-holds c = search counting-none
+loop-holds c = search counting_none
 
 count-row-requires : tie.Need-count-row-requires invariant-loop decreases-loop
 count-row-requires c κs =
-    counting-ready c.before.before.before.before.before.before.before.before.requires c.before.loop.invariant
+    counting_ready c.before.before.before.before.before.before.before.before.requires c.before.loop.invariant
     (omega (arith, c.loop-test.true, c.before.before.before.row_count.ensures)) c.before.before.before.before.diagonal.ensures
 
 vertices-requires : tie.Need-vertices-requires invariant-loop decreases-loop
@@ -40,9 +40,9 @@ add-base : tie.Need-overflow-add-base invariant-loop decreases-loop
 add-base c =
     omega (
       arith,
-      c.before.before.before.before.before.before.before.before.before.before.requires.all-positions,
+      c.before.before.before.before.before.before.before.before.before.before.requires.all_positions,
       c.vertices.ensures,
-      vertices-in c.before.before.before.loop.invariant.here
+      vertices_in c.before.before.before.loop.invariant.here
           (omega (arith, c.before.before.loop-test.true, c.before.before.before.before.before.row_count.ensures)),
     )
 
@@ -56,9 +56,9 @@ add-i : tie.Need-overflow-add-i invariant-loop decreases-loop
 add-i c =
     omega (
       arith,
-      c.before.before.before.before.before.before.before.before.before.before.before.requires.all-indices,
+      c.before.before.before.before.before.before.before.before.before.before.before.requires.all_indices_lem,
       c.indices.ensures,
-      indices-in c.before.before.before.before.loop.invariant.here
+      indices_in c.before.before.before.before.loop.invariant.here
           (omega (arith, c.before.before.before.loop-test.true, c.before.before.before.before.before.before.row_count.ensures)),
     )
 
@@ -76,7 +76,7 @@ loop-again c =
 
 returns : tie.Need-returns invariant-loop decreases-loop
 returns c =
-    counting-all c.before.before.before.before.before.before.before.before.requires c.before.loop.invariant
+    counting_all c.before.before.before.before.before.before.before.before.requires c.before.loop.invariant
     (omega (arith, c.loop-test.false, c.before.before.before.row_count.ensures))
 
 pub count-rows-spec : {M : Type 1} → statement M

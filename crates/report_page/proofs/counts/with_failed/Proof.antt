@@ -1,6 +1,6 @@
 -- `with_failed` meets its contract. Each cause has its own count. Assumes nothing.
 use borrow.Author.Rules.{rules}
-use Rattle.report_page.proofs.CountLaws.{failed-empty, failed-upstream, failed-escape}
+use Rattle.report_page.proofs.CountLaws.{failed_empty, failed_upstream, failed_escape}
 use Rattle.report_page.proofs.counts.with_failed.Statement.{statement}
 use Rattle.report_page.proofs.counts.with_failed.Tie as tie
 
@@ -23,13 +23,13 @@ add-c-3 : tie.Need-overflow-add-c-3
 add-c-3 c = search rules
 
 returns : tie.Need-returns
-returns c = search failed-empty
+returns c = search failed_empty
 
 returns-2 : tie.Need-returns-2
-returns-2 c = search failed-upstream
+returns-2 c = search failed_upstream
 
 returns-3 : tie.Need-returns-3
-returns-3 c = search failed-escape
+returns-3 c = search failed_escape
 
 pub with-failed-spec : {M : Type 1} → statement M
 with-failed-spec =

@@ -1,5 +1,5 @@
 -- `byte_at` meets its contract. Assumes nothing.
-use Rattle.sheet_lines.proofs.PieceLaws.{byte-end, byte-other, byte-there, no-piece}
+use Rattle.sheet_lines.proofs.PieceLaws.{byte_end, byte_other, byte_there, no_piece}
 use borrow.Author.Rules.{rules}
 use Rattle.sheet_lines.proofs.scanning.byte_at.Statement.{statement}
 use Rattle.sheet_lines.proofs.scanning.byte_at.Tie as tie
@@ -8,7 +8,7 @@ missing-requires : tie.Need-missing-requires
 missing-requires c κs = search rules
 
 returns : tie.Need-returns
-returns c = search (rules, no-piece, byte-end)
+returns c = search (rules, no_piece, byte_end)
 
 shared-slice-read-if2 : tie.Need-shared-slice-read-if2
 shared-slice-read-if2 c = search rules
@@ -17,13 +17,13 @@ missing-requires-2 : tie.Need-missing-requires-2
 missing-requires-2 c κs = search rules
 
 returns-2 : tie.Need-returns-2
-returns-2 c = search (rules, no-piece, byte-other)
+returns-2 c = search (rules, no_piece, byte_other)
 
 add-t4 : tie.Need-overflow-add-t4
 add-t4 c = search rules
 
 returns-3 : tie.Need-returns-3
-returns-3 c = search (rules, byte-there)
+returns-3 c = search (rules, byte_there)
 
 pub byte-at-spec : {M : Type 1} → statement M
 byte-at-spec =

@@ -1,5 +1,5 @@
 -- `put_line` meets its contract. Assumes nothing.
-use Rattle.sheet_lines.proofs.WriteLaws.{line-ended}
+use Rattle.sheet_lines.proofs.WriteLaws.{line_ended}
 use borrow.Author.Rules.{rules}
 use Rattle.sheet_lines.proofs.writing.put_line.Statement.{statement}
 use Rattle.sheet_lines.proofs.writing.put_line.Tie as tie
@@ -14,7 +14,7 @@ same_length : tie.Need-same-length
 same_length c = search rules
 
 returns : tie.Need-returns
-returns c = search (rules, line-ended)
+returns c = search (rules, line_ended)
 
 pub put-line-spec : {M : Type 1} → statement M
 put-line-spec = tie.close (tie.spec put-form-requires put-byte-requires same_length returns)

@@ -1,5 +1,5 @@
 -- `put_piece` meets its contract. Assumes nothing.
-use Rattle.sheet_lines.proofs.WriteLaws.{put-itself, put-spaced}
+use Rattle.sheet_lines.proofs.WriteLaws.{put_itself, put_spaced}
 use borrow.Author.Rules.{rules}
 use Rattle.sheet_lines.proofs.writing.put_piece.Statement.{statement}
 use Rattle.sheet_lines.proofs.writing.put_piece.Tie as tie
@@ -14,7 +14,7 @@ same_length : tie.Need-same-length
 same_length c = search rules
 
 returns : tie.Need-returns
-returns c = search (rules, put-itself)
+returns c = search (rules, put_itself)
 
 put-byte-requires-2 : tie.Need-put-byte-requires-2
 put-byte-requires-2 c κs = search rules
@@ -26,7 +26,7 @@ same-length-2 : tie.Need-same-length-2
 same-length-2 c = search rules
 
 returns-2 : tie.Need-returns-2
-returns-2 c = search (rules, put-spaced)
+returns-2 c = search (rules, put_spaced)
 
 pub put-piece-spec : {M : Type 1} → statement M
 put-piece-spec =

@@ -1,5 +1,5 @@
 -- `stitch` meets its contract. Assumes nothing.
-use Rattle.stitch.proofs.StitchLaws.{call-done, call-refused}
+use Rattle.stitch.proofs.StitchLaws.{call_done, call_refused}
 use mathlib.Core.Path.{sym, ◌∙◌}
 use Rattle.body_checks.specs.Accepted.{passed}
 use borrow.Author.Rules.{rules}
@@ -30,10 +30,10 @@ same-length-5 : tie.Need-same-length-5
 same-length-5 c = search rules
 
 returns : tie.Need-returns
-returns c = search call-done
+returns c = search call_done
 
 returns-2 : tie.Need-returns-2
-returns-2 c = search call-refused
+returns-2 c = search call_refused
 
 pub stitch-spec : {M : Type 1} → statement M
 stitch-spec =

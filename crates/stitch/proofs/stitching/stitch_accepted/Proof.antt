@@ -1,6 +1,6 @@
 -- `stitch_accepted` meets its contract. Assumes nothing.
 use Rattle.body_checks.specs.Cleared.{clearable}
-use Rattle.stitch.proofs.StitchLaws.{accepted-stitched}
+use Rattle.stitch.proofs.StitchLaws.{accepted_stitched}
 use borrow.Author.Rules.{rules}
 use Rattle.stitch.proofs.stitching.stitch_accepted.Statement.{statement}
 use Rattle.stitch.proofs.stitching.stitch_accepted.Tie as tie
@@ -33,7 +33,7 @@ same-length-5 : tie.Need-same-length-5
 same-length-5 c = search rules
 
 returns : tie.Need-returns
-returns c = search accepted-stitched
+returns c = search accepted_stitched
 
 pub stitch-accepted-spec : {M : Type 1} → statement M
 stitch-accepted-spec =

@@ -1,5 +1,5 @@
 -- `stitch_rows` meets its contract. Assumes nothing.
-use Rattle.stitch.proofs.StitchLaws.{sag-above, sag-not-above}
+use Rattle.stitch.proofs.StitchLaws.{sag_above, sag_not_above}
 use borrow.Author.Rules.{rules}
 use Rattle.stitch.proofs.stitching.stitch_rows.Statement.{statement}
 use Rattle.stitch.proofs.stitching.stitch_rows.Tie as tie
@@ -23,7 +23,7 @@ same-length-5 : tie.Need-same-length-5
 same-length-5 c = search rules
 
 returns : tie.Need-returns
-returns c = search sag-above
+returns c = search sag_above
 
 stitch-nothing-requires : tie.Need-stitch-nothing-requires
 stitch-nothing-requires c κs = search rules
@@ -44,7 +44,7 @@ same-length-10 : tie.Need-same-length-10
 same-length-10 c = search rules
 
 returns-2 : tie.Need-returns-2
-returns-2 c = search sag-not-above
+returns-2 c = search sag_not_above
 
 pub stitch-rows-spec : {M : Type 1} → statement M
 stitch-rows-spec =

@@ -1,5 +1,5 @@
 -- `stitch_nothing` meets its contract. Assumes nothing.
-use Rattle.stitch_accepted.proofs.CloseLaws.{nothing-refused, copy-room, nothing-done}
+use Rattle.stitch_accepted.proofs.CloseLaws.{nothing_refused, copy_room, nothing_done}
 use borrow.Author.Rules.{rules}
 use Rattle.stitch_accepted.proofs.closing.stitch_nothing.Statement.{statement}
 use Rattle.stitch_accepted.proofs.closing.stitch_nothing.Tie as tie
@@ -10,7 +10,7 @@ result-failing-requires c κs = search rules
 copy-body-requires : tie.Need-copy-body-requires
 copy-body-requires c κs =
     let i = c.before.before.before.before in
-    copy-room i.before.before.before.before.before.before.before.before.before.before.before.before.before.before.before.requires _ _ _ _ i.before.result-failing.ensures i.if1.true
+    copy_room i.before.before.before.before.before.before.before.before.before.before.before.before.before.before.before.requires _ _ _ _ i.before.result-failing.ensures i.if1.true
 
 cast-t32 : tie.Need-overflow-cast-t32
 cast-t32 c = search rules
@@ -31,7 +31,7 @@ same-length-4 : tie.Need-same-length-4
 same-length-4 c = search rules
 
 returns : tie.Need-returns
-returns c = search nothing-done
+returns c = search nothing_done
 
 same-length-5 : tie.Need-same-length-5
 same-length-5 c = search rules
@@ -46,7 +46,7 @@ same-length-8 : tie.Need-same-length-8
 same-length-8 c = search rules
 
 returns-2 : tie.Need-returns-2
-returns-2 c = search nothing-refused
+returns-2 c = search nothing_refused
 
 pub stitch-nothing-spec : {M : Type 1} → statement M
 stitch-nothing-spec =

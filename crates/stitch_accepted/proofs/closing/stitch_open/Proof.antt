@@ -1,5 +1,5 @@
 -- `stitch_open` meets its contract. Assumes nothing.
-use Rattle.stitch_accepted.proofs.CloseLaws.{rows_few, preparable, open-refused, sizes-fit, open-puttable, open_done}
+use Rattle.stitch_accepted.proofs.CloseLaws.{rows_few, preparable, open_refused, sizes_fit, open_puttable, open_done}
 use native.Mathlib.Omega.{arith}
 use borrow.Author.Rules.{rules}
 use Rattle.stitch_accepted.proofs.closing.stitch_open.Statement.{statement}
@@ -33,18 +33,18 @@ put-body-requires c κs =
     let k = i.before.before.before.before.before.before.before.before.before.before in
     let p = k.before.before.before.before in
     let g = p.before.before.before.before.before.before.before.before.before.before.before.requires in
-    open-puttable g p.prepare.ensures k.count-splits.ensures _ _ _ _ i.before.result-failing.ensures (omega arith) i.if1.true
+    open_puttable g p.prepare.ensures k.count-splits.ensures _ _ _ _ i.before.result-failing.ensures (omega arith) i.if1.true
 
 cast-t44 : tie.Need-overflow-cast-t44
 cast-t44 c =
     let i = c.before.before.before.before.before.before.before.before.before.before.before.before.before.before.before.before in
-    let r = sizes-fit i.before.result-failing.ensures i.if1.true in
+    let r = sizes_fit i.before.result-failing.ensures i.if1.true in
     omega (arith, r.vertices)
 
 cast-t45 : tie.Need-overflow-cast-t45
 cast-t45 c =
     let i = c.before.before.before.before.before.before.before.before.before.before.before.before.before.before.before.before in
-    let r = sizes-fit i.before.result-failing.ensures i.if1.true in
+    let r = sizes_fit i.before.result-failing.ensures i.if1.true in
     omega (arith, r.indices)
 
 same_length : tie.Need-same-length
@@ -95,7 +95,7 @@ returns-2 c =
     let k = i.before.before.before.before.before.before.before.before.before.before in
     let p = k.before.before.before.before in
     let g = p.before.before.before.before.before.before.before.before.before.before.before.requires in
-    open-refused g p.prepare.ensures k.count-splits.ensures _ _ _ _ i.before.result-failing.ensures i.if1.false
+    open_refused g p.prepare.ensures k.count-splits.ensures _ _ _ _ i.before.result-failing.ensures i.if1.false
 
 pub stitch-open-spec : {M : Type 1} → statement M
 stitch-open-spec =

@@ -1,5 +1,5 @@
 -- `stitch_boxes::Bounds::dot` meets its contract. Assumes nothing.
-use Rattle.stitch_boxes.proofs.CodeLaws.{dot-is}
+use Rattle.stitch_boxes.proofs.CodeLaws.{dot_is}
 use borrow.Author.Rules.{rules}
 use Rattle.stitch_boxes.proofs.Bounds.dot.Statement.{statement}
 use Rattle.stitch_boxes.proofs.Bounds.dot.Tie as tie
@@ -20,7 +20,7 @@ plus-requires-2 : tie.Need-plus-requires-2
 plus-requires-2 c κs = search rules
 
 returns : tie.Need-returns
-returns c = search dot-is
+returns c = search dot_is
 
 pub dot-spec : {M : Type 1} → statement M
 dot-spec =

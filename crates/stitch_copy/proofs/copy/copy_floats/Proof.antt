@@ -1,7 +1,7 @@
 -- `stitch_copy::copy::copy_floats` meets its contract. With k items done the front is those of `from` and the rest as it was. Assumes nothing.
 use Prim.Native.Nat.{◌-◌}
 use native.Mathlib.Omega.{arith}
-use Rattle.lists.specs.Copied.{Copied, copied_none, copied_more, copied-written}
+use Rattle.lists.specs.Copied.{Copied, copied_none, copied_more, copied_written}
 use borrow.Author.Rules.{rules}
 use Rattle.stitch_copy.proofs.copy.copy_floats.Statement.{statement}
 use Rattle.stitch_copy.proofs.copy.copy_floats.Tie as tie
@@ -40,7 +40,7 @@ same_length : tie.Need-same-length invariant-loop decreases-loop
 same_length c = search rules
 
 returns : tie.Need-returns invariant-loop decreases-loop
-returns c = search (rules, copied-written)
+returns c = search (rules, copied_written)
 
 pub copy-floats-spec : {M : Type 1} → statement M
 copy-floats-spec =

@@ -1,7 +1,7 @@
 -- `stitch_copy::copy::copy_numbers` meets its contract. With k items done the front is those of `from` and the rest as it was. Assumes nothing.
 use Prim.Native.Nat.{◌-◌}
 use native.Mathlib.Omega.{arith}
-use Rattle.lists.specs.Copied.{Copied, copied_none, copied_more, copied-written}
+use Rattle.lists.specs.Copied.{Copied, copied_none, copied_more, copied_written}
 use borrow.Author.Rules.{rules}
 use Rattle.stitch_copy.proofs.copy.copy_numbers.Statement.{statement}
 use Rattle.stitch_copy.proofs.copy.copy_numbers.Tie as tie
@@ -40,7 +40,7 @@ same_length : tie.Need-same-length invariant-loop decreases-loop
 same_length c = search rules
 
 returns : tie.Need-returns invariant-loop decreases-loop
-returns c = search (rules, copied-written)
+returns c = search (rules, copied_written)
 
 pub copy-numbers-spec : {M : Type 1} → statement M
 copy-numbers-spec =

@@ -1,11 +1,11 @@
 -- `put_body` meets its contract. Assumes nothing.
-use Rattle.stitch_copy.proofs.PutLaws.{put-room, put-copied}
+use Rattle.stitch_copy.proofs.PutLaws.{put_room, put_copied}
 use borrow.Author.Rules.{rules}
 use Rattle.stitch_copy.proofs.put.put_body.Statement.{statement}
 use Rattle.stitch_copy.proofs.put.put_body.Tie as tie
 
 copy-body-requires : tie.Need-copy-body-requires
-copy-body-requires c κs = search put-room
+copy-body-requires c κs = search put_room
 
 same_length : tie.Need-same-length
 same_length c = search rules
@@ -20,7 +20,7 @@ same-length-4 : tie.Need-same-length-4
 same-length-4 c = search rules
 
 returns : tie.Need-returns
-returns c = search put-copied
+returns c = search put_copied
 
 write-body-requires : tie.Need-write-body-requires
 write-body-requires c κs = search rules

@@ -1,5 +1,5 @@
 -- `count_open` meets its contract. Assumes nothing.
-use Rattle.stitch_count.proofs.ClearLaws.{triangle-counted, triangle-cleared}
+use Rattle.stitch_count.proofs.ClearLaws.{triangle_counted, triangle_cleared}
 use borrow.Author.Rules.{rules}
 use Rattle.stitch_count.proofs.count.count_open.Statement.{statement}
 use Rattle.stitch_count.proofs.count.count_open.Tie as tie
@@ -23,13 +23,13 @@ same_length : tie.Need-same-length
 same_length c = search rules
 
 returns : tie.Need-returns
-returns c = search triangle-cleared
+returns c = search triangle_cleared
 
 same-length-2 : tie.Need-same-length-2
 same-length-2 c = search rules
 
 returns-2 : tie.Need-returns-2
-returns-2 c = search triangle-counted
+returns-2 c = search triangle_counted
 
 pub count-open-spec : {M : Type 1} → statement M
 count-open-spec =

@@ -1,6 +1,6 @@
 -- `count_row` meets its contract. Assumes nothing.
 use borrow.Author.Rules.{rules}
-use Rattle.stitch_count.proofs.RowCountLaws.{Counting, counting-none, counting-stopped, counting-all, next-ready, counting_more}
+use Rattle.stitch_count.proofs.RowCountLaws.{Counting, counting_none, counting_stopped, counting_all, next_ready, counting_more}
 use Prim.Native.Nat.{◌-◌}
 use Rattle.stitch_count.proofs.count.count_row.Statement.{statement}
 use Rattle.stitch_count.proofs.count.count_row.Tie as tie
@@ -13,7 +13,7 @@ abbrev decreases-loop : tie.decreases-loop
 decreases-loop positions indices w₀ f n base vertices from to found kept total₀ new₀ k₀ w total new k = to - k
 
 loop-holds : tie.Need-loop-init invariant-loop decreases-loop
-loop-holds c = search counting-none
+loop-holds c = search counting_none
 
 add-too-many : tie.Need-overflow-add-too-many invariant-loop decreases-loop
 add-too-many c = search rules
@@ -31,10 +31,10 @@ same_length : tie.Need-same-length invariant-loop decreases-loop
 same_length c = search rules
 
 returns : tie.Need-returns invariant-loop decreases-loop
-returns c = search counting-stopped
+returns c = search counting_stopped
 
 count-triangle-requires : tie.Need-count-triangle-requires invariant-loop decreases-loop
-count-triangle-requires c κs = search next-ready
+count-triangle-requires c κs = search next_ready
 
 add_total : tie.Need-overflow-add-total invariant-loop decreases-loop
 add_total c = search rules
@@ -55,7 +55,7 @@ same-length-2 : tie.Need-same-length-2 invariant-loop decreases-loop
 same-length-2 c = search rules
 
 returns-2 : tie.Need-returns-2 invariant-loop decreases-loop
-returns-2 c = search counting-all
+returns-2 c = search counting_all
 
 pub count-row-spec : {M : Type 1} → statement M
 count-row-spec =

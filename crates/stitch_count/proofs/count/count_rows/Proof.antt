@@ -2,7 +2,7 @@
 use mathlib.Core.Path.{refl}
 use Prim.Native.Nat.{◌-◌}
 use native.Mathlib.Omega.{arith}
-use Rattle.stitch_count.proofs.BodyCountLaws.{CountingRows, rows_none, end_low, base-low, row-ready, rows_more, rows_all}
+use Rattle.stitch_count.proofs.BodyCountLaws.{CountingRows, rows_none, end_low, base_low, row_ready, rows_more, rows_all}
 use borrow.Author.Rules.{rules}
 use Rattle.stitch_count.proofs.count.count_rows.Statement.{statement}
 use Rattle.stitch_count.proofs.count.count_rows.Tie as tie
@@ -45,7 +45,7 @@ count-row-requires c κs =
     let i = c.before in
     let t = i.before.before in
     let q = t.before in
-    row-ready q.before.before.before.before.before.before.requires q.loop.invariant q.before.row_count.ensures refl t.loop-test.true i.before.vertices.ensures (omega (arith, i.indices.ensures))
+    row_ready q.before.before.before.before.before.before.requires q.loop.invariant q.before.row_count.ensures refl t.loop-test.true i.before.vertices.ensures (omega (arith, i.indices.ensures))
 
 add-base : tie.Need-overflow-add-base invariant-loop decreases-loop
 add-base c =
@@ -53,7 +53,7 @@ add-base c =
     let t = i.before.before in
     let q = t.before in
     let p = q.before.before.before.before.before.before.requires in
-    let l = base-low p q.loop.invariant q.before.row_count.ensures refl t.loop-test.true refl refl in
+    let l = base_low p q.loop.invariant q.before.row_count.ensures refl t.loop-test.true refl refl in
     omega (arith, l, i.before.vertices.ensures, p.stands.few)
 
 add-k : tie.Need-overflow-add-k invariant-loop decreases-loop

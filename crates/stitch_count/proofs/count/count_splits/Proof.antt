@@ -1,11 +1,11 @@
 -- `count_splits` meets its contract. Assumes nothing.
-use Rattle.stitch_count.proofs.EmptyLaws.{none-loose}
+use Rattle.stitch_count.proofs.EmptyLaws.{none_loose}
 use borrow.Author.Rules.{rules}
 use Rattle.stitch_count.proofs.count.count_splits.Statement.{statement}
 use Rattle.stitch_count.proofs.count.count_splits.Tie as tie
 
 returns : tie.Need-returns
-returns c = search none-loose
+returns c = search none_loose
 
 count-rows-requires : tie.Need-count-rows-requires
 count-rows-requires c κs = search rules

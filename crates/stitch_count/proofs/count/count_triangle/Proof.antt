@@ -1,5 +1,5 @@
 -- `count_triangle` meets its contract. Assumes nothing.
-use Rattle.stitch_count.proofs.ClearLaws.{closed-counted}
+use Rattle.stitch_count.proofs.ClearLaws.{closed_counted}
 use borrow.Author.Rules.{rules}
 use Rattle.stitch_count.proofs.count.count_triangle.Statement.{statement}
 use Rattle.stitch_count.proofs.count.count_triangle.Tie as tie
@@ -23,7 +23,7 @@ same-length-2 : tie.Need-same-length-2
 same-length-2 c = search rules
 
 returns-2 : tie.Need-returns-2
-returns-2 c = search closed-counted
+returns-2 c = search closed_counted
 
 pub count-triangle-spec : {M : Type 1} → statement M
 count-triangle-spec =

@@ -1,5 +1,5 @@
 -- `edge_between` meets its contract. Assumes nothing.
-use Rattle.stitch_count.proofs.CountLaws.{edge-made}
+use Rattle.stitch_count.proofs.CountLaws.{edge_made}
 use borrow.Author.Rules.{rules}
 use Rattle.stitch_count.proofs.count.edge_between.Statement.{statement}
 use Rattle.stitch_count.proofs.count.edge_between.Tie as tie
@@ -32,7 +32,7 @@ shared-slice-read-t15 : tie.Need-shared-slice-read-t15
 shared-slice-read-t15 c = search rules
 
 returns : tie.Need-returns
-returns c = search edge-made
+returns c = search edge_made
 
 pub edge-between-spec : {M : Type 1} → statement M
 edge-between-spec =

@@ -1,5 +1,5 @@
 -- `find_splits` meets its contract. Assumes nothing.
-use Rattle.stitch_count.proofs.CountLaws.{triangle-splittable, triangle-done, triangle-closed}
+use Rattle.stitch_count.proofs.CountLaws.{triangle_splittable, triangle_done, triangle_closed}
 use borrow.Author.Rules.{rules}
 use Rattle.stitch_count.proofs.count.find_splits.Statement.{statement}
 use Rattle.stitch_count.proofs.count.find_splits.Tie as tie
@@ -14,19 +14,19 @@ sides-at-requires : tie.Need-sides-at-requires
 sides-at-requires c κs = search rules
 
 split-triangle-requires : tie.Need-split-triangle-requires
-split-triangle-requires c κs = search triangle-splittable
+split-triangle-requires c κs = search triangle_splittable
 
 same_length : tie.Need-same-length
 same_length c = search rules
 
 returns : tie.Need-returns
-returns c = search triangle-done
+returns c = search triangle_done
 
 same-length-2 : tie.Need-same-length-2
 same-length-2 c = search rules
 
 returns-2 : tie.Need-returns-2
-returns-2 c = search triangle-closed
+returns-2 c = search triangle_closed
 
 pub find-splits-spec : {M : Type 1} → statement M
 find-splits-spec =

@@ -1,5 +1,5 @@
 -- `sides_at` meets its contract. Assumes nothing.
-use Rattle.stitch_count.proofs.CountLaws.{third-edge, sides-made}
+use Rattle.stitch_count.proofs.CountLaws.{third_edge, sides_made}
 use borrow.Author.Rules.{rules}
 use Rattle.stitch_count.proofs.count.sides_at.Statement.{statement}
 use Rattle.stitch_count.proofs.count.sides_at.Tie as tie
@@ -63,14 +63,14 @@ edge-between-requires-3 c κs =
     let k = c.before.before in
     let j = k.before in
     let i = j.before in
-    third-edge i.before.before.before.before.before.before.before.requires i.corner.ensures j.corner2.ensures k.corner3.ensures
+    third_edge i.before.before.before.before.before.before.before.requires i.corner.ensures j.corner2.ensures k.corner3.ensures
 
 returns : tie.Need-returns
 returns c =
     let k = c.before.before.before in
     let j = k.before in
     let i = j.before in
-    sides-made i.before.before.before.before.before.before.before.requires i.corner.ensures j.corner2.ensures k.corner3.ensures c.before.before.edge-between.ensures c.before.edge-between2.ensures c.edge-between3.ensures
+    sides_made i.before.before.before.before.before.before.before.requires i.corner.ensures j.corner2.ensures k.corner3.ensures c.before.before.edge-between.ensures c.before.edge-between2.ensures c.edge-between3.ensures
 
 pub sides-at-spec : {M : Type 1} → statement M
 sides-at-spec =

@@ -1,5 +1,5 @@
 -- `prepare` meets its contract. Assumes nothing.
-use Rattle.stitch_count.proofs.PrepareLaws.{loose-gatherable, loose-orderable, all-prepared}
+use Rattle.stitch_count.proofs.PrepareLaws.{loose_gatherable, loose_orderable, all_prepared}
 use mathlib.Core.Path.{refl}
 use native.Mathlib.Omega.{arith}
 use borrow.Author.Rules.{rules}
@@ -42,13 +42,13 @@ mark-open-requires c κs = search rules
 gather-loose-requires : tie.Need-gather-loose-requires
 gather-loose-requires c κs =
     let k = c.before.before.before in
-    loose-gatherable k.before.before.before.before.before.before.before.requires refl refl refl k.mark-open.ensures (omega arith)
+    loose_gatherable k.before.before.before.before.before.before.before.requires refl refl refl k.mark-open.ensures (omega arith)
 
 order-loose-requires : tie.Need-order-loose-requires
 order-loose-requires c κs =
     let y = c.before.before.before in
     let k = y.before.before.before.before in
-    loose-orderable k.before.before.before.before.before.before.before.requires refl refl refl k.mark-open.ensures (omega arith) (omega arith) (omega arith) y.gather-loose.ensures (omega arith)
+    loose_orderable k.before.before.before.before.before.before.before.requires refl refl refl k.mark-open.ensures (omega arith) (omega arith) (omega arith) y.gather-loose.ensures (omega arith)
 
 mul-t17 : tie.Need-overflow-mul-t17
 mul-t17 c = search rules
@@ -70,7 +70,7 @@ returns c =
     let o = c.before.before in
     let y = o.before.before.before.before in
     let k = y.before.before.before.before in
-    all-prepared k.before.before.before.before.before.before.before.requires refl refl refl k.mark-open.ensures (omega arith) (omega arith) (omega arith) y.gather-loose.ensures (omega arith) o.order-loose.ensures (omega arith) k.before.before.beyond-of.ensures
+    all_prepared k.before.before.before.before.before.before.before.requires refl refl refl k.mark-open.ensures (omega arith) (omega arith) (omega arith) y.gather-loose.ensures (omega arith) o.order-loose.ensures (omega arith) k.before.before.beyond-of.ensures
 
 pub prepare-spec : {M : Type 1} → statement M
 prepare-spec =

@@ -1,5 +1,5 @@
 -- `append_pair` meets its contract. Assumes nothing.
-use Rattle.stitch_entries.proofs.AppendLaws.{pair-appended}
+use Rattle.stitch_entries.proofs.AppendLaws.{pair_appended}
 use borrow.Author.Rules.{rules}
 use Rattle.stitch_entries.proofs.entries.append_pair.Statement.{statement}
 use Rattle.stitch_entries.proofs.entries.append_pair.Tie as tie
@@ -35,7 +35,7 @@ same_length : tie.Need-same-length
 same_length c = search rules
 
 returns : tie.Need-returns
-returns c = search pair-appended
+returns c = search pair_appended
 
 pub append-pair-spec : {M : Type 1} → statement M
 append-pair-spec =

@@ -1,6 +1,6 @@
 -- `drop_close` meets its contract. Assumes nothing.
 use Prim.Native.Nat.{◌-◌}
-use Rattle.stitch_entries.proofs.DropLaws.{Keeping, keeping_none, keeping-less, keeping-more, keeping_all}
+use Rattle.stitch_entries.proofs.DropLaws.{Keeping, keeping_none, keeping_less, keeping_more, keeping_all}
 use borrow.Author.Rules.{rules}
 use Rattle.stitch_entries.proofs.entries.drop_close.Statement.{statement}
 use Rattle.stitch_entries.proofs.entries.drop_close.Tie as tie
@@ -27,7 +27,7 @@ loop-again : tie.Need-loop-preserved invariant-loop decreases-loop
 loop-again c =
     let t = c.before.before.before in
     let k = t.before.before in
-    keeping-less k.before.requires t.before.loop.invariant (λ i. (k.slice-known.given i).fits) t.loop-test.true c.before.close-to-last.ensures c.if1.true
+    keeping_less k.before.requires t.before.loop.invariant (λ i. (k.slice-known.given i).fits) t.loop-test.true c.before.close-to-last.ensures c.if1.true
 
 keep-pair-requires : tie.Need-keep-pair-requires invariant-loop decreases-loop
 keep-pair-requires c κs = search rules
@@ -47,7 +47,7 @@ loop-again-2 c =
     let i = p.before.before in
     let t = i.before.before.before in
     let k = t.before.before in
-    keeping-more k.before.requires t.before.loop.invariant (λ i. (k.slice-known.given i).ranges) t.loop-test.true i.before.close-to-last.ensures i.if1.false p.keep_pair.ensures
+    keeping_more k.before.requires t.before.loop.invariant (λ i. (k.slice-known.given i).ranges) t.loop-test.true i.before.close-to-last.ensures i.if1.false p.keep_pair.ensures
 
 same_length : tie.Need-same-length invariant-loop decreases-loop
 same_length c = search rules

@@ -1,5 +1,5 @@
 -- `is_close` meets its contract. Assumes nothing.
-use Rattle.stitch_entries.proofs.EntryLaws.{close-same, close_other}
+use Rattle.stitch_entries.proofs.EntryLaws.{close_same, close_other}
 use borrow.Author.Rules.{rules}
 use Rattle.stitch_entries.proofs.entries.is_close.Statement.{statement}
 use Rattle.stitch_entries.proofs.entries.is_close.Tie as tie
@@ -20,7 +20,7 @@ is-near-requires : tie.Need-is-near-requires
 is-near-requires c κs = search rules
 
 returns : tie.Need-returns
-returns c = search close-same
+returns c = search close_same
 
 returns-2 : tie.Need-returns-2
 returns-2 c = search close_other

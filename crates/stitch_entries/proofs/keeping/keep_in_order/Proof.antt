@@ -1,11 +1,11 @@
 -- `keep_in_order` meets its contract. Assumes nothing.
-use Rattle.stitch_entries.proofs.KeepLaws.{kept-none, kept-least}
+use Rattle.stitch_entries.proofs.KeepLaws.{kept_none, kept_least}
 use borrow.Author.Rules.{rules}
 use Rattle.stitch_entries.proofs.keeping.keep_in_order.Statement.{statement}
 use Rattle.stitch_entries.proofs.keeping.keep_in_order.Tie as tie
 
 returns : tie.Need-returns
-returns c = search kept-none
+returns c = search kept_none
 
 least-pair-requires : tie.Need-least-pair-requires
 least-pair-requires c κs = search rules
@@ -26,7 +26,7 @@ returns-2 c =
     let a = t.before in
     let l = a.before.before in
     let k = l.before.before.before in
-    kept-least k.before.requires (λ i. (k.slice-known.given i).fits) l.least-pair.ensures a.all-close.ensures t.if2.true p.keep_pair.ensures
+    kept_least k.before.requires (λ i. (k.slice-known.given i).fits) l.least-pair.ensures a.all_close.ensures t.if2.true p.keep_pair.ensures
 
 sort-and-drop-requires : tie.Need-sort-and-drop-requires
 sort-and-drop-requires c κs = search rules

@@ -1,5 +1,5 @@
 -- `stitch_faces::faces::copy_face_indices` meets its contract. Assumes nothing.
-use Rattle.stitch_faces.proofs.FaceLaws.{face-copied}
+use Rattle.stitch_faces.proofs.FaceLaws.{face_copied}
 use borrow.Author.Rules.{rules}
 use Rattle.stitch_faces.proofs.faces.copy_face_indices.Statement.{statement}
 use Rattle.stitch_faces.proofs.faces.copy_face_indices.Tie as tie
@@ -14,7 +14,7 @@ same_length : tie.Need-same-length
 same_length c = search rules
 
 returns : tie.Need-returns
-returns c = search (rules, face-copied)
+returns c = search (rules, face_copied)
 
 pub copy-face-indices-spec : {M : Type 1} → statement M
 copy-face-indices-spec =

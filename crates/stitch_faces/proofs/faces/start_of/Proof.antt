@@ -2,21 +2,21 @@
 use Prim.Native.Nat.{◌-◌, ◌≤◌}
 use native.Mathlib.Omega.{arith}
 use Rattle.body_rows.specs.Body.{rows_of}
-use Rattle.body_rows.specs.Rows.{indicesBefore}
+use Rattle.body_rows.specs.Rows.{indices_before}
 use Rattle.stitch_faces.specs.Places.{Place}
-use Rattle.stitch_faces.proofs.FaceLaws.{place-first, place-next, place-last}
+use Rattle.stitch_faces.proofs.FaceLaws.{place_first, place_next, place_last}
 use borrow.Author.Rules.{rules}
 use Rattle.stitch_faces.proofs.faces.start_of.Statement.{statement}
 use Rattle.stitch_faces.proofs.faces.start_of.Tie as tie
 
 abbrev invariant-loop : tie.invariant-loop
-invariant-loop rows k end at₀ j₀ at j = (j ≤ k) × Place (indicesBefore (rows_of rows) j) end at
+invariant-loop rows k end at₀ j₀ at j = (j ≤ k) × Place (indices_before (rows_of rows) j) end at
 
 abbrev decreases-loop : tie.decreases-loop
 decreases-loop rows k end at₀ j₀ at j = k - j
 
 loop-holds : tie.Need-loop-init invariant-loop decreases-loop
-loop-holds c = (omega arith, place-first _ _)
+loop-holds c = (omega arith, place_first _ _)
 
 indices-requires : tie.Need-indices-requires invariant-loop decreases-loop
 indices-requires c κs = search rules
@@ -34,10 +34,10 @@ loop-less : tie.Need-loop-smaller invariant-loop decreases-loop
 loop-less c = search rules
 
 loop-again : tie.Need-loop-preserved invariant-loop decreases-loop
-loop-again c = (omega arith, place-next _ _ c.before.before.before.loop.invariant.1 (omega arith) c.before.indices.ensures c.past.ensures)
+loop-again c = (omega arith, place_next _ _ c.before.before.before.loop.invariant.1 (omega arith) c.before.indices.ensures c.past.ensures)
 
 returns : tie.Need-returns invariant-loop decreases-loop
-returns c = place-last _ _ _ c.before.loop.invariant.1 (omega arith) (omega arith)
+returns c = place_last _ _ _ c.before.loop.invariant.1 (omega arith) (omega arith)
 
 pub start-of-spec : {M : Type 1} → statement M
 start-of-spec =

@@ -1,6 +1,6 @@
 -- `push_edge` meets its contract. Assumes nothing.
 use Prim.Native.Nat.{◌-◌}
-use Rattle.stitch_fans.proofs.EdgeLaws.{Pushing, pushing-none, pushing-more, pushing-all, entry_ready}
+use Rattle.stitch_fans.proofs.EdgeLaws.{Pushing, pushing_none, pushing_more, pushing_all, entry_ready}
 use borrow.Author.Rules.{rules}
 use Rattle.stitch_fans.proofs.fan.push_edge.Statement.{statement}
 use Rattle.stitch_fans.proofs.fan.push_edge.Tie as tie
@@ -12,7 +12,7 @@ abbrev decreases-loop : tie.decreases-loop
 decreases-loop w at count e next out₀ a g₀ j₀ out g j = count - j
 
 loop-holds : tie.Need-loop-init invariant-loop decreases-loop
-loop-holds c = search pushing-none
+loop-holds c = search pushing_none
 
 add-push-if : tie.Need-overflow-add-push-if invariant-loop decreases-loop
 add-push-if c = search rules
@@ -33,13 +33,13 @@ loop-less : tie.Need-loop-smaller invariant-loop decreases-loop
 loop-less c = search rules
 
 loop-again : tie.Need-loop-preserved invariant-loop decreases-loop
-loop-again c = search pushing-more
+loop-again c = search pushing_more
 
 same_length : tie.Need-same-length invariant-loop decreases-loop
 same_length c = search rules
 
 returns : tie.Need-returns invariant-loop decreases-loop
-returns c = search pushing-all
+returns c = search pushing_all
 
 pub push-edge-spec : {M : Type 1} → statement M
 push-edge-spec =

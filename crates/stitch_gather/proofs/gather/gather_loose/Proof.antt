@@ -1,5 +1,5 @@
 -- `gather_loose` meets its contract. Assumes nothing.
-use Rattle.stitch_gather.proofs.SortLaws.{clear-gatherable, loose-ready, all-gathered}
+use Rattle.stitch_gather.proofs.SortLaws.{clear_gatherable, loose_ready, all_gathered}
 use mathlib.Core.Path.{refl}
 use native.Mathlib.Omega.{arith}
 use borrow.Author.Rules.{rules}
@@ -22,10 +22,10 @@ fill-requires : tie.Need-fill-requires
 fill-requires c κs = search rules
 
 gather-rows-requires : tie.Need-gather-rows-requires
-gather-rows-requires c κs = search clear-gatherable
+gather-rows-requires c κs = search clear_gatherable
 
 list-standing-requires : tie.Need-list-standing-requires
-list-standing-requires c κs = search loose-ready
+list-standing-requires c κs = search loose_ready
 
 sort-pairs-requires : tie.Need-sort-pairs-requires
 sort-pairs-requires c κs = search rules
@@ -40,7 +40,7 @@ returns c =
     let d = l.before.before.before.before in
     let f = d.before.before.before.before in
     let pre = f.before.before.before.before.before.requires in
-    all-gathered pre f.fill.ensures d.gather-rows.ensures refl (omega arith) l.list-standing.ensures (omega arith) p.sort-pairs.ensures (omega arith)
+    all_gathered pre f.fill.ensures d.gather-rows.ensures refl (omega arith) l.list-standing.ensures (omega arith) p.sort-pairs.ensures (omega arith)
     (λ k. omega (arith, c.slice-known5.given k))
 
 pub gather-loose-spec : {M : Type 1} → statement M

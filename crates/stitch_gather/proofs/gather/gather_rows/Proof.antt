@@ -2,7 +2,7 @@
 use Prim.Native.Nat.{◌-◌}
 use mathlib.Core.Path.{refl}
 use native.Mathlib.Omega.{arith}
-use Rattle.stitch_gather.proofs.GatherLaws.{end_low, base-low, GatheringRows, rows_none, rows_more, rows_all, row-gatherable}
+use Rattle.stitch_gather.proofs.GatherLaws.{end_low, base_low, GatheringRows, rows_none, rows_more, rows_all, row_gatherable}
 use borrow.Author.Rules.{rules}
 use Rattle.stitch_gather.proofs.gather.gather_rows.Statement.{statement}
 use Rattle.stitch_gather.proofs.gather.gather_rows.Tie as tie
@@ -44,15 +44,15 @@ gather-row-requires c κs =
     let i = c.before in
     let t = i.before.before in
     let q = t.before in
-    row-gatherable q.before.before.before.before.before.requires q.loop.invariant q.before.row_count.ensures t.loop-test.true i.before.vertices.ensures (omega (arith, i.indices.ensures))
+    row_gatherable q.before.before.before.before.before.requires q.loop.invariant q.before.row_count.ensures t.loop-test.true i.before.vertices.ensures (omega (arith, i.indices.ensures))
 
 add-base : tie.Need-overflow-add-base invariant-loop decreases-loop
 add-base c =
     let i = c.before.before.before.before in
     let t = i.before.before in
     let q = t.before in
-    let l = base-low q.before.before.before.before.before.requires q.loop.invariant q.before.row_count.ensures t.loop-test.true refl refl in
-    omega (arith, l, i.before.vertices.ensures, q.before.before.before.before.before.requires.few-vertices)
+    let l = base_low q.before.before.before.before.before.requires q.loop.invariant q.before.row_count.ensures t.loop-test.true refl refl in
+    omega (arith, l, i.before.vertices.ensures, q.before.before.before.before.before.requires.few_vertices)
 
 add-k : tie.Need-overflow-add-k invariant-loop decreases-loop
 add-k c = search rules

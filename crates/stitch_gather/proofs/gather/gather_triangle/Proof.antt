@@ -1,5 +1,5 @@
 -- `gather_triangle` meets its contract. Assumes nothing.
-use Rattle.stitch_gather.proofs.GatherLaws.{triangle-gathered, triangle-skipped}
+use Rattle.stitch_gather.proofs.GatherLaws.{triangle_gathered, triangle_skipped}
 use borrow.Author.Rules.{rules}
 use Rattle.stitch_gather.proofs.gather.gather_triangle.Statement.{statement}
 use Rattle.stitch_gather.proofs.gather.gather_triangle.Tie as tie
@@ -32,13 +32,13 @@ same_length : tie.Need-same-length
 same_length c = search rules
 
 returns : tie.Need-returns
-returns c = search triangle-gathered
+returns c = search triangle_gathered
 
 same-length-2 : tie.Need-same-length-2
 same-length-2 c = search rules
 
 returns-2 : tie.Need-returns-2
-returns-2 c = search triangle-skipped
+returns-2 c = search triangle_skipped
 
 pub gather-triangle-spec : {M : Type 1} → statement M
 gather-triangle-spec =

@@ -1,6 +1,6 @@
 -- `list_standing` meets its contract. Assumes nothing.
 use Prim.Native.Nat.{◌-◌}
-use Rattle.stitch_gather.proofs.ListLaws.{Listing, listing_none, listing-more, listing-all, place-ready}
+use Rattle.stitch_gather.proofs.ListLaws.{Listing, listing_none, listing_more, listing_all, place_ready}
 use borrow.Author.Rules.{rules}
 use Rattle.stitch_gather.proofs.stand.list_standing.Statement.{statement}
 use Rattle.stitch_gather.proofs.stand.list_standing.Tie as tie
@@ -15,7 +15,7 @@ loop-holds : tie.Need-loop-init invariant-loop decreases-loop
 loop-holds c = search listing_none
 
 put-standing-requires : tie.Need-put-standing-requires invariant-loop decreases-loop
-put-standing-requires c κs = search place-ready
+put-standing-requires c κs = search place_ready
 
 add-j : tie.Need-overflow-add-j invariant-loop decreases-loop
 add-j c = search rules
@@ -24,13 +24,13 @@ loop-less : tie.Need-loop-smaller invariant-loop decreases-loop
 loop-less c = search rules
 
 loop-again : tie.Need-loop-preserved invariant-loop decreases-loop
-loop-again c = search listing-more
+loop-again c = search listing_more
 
 same_length : tie.Need-same-length invariant-loop decreases-loop
 same_length c = search rules
 
 returns : tie.Need-returns invariant-loop decreases-loop
-returns c = search listing-all
+returns c = search listing_all
 
 pub list-standing-spec : {M : Type 1} → statement M
 list-standing-spec =

@@ -1,5 +1,5 @@
 -- `stand` meets its contract. Assumes nothing.
-use Rattle.stitch_gather.proofs.StandLaws.{mark-inside, stood-same, stood-first}
+use Rattle.stitch_gather.proofs.StandLaws.{mark_inside, stood_same, stood_first}
 use borrow.Author.Rules.{rules}
 use borrow.Author.Tests.{eqb-true, eqb-false}
 use Rattle.stitch_gather.proofs.stand.stand.Statement.{statement}
@@ -18,13 +18,13 @@ mul-is-new : tie.Need-overflow-mul-is-new
 mul-is-new c = search rules
 
 add-is-new : tie.Need-overflow-add-is-new
-add-is-new c = let l = mark-inside c.before.requires in search rules
+add-is-new c = let l = mark_inside c.before.requires in search rules
 
 mul-is-new-2 : tie.Need-overflow-mul-is-new-2
-mul-is-new-2 c = let l = mark-inside c.before.requires in search rules
+mul-is-new-2 c = let l = mark_inside c.before.requires in search rules
 
 slice-read-is-new : tie.Need-slice-read-is-new
-slice-read-is-new c = let l = mark-inside c.before.before.requires in search rules
+slice-read-is-new c = let l = mark_inside c.before.before.requires in search rules
 
 add-w : tie.Need-overflow-add-w
 add-w c = search rules
@@ -33,13 +33,13 @@ mul-w : tie.Need-overflow-mul-w
 mul-w c = search rules
 
 add-w-2 : tie.Need-overflow-add-w-2
-add-w-2 c = let l = mark-inside c.before.before.requires in search rules
+add-w-2 c = let l = mark_inside c.before.before.requires in search rules
 
 mul-w-2 : tie.Need-overflow-mul-w-2
-mul-w-2 c = let l = mark-inside c.before.before.requires in search rules
+mul-w-2 c = let l = mark_inside c.before.before.requires in search rules
 
 slice-write-w : tie.Need-slice-write-w
-slice-write-w c = let l = mark-inside c.before.before.requires in search rules
+slice-write-w c = let l = mark_inside c.before.before.requires in search rules
 
 add-w-3 : tie.Need-overflow-add-w-3
 add-w-3 c = search rules
@@ -57,13 +57,13 @@ same_length : tie.Need-same-length
 same_length c = search rules
 
 returns : tie.Need-returns
-returns c = stood-first c.before.before.before.requires (eqb-true _ _ c.if1.true)
+returns c = stood_first c.before.before.before.requires (eqb-true _ _ c.if1.true)
 
 same-length-2 : tie.Need-same-length-2
 same-length-2 c = search rules
 
 returns-2 : tie.Need-returns-2
-returns-2 c = stood-same c.before.before.before.requires (eqb-false _ _ c.if1.false)
+returns-2 c = stood_same c.before.before.before.requires (eqb-false _ _ c.if1.false)
 
 pub stand-spec : {M : Type 1} → statement M
 stand-spec =

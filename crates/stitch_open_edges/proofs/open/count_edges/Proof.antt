@@ -1,5 +1,5 @@
 -- `count_edges` meets its contract. Assumes nothing.
-use Rattle.stitch_open_edges.proofs.OpenStages.{counts-room, runs-room, uses-counted}
+use Rattle.stitch_open_edges.proofs.OpenStages.{counts_room, runs_room, uses_counted}
 use native.Mathlib.Omega.{arith}
 use borrow.Author.Rules.{rules}
 use Rattle.stitch_open_edges.proofs.open.count_edges.Statement.{statement}
@@ -18,7 +18,7 @@ add-count-uses-2 : tie.Need-overflow-add-count-uses-2
 add-count-uses-2 c = search rules
 
 count-uses-requires : tie.Need-count-uses-requires
-count-uses-requires c κs = search counts-room
+count-uses-requires c κs = search counts_room
 
 mul-list-runs : tie.Need-overflow-mul-list-runs
 mul-list-runs c = search rules
@@ -30,7 +30,7 @@ list-runs-requires : tie.Need-list-runs-requires
 list-runs-requires c κs =
     let k = c.before.before.before in
     let u = k.before.before.before.before in
-    runs-room u.before.before.before.before.before.requires u.first-users.ensures (omega arith) k.count-uses.ensures (omega arith)
+    runs_room u.before.before.before.before.before.requires u.first-users.ensures (omega arith) k.count-uses.ensures (omega arith)
 
 same_length : tie.Need-same-length
 same_length c = search rules
@@ -40,7 +40,7 @@ returns c =
     let l = c.before.before in
     let k = l.before.before.before.before in
     let u = k.before.before.before.before in
-    uses-counted u.before.before.before.before.before.requires u.first-users.ensures (omega arith) k.count-uses.ensures (omega arith) l.list-runs.ensures
+    uses_counted u.before.before.before.before.before.requires u.first-users.ensures (omega arith) k.count-uses.ensures (omega arith) l.list-runs.ensures
 
 pub count-edges-spec : {M : Type 1} → statement M
 count-edges-spec =

@@ -1,5 +1,5 @@
 -- `flag_at` meets its contract. Assumes nothing.
-use Rattle.stitch_open_edges.proofs.FlagLaws.{flag-equal, flag_one, flag-more}
+use Rattle.stitch_open_edges.proofs.FlagLaws.{flag_equal, flag_one, flag_more}
 use mathlib.Core.Path.{sym, ◌∙◌}
 use borrow.Author.Rules.{rules}
 use Rattle.stitch_open_edges.proofs.open.flag_at.Statement.{statement}
@@ -21,7 +21,7 @@ shared-slice-read-if1 : tie.Need-shared-slice-read-if1
 shared-slice-read-if1 c = search rules
 
 returns : tie.Need-returns
-returns c = flag-equal _ _ c.if1.true
+returns c = flag_equal _ _ c.if1.true
 
 count-at-requires : tie.Need-count-at-requires
 count-at-requires c κs = search rules
@@ -30,7 +30,7 @@ returns-2 : tie.Need-returns-2
 returns-2 c = flag_one _ _ c.before.before.if1.false (sym c.before.count_at.ensures ∙ c.if2.true)
 
 returns-3 : tie.Need-returns-3
-returns-3 c = flag-more _ _ c.before.before.if1.false (λ e. c.if2.false (c.before.count_at.ensures ∙ e))
+returns-3 c = flag_more _ _ c.before.before.if1.false (λ e. c.if2.false (c.before.count_at.ensures ∙ e))
 
 pub flag-at-spec : {M : Type 1} → statement M
 flag-at-spec =

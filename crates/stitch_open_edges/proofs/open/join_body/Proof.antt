@@ -1,5 +1,5 @@
 -- `join_body` meets its contract. Assumes nothing.
-use Rattle.stitch_open_edges.proofs.OpenStages.{body-joined}
+use Rattle.stitch_open_edges.proofs.OpenStages.{body_joined}
 use borrow.Author.Rules.{rules}
 use Rattle.stitch_open_edges.proofs.open.join_body.Statement.{statement}
 use Rattle.stitch_open_edges.proofs.open.join_body.Tie as tie
@@ -23,7 +23,7 @@ same_length : tie.Need-same-length
 same_length c = search rules
 
 returns : tie.Need-returns
-returns c = search body-joined
+returns c = search body_joined
 
 pub join-body-spec : {M : Type 1} → statement M
 join-body-spec =

@@ -1,5 +1,5 @@
 -- `mark_open` meets its contract. Assumes nothing.
-use Rattle.stitch_open_edges.proofs.OpenLaws.{users-found, flags-ready, marked}
+use Rattle.stitch_open_edges.proofs.OpenLaws.{users_found, flags_ready, marked}
 use native.Mathlib.Omega.{arith}
 use borrow.Author.Rules.{rules}
 use Rattle.stitch_open_edges.proofs.open.mark_open.Statement.{statement}
@@ -21,7 +21,7 @@ add-count-edges : tie.Need-overflow-add-count-edges
 add-count-edges c = search rules
 
 count-edges-requires : tie.Need-count-edges-requires
-count-edges-requires c κs = search users-found
+count-edges-requires c κs = search users_found
 
 mul-mark-uses : tie.Need-overflow-mul-mark-uses
 mul-mark-uses c = search rules
@@ -39,7 +39,7 @@ mark-uses-requires : tie.Need-mark-uses-requires
 mark-uses-requires c κs =
     let u = c.before.before.before in
     let j = u.before.before.before.before in
-    flags-ready j.before.before.before.before.before.before.requires j.join-body.ensures (omega arith) u.count-edges.ensures (omega arith)
+    flags_ready j.before.before.before.before.before.before.requires j.join-body.ensures (omega arith) u.count-edges.ensures (omega arith)
 
 same_length : tie.Need-same-length
 same_length c = search rules

@@ -1,6 +1,6 @@
 -- `mark_uses` meets its contract. Assumes nothing.
 use Prim.Native.Nat.{◌-◌}
-use Rattle.stitch_open_edges.proofs.FlagLaws.{Marking, marking-none, flag-ready, marking-more, marking-all}
+use Rattle.stitch_open_edges.proofs.FlagLaws.{Marking, marking_none, flag_ready, marking_more, marking_all}
 use borrow.Author.Rules.{rules}
 use Rattle.stitch_open_edges.proofs.open.mark_uses.Statement.{statement}
 use Rattle.stitch_open_edges.proofs.open.mark_uses.Tie as tie
@@ -12,10 +12,10 @@ abbrev decreases-loop : tie.decreases-loop
 decreases-loop w₀ at n i₀ w i = n - i
 
 loop-holds : tie.Need-loop-init invariant-loop decreases-loop
-loop-holds c = search marking-none
+loop-holds c = search marking_none
 
 flag-at-requires : tie.Need-flag-at-requires invariant-loop decreases-loop
-flag-at-requires c κs = search flag-ready
+flag-at-requires c κs = search flag_ready
 
 mul-w : tie.Need-overflow-mul-w invariant-loop decreases-loop
 mul-w c = search rules
@@ -39,13 +39,13 @@ loop-less : tie.Need-loop-smaller invariant-loop decreases-loop
 loop-less c = search rules
 
 loop-again : tie.Need-loop-preserved invariant-loop decreases-loop
-loop-again c = search marking-more
+loop-again c = search marking_more
 
 same_length : tie.Need-same-length invariant-loop decreases-loop
 same_length c = search rules
 
 returns : tie.Need-returns invariant-loop decreases-loop
-returns c = search marking-all
+returns c = search marking_all
 
 pub mark-uses-spec : {M : Type 1} → statement M
 mark-uses-spec =

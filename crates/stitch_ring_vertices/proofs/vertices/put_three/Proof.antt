@@ -1,7 +1,7 @@
 -- `put_three` meets its contract. Assumes nothing.
 use native.Mathlib.Omega.{arith}
 use lib.ListN.{length-set}
-use Rattle.lists.specs.Sets.{three-stored}
+use Rattle.lists.specs.Sets.{three_stored}
 use borrow.Author.Rules.{rules}
 use Rattle.stitch_ring_vertices.proofs.vertices.put_three.Statement.{statement}
 use Rattle.stitch_ring_vertices.proofs.vertices.put_three.Tie as tie
@@ -34,7 +34,7 @@ same_length : tie.Need-same-length
 same_length c = search rules
 
 returns : tie.Need-returns
-returns c = search three-stored
+returns c = search three_stored
 
 pub put-three-spec : {M : Type 1} → statement M
 put-three-spec =

@@ -1,5 +1,5 @@
 -- `stitch_tree::bound_leaf` meets its contract. Assumes nothing.
-use Rattle.stitch_tree.proofs.LeafLaws.{leaf-pointed, leaf-bounded}
+use Rattle.stitch_tree.proofs.LeafLaws.{leaf_pointed, leaf_bounded}
 use borrow.Author.Rules.{rules}
 use Rattle.stitch_tree.proofs.boxes.bound_leaf.Statement.{statement}
 use Rattle.stitch_tree.proofs.boxes.bound_leaf.Tie as tie
@@ -20,7 +20,7 @@ add-bound-points-2 : tie.Need-overflow-add-bound-points-2
 add-bound-points-2 c = search rules
 
 bound-points-requires : tie.Need-bound-points-requires
-bound-points-requires c κs = leaf-pointed c.before.before.before.before.requires c.before.lesser.ensures
+bound-points-requires c κs = leaf_pointed c.before.before.before.before.requires c.before.lesser.ensures
 
 put-box-requires : tie.Need-put-box-requires
 put-box-requires c κs = search rules
@@ -29,7 +29,7 @@ same_length : tie.Need-same-length
 same_length c = search rules
 
 returns : tie.Need-returns
-returns c = search leaf-bounded
+returns c = search leaf_bounded
 
 pub bound-leaf-spec : {M : Type 1} → statement M
 bound-leaf-spec =

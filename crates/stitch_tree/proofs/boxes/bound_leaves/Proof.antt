@@ -1,5 +1,5 @@
 -- `stitch_tree::bound_leaves` meets its contract. Assumes nothing.
-use Rattle.stitch_tree.proofs.LeafLaws.{LeavesBounding, leaves_none, leaf-ready, leaves-more, leaves_all}
+use Rattle.stitch_tree.proofs.LeafLaws.{LeavesBounding, leaves_none, leaf_ready, leaves_more, leaves_all}
 use Prim.Native.Nat.{◌-◌}
 use borrow.Author.Rules.{rules}
 use Rattle.stitch_tree.proofs.boxes.bound_leaves.Statement.{statement}
@@ -24,7 +24,7 @@ add-bound-leaf-2 : tie.Need-overflow-add-bound-leaf-2 invariant-loop decreases-l
 add-bound-leaf-2 c = search rules
 
 bound-leaf-requires : tie.Need-bound-leaf-requires invariant-loop decreases-loop
-bound-leaf-requires c κs = search leaf-ready
+bound-leaf-requires c κs = search leaf_ready
 
 add-i : tie.Need-overflow-add-i invariant-loop decreases-loop
 add-i c = search rules
@@ -33,7 +33,7 @@ loop-less : tie.Need-loop-smaller invariant-loop decreases-loop
 loop-less c = search rules
 
 loop-again : tie.Need-loop-preserved invariant-loop decreases-loop
-loop-again c = search leaves-more
+loop-again c = search leaves_more
 
 same_length : tie.Need-same-length invariant-loop decreases-loop
 same_length c = search rules

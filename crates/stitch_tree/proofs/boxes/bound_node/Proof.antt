@@ -1,5 +1,5 @@
 -- `stitch_tree::bound_node` meets its contract. Assumes nothing.
-use Rattle.stitch_tree.proofs.NodeLaws.{node-bounded}
+use Rattle.stitch_tree.proofs.NodeLaws.{node_bounded}
 use borrow.Author.Rules.{rules}
 use Rattle.stitch_tree.proofs.boxes.bound_node.Statement.{statement}
 use Rattle.stitch_tree.proofs.boxes.bound_node.Tie as tie
@@ -47,7 +47,7 @@ same_length : tie.Need-same-length
 same_length c = search rules
 
 returns : tie.Need-returns
-returns c = search node-bounded
+returns c = search node_bounded
 
 pub bound-node-spec : {M : Type 1} → statement M
 bound-node-spec =

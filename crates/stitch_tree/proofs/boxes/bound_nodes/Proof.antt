@@ -1,6 +1,6 @@
 -- `stitch_tree::bound_nodes` meets its contract. Assumes nothing.
 use borrow.Author.Rules.{rules}
-use Rattle.stitch_tree.proofs.NodeLaws.{NodesBounding, nodes-none, node-ready, nodes-more, nodes-all}
+use Rattle.stitch_tree.proofs.NodeLaws.{NodesBounding, nodes_none, node_ready, nodes_more, nodes_all}
 use Rattle.stitch_tree.proofs.boxes.bound_nodes.Statement.{statement}
 use Rattle.stitch_tree.proofs.boxes.bound_nodes.Tie as tie
 
@@ -14,10 +14,10 @@ sub-k : tie.Need-overflow-sub-k invariant-loop decreases-loop
 sub-k c = search rules
 
 loop-holds : tie.Need-loop-init invariant-loop decreases-loop
-loop-holds c = search nodes-none
+loop-holds c = search nodes_none
 
 bound-node-requires : tie.Need-bound-node-requires invariant-loop decreases-loop
-bound-node-requires c κs = search node-ready
+bound-node-requires c κs = search node_ready
 
 sub-k-2 : tie.Need-overflow-sub-k-2 invariant-loop decreases-loop
 sub-k-2 c = search rules
@@ -26,13 +26,13 @@ loop-less : tie.Need-loop-smaller invariant-loop decreases-loop
 loop-less c = search rules
 
 loop-again : tie.Need-loop-preserved invariant-loop decreases-loop
-loop-again c = search nodes-more
+loop-again c = search nodes_more
 
 same_length : tie.Need-same-length invariant-loop decreases-loop
 same_length c = search rules
 
 returns : tie.Need-returns invariant-loop decreases-loop
-returns c = search nodes-all
+returns c = search nodes_all
 
 pub bound-nodes-spec : {M : Type 1} → statement M
 bound-nodes-spec =

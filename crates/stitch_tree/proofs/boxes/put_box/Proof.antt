@@ -1,5 +1,5 @@
 -- `stitch_tree::put_box` meets its contract. Assumes nothing.
-use Rattle.stitch_tree.proofs.WordLaws.{box-put}
+use Rattle.stitch_tree.proofs.WordLaws.{box_put}
 use borrow.Author.Rules.{rules}
 use Rattle.stitch_tree.proofs.boxes.put_box.Statement.{statement}
 use Rattle.stitch_tree.proofs.boxes.put_box.Tie as tie
@@ -27,7 +27,7 @@ returns c =
     let z = c.before.before in
     let y = z.before.before.before.before in
     let x = y.before.before.before.before in
-    box-put _ x.put-span.ensures y.put-span2.ensures z.put-span3.ensures
+    box_put _ x.put-span.ensures y.put-span2.ensures z.put-span3.ensures
 
 pub put-box-spec : {M : Type 1} → statement M
 put-box-spec =

@@ -5,7 +5,7 @@ use native.Mathlib.Omega.{arith}
 use lib.Dec.{T}
 use lib.Ieee.{Float, binary64, fits}
 use lib.ListN.{length-set}
-use Rattle.stitch_tree.proofs.WordLaws.{span-put}
+use Rattle.stitch_tree.proofs.WordLaws.{span_put}
 use borrow.Author.Rules.{rules}
 use Rattle.stitch_tree.proofs.boxes.put_span.Statement.{statement}
 use Rattle.stitch_tree.proofs.boxes.put_span.Tie as tie
@@ -41,7 +41,7 @@ same_length c = search rules
 returns : tie.Need-returns
 returns c =
     let s = c.before.before.before in
-    span-put _ (held s.args.low s.well-formed.1.1.0.1) (held s.args.high s.well-formed.1.1.1.0.1) s.requires c.before.bits-of-f64.ensures c.bits-of-f642.ensures
+    span_put _ (held s.args.low s.well-formed.1.1.0.1) (held s.args.high s.well-formed.1.1.1.0.1) s.requires c.before.bits-of-f64.ensures c.bits-of-f642.ensures
 
 pub put-span-spec : {M : Type 1} → statement M
 put-span-spec =

@@ -1,5 +1,5 @@
 -- `stitch_tree::span_at` meets its contract. Assumes nothing.
-use Rattle.stitch_tree.proofs.WordLaws.{span-read}
+use Rattle.stitch_tree.proofs.WordLaws.{span_read}
 use borrow.Author.Rules.{rules}
 use Rattle.stitch_tree.proofs.boxes.span_at.Statement.{statement}
 use Rattle.stitch_tree.proofs.boxes.span_at.Tie as tie
@@ -26,7 +26,7 @@ f64-of-bits-requires-2 : tie.Need-f64-of-bits-requires-2
 f64-of-bits-requires-2 c κs = search rules
 
 returns : tie.Need-returns
-returns c = search span-read
+returns c = search span_read
 
 pub span-at-spec : {M : Type 1} → statement M
 span-at-spec =

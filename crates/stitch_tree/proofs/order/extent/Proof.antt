@@ -1,6 +1,6 @@
 -- `stitch_tree::extent` meets its contract. Assumes nothing.
 use native.Mathlib.Omega.{arith}
-use Rattle.stitch_tree.proofs.OrderLaws.{coordinate-held}
+use Rattle.stitch_tree.proofs.OrderLaws.{coordinate_held}
 use Prim.Native.Nat.{◌-◌, ◌≤◌}
 use borrow.Author.Rules.{rules}
 use Rattle.stitch_tree.proofs.order.extent.Statement.{statement}
@@ -19,7 +19,7 @@ loop-holds : tie.Need-loop-init invariant-loop decreases-loop
 loop-holds c = search rules
 
 coordinate-requires : tie.Need-coordinate-requires invariant-loop decreases-loop
-coordinate-requires c κs = search coordinate-held
+coordinate-requires c κs = search coordinate_held
 
 one-requires : tie.Need-one-requires invariant-loop decreases-loop
 one-requires c κs = search rules

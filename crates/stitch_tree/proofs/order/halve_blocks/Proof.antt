@@ -1,5 +1,5 @@
 -- `stitch_tree::halve_blocks` meets its contract. Assumes nothing.
-use Rattle.stitch_tree.proofs.OrderLaws.{Halving, halving-none, halve-ready, halving-more}
+use Rattle.stitch_tree.proofs.OrderLaws.{Halving, halving_none, halve_ready, halving_more}
 use Prim.Native.Nat.{◌-◌}
 use borrow.Author.Rules.{rules}
 use Rattle.stitch_tree.proofs.order.halve_blocks.Statement.{statement}
@@ -12,7 +12,7 @@ abbrev decreases-loop : tie.decreases-loop
 decreases-loop positions w₀ v order n half a₀ w a = n - a
 
 loop-holds : tie.Need-loop-init invariant-loop decreases-loop
-loop-holds c = search halving-none
+loop-holds c = search halving_none
 
 add-loop : tie.Need-overflow-add-loop invariant-loop decreases-loop
 add-loop c = search rules
@@ -39,7 +39,7 @@ add-halve-4 : tie.Need-overflow-add-halve-4 invariant-loop decreases-loop
 add-halve-4 c = search rules
 
 halve-requires : tie.Need-halve-requires invariant-loop decreases-loop
-halve-requires c κs = search halve-ready
+halve-requires c κs = search halve_ready
 
 mul-a : tie.Need-overflow-mul-a invariant-loop decreases-loop
 mul-a c = search rules
@@ -51,7 +51,7 @@ loop-less : tie.Need-loop-smaller invariant-loop decreases-loop
 loop-less c = search rules
 
 loop-again : tie.Need-loop-preserved invariant-loop decreases-loop
-loop-again c = search halving-more
+loop-again c = search halving_more
 
 same_length : tie.Need-same-length invariant-loop decreases-loop
 same_length c = search rules

@@ -1,5 +1,5 @@
 -- `stitch_tree::part` meets its contract. Assumes nothing.
-use Rattle.stitch_tree.proofs.OrderLaws.{Parting, parting-none, next-held, parting-more, parting-all}
+use Rattle.stitch_tree.proofs.OrderLaws.{Parting, parting_none, next_held, parting_more, parting_all}
 use Prim.Native.Nat.{◌-◌}
 use borrow.Author.Rules.{rules}
 use Rattle.stitch_tree.proofs.order.part.Statement.{statement}
@@ -12,10 +12,10 @@ abbrev decreases-loop : tie.decreases-loop
 decreases-loop positions w₀ v from to axis pivot cut₀ j₀ w cut j = to - j
 
 loop-holds : tie.Need-loop-init invariant-loop decreases-loop
-loop-holds c = search parting-none
+loop-holds c = search parting_none
 
 coordinate-requires : tie.Need-coordinate-requires invariant-loop decreases-loop
-coordinate-requires c κs = search next-held
+coordinate-requires c κs = search next_held
 
 step-below-requires : tie.Need-step-below-requires invariant-loop decreases-loop
 step-below-requires c κs = search rules
@@ -33,13 +33,13 @@ loop-less : tie.Need-loop-smaller invariant-loop decreases-loop
 loop-less c = search rules
 
 loop-again : tie.Need-loop-preserved invariant-loop decreases-loop
-loop-again c = search parting-more
+loop-again c = search parting_more
 
 same_length : tie.Need-same-length invariant-loop decreases-loop
 same_length c = search rules
 
 returns : tie.Need-returns invariant-loop decreases-loop
-returns c = search parting-all
+returns c = search parting_all
 
 pub part-spec : {M : Type 1} → statement M
 part-spec =

@@ -2,7 +2,7 @@
 use borrow.Author.Rules.{rules}
 use Prim.Native.Nat.{◌-◌}
 use native.Mathlib.Omega.{arith}
-use Rattle.stitch_tree.proofs.PointLaws.{Bounding, bounding-none, point-held, bounding-more, bounding-all}
+use Rattle.stitch_tree.proofs.PointLaws.{Bounding, bounding_none, point_held, bounding_more, bounding_all}
 use Rattle.stitch_tree.proofs.points.bound_points.Statement.{statement}
 use Rattle.stitch_tree.proofs.points.bound_points.Tie as tie
 
@@ -16,10 +16,10 @@ empty-requires : tie.Need-empty-requires invariant-loop decreases-loop
 empty-requires c κs = search rules
 
 loop-holds : tie.Need-loop-init invariant-loop decreases-loop
-loop-holds c = search bounding-none
+loop-holds c = search bounding_none
 
 point-at-requires : tie.Need-point-at-requires invariant-loop decreases-loop
-point-at-requires c κs = search point-held
+point-at-requires c κs = search point_held
 
 point-requires : tie.Need-point-requires invariant-loop decreases-loop
 point-requires c κs = search rules
@@ -34,10 +34,10 @@ loop-less : tie.Need-loop-smaller invariant-loop decreases-loop
 loop-less c = search rules
 
 loop-again : tie.Need-loop-preserved invariant-loop decreases-loop
-loop-again c = search bounding-more
+loop-again c = search bounding_more
 
 returns : tie.Need-returns invariant-loop decreases-loop
-returns c = search bounding-all
+returns c = search bounding_all
 
 pub bound-points-spec : {M : Type 1} → statement M
 bound-points-spec =

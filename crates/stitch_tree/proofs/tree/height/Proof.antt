@@ -1,5 +1,5 @@
 -- `stitch_tree::height` meets its contract. Assumes nothing.
-use Rattle.stitch_tree.proofs.TreeLaws.{Rising, rising_none, rising-more, rising-all}
+use Rattle.stitch_tree.proofs.TreeLaws.{Rising, rising_none, rising_more, rising_all}
 use Prim.Native.Nat.{◌-◌}
 use borrow.Author.Rules.{rules}
 use Rattle.stitch_tree.proofs.tree.height.Statement.{statement}
@@ -24,10 +24,10 @@ loop-less : tie.Need-loop-smaller invariant-loop decreases-loop
 loop-less c = search rules
 
 loop-again : tie.Need-loop-preserved invariant-loop decreases-loop
-loop-again c = search rising-more
+loop-again c = search rising_more
 
 returns : tie.Need-returns invariant-loop decreases-loop
-returns c = search rising-all
+returns c = search rising_all
 
 pub height_spec : {M : Type 1} → statement M
 height_spec =

@@ -1,5 +1,5 @@
 -- `stitch_tree::make_tree` meets its contract. Assumes nothing.
-use Rattle.stitch_tree.proofs.TreeLaws.{order-ready, leaves-ready, nodes-ready, tree-made}
+use Rattle.stitch_tree.proofs.TreeLaws.{order_ready, leaves_ready, nodes_ready, tree_made}
 use native.Mathlib.Omega.{arith}
 use borrow.Author.Rules.{rules}
 use Rattle.stitch_tree.proofs.tree.make_tree.Statement.{statement}
@@ -18,14 +18,14 @@ order-points-requires : tie.Need-order-points-requires
 order-points-requires c κs =
     let q = c.before in
     let h = q.before in
-    order-ready h.before.before.before.requires h.height.ensures q.power.ensures
+    order_ready h.before.before.before.requires h.height.ensures q.power.ensures
 
 bound-leaves-requires : tie.Need-bound-leaves-requires
 bound-leaves-requires c κs =
     let o = c.before.before.before in
     let q = o.before.before in
     let h = q.before in
-    leaves-ready h.before.before.before.requires h.height.ensures q.power.ensures o.order-points.ensures
+    leaves_ready h.before.before.before.requires h.height.ensures q.power.ensures o.order-points.ensures
 
 bound-nodes-requires : tie.Need-bound-nodes-requires
 bound-nodes-requires c κs =
@@ -33,7 +33,7 @@ bound-nodes-requires c κs =
     let o = l.before.before.before.before in
     let q = o.before.before in
     let h = q.before in
-    nodes-ready h.before.before.before.requires h.height.ensures q.power.ensures o.order-points.ensures l.bound-leaves.ensures (omega arith)
+    nodes_ready h.before.before.before.requires h.height.ensures q.power.ensures o.order-points.ensures l.bound-leaves.ensures (omega arith)
 
 same_length : tie.Need-same-length
 same_length c = search rules
@@ -45,7 +45,7 @@ returns c =
     let o = l.before.before.before.before in
     let q = o.before.before in
     let h = q.before in
-    tree-made h.before.before.before.requires h.height.ensures q.power.ensures o.order-points.ensures l.bound-leaves.ensures (omega arith) m.bound-nodes.ensures (omega arith)
+    tree_made h.before.before.before.requires h.height.ensures q.power.ensures o.order-points.ensures l.bound-leaves.ensures (omega arith) m.bound-nodes.ensures (omega arith)
 
 pub make-tree-spec : {M : Type 1} → statement M
 make-tree-spec =

@@ -1,5 +1,5 @@
 -- `counts_for` meets its contract. Assumes nothing.
-use Rattle.stitch_triangle.proofs.FindingLaws.{three-hold, three-fail}
+use Rattle.stitch_triangle.proofs.FindingLaws.{three_hold, three_fail}
 use borrow.Author.Rules.{rules}
 use Rattle.stitch_triangle.proofs.finding.counts_for.Statement.{statement}
 use Rattle.stitch_triangle.proofs.finding.counts_for.Tie as tie
@@ -8,10 +8,10 @@ within-sag-requires : tie.Need-within-sag-requires
 within-sag-requires c κs = search rules
 
 returns : tie.Need-returns
-returns c = search three-hold
+returns c = search three_hold
 
 returns-2 : tie.Need-returns-2
-returns-2 c = search three-fail
+returns-2 c = search three_fail
 
 pub counts-for-spec : {M : Type 1} → statement M
 counts-for-spec = tie.close (tie.spec within-sag-requires returns returns-2)

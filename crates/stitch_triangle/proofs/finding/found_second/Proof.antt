@@ -1,5 +1,5 @@
 -- `found_second` meets its contract. Assumes nothing.
-use Rattle.stitch_triangle.proofs.FindingLaws.{second-found, second-not}
+use Rattle.stitch_triangle.proofs.FindingLaws.{second_found, second_not}
 use borrow.Author.Rules.{rules}
 use Rattle.stitch_triangle.proofs.finding.found_second.Statement.{statement}
 use Rattle.stitch_triangle.proofs.finding.found_second.Tie as tie
@@ -11,10 +11,10 @@ counts-for-requires-2 : tie.Need-counts-for-requires-2
 counts-for-requires-2 c κs = search rules
 
 returns : tie.Need-returns
-returns c = search second-found
+returns c = search second_found
 
 returns-2 : tie.Need-returns-2
-returns-2 c = search second-not
+returns-2 c = search second_not
 
 pub found-second-spec : {M : Type 1} → statement M
 found-second-spec =

@@ -1,5 +1,5 @@
 -- `found_third` meets its contract. Assumes nothing.
-use Rattle.stitch_triangle.proofs.FindingLaws.{third-found, third-not}
+use Rattle.stitch_triangle.proofs.FindingLaws.{third_found, third_not}
 use borrow.Author.Rules.{rules}
 use Rattle.stitch_triangle.proofs.finding.found_third.Statement.{statement}
 use Rattle.stitch_triangle.proofs.finding.found_third.Tie as tie
@@ -14,10 +14,10 @@ counts-for-requires-3 : tie.Need-counts-for-requires-3
 counts-for-requires-3 c κs = search rules
 
 returns : tie.Need-returns
-returns c = search third-found
+returns c = search third_found
 
 returns-2 : tie.Need-returns-2
-returns-2 c = search third-not
+returns-2 c = search third_not
 
 pub found-third-spec : {M : Type 1} → statement M
 found-third-spec =

@@ -1,5 +1,5 @@
 -- `nearer` meets its contract. Assumes nothing.
-use Rattle.stitch_triangle.proofs.PlacingLaws.{nearer-outside, nearer-inside}
+use Rattle.stitch_triangle.proofs.PlacingLaws.{nearer_outside, nearer_inside}
 use borrow.Author.Rules.{rules}
 use Rattle.stitch_triangle.proofs.placing.nearer.Statement.{statement}
 use Rattle.stitch_triangle.proofs.placing.nearer.Tie as tie
@@ -17,10 +17,10 @@ nearer-hit-requires : tie.Need-nearer-hit-requires
 nearer-hit-requires c κs = search rules
 
 returns : tie.Need-returns
-returns c = search nearer-outside
+returns c = search nearer_outside
 
 returns-2 : tie.Need-returns-2
-returns-2 c = search nearer-inside
+returns-2 c = search nearer_inside
 
 pub nearer-spec : {M : Type 1} → statement M
 nearer-spec =

@@ -1,5 +1,5 @@
 -- `is_far` meets its contract. Assumes nothing.
-use Rattle.stitch_triangle.proofs.NodeLaws.{box-inside, box-far}
+use Rattle.stitch_triangle.proofs.NodeLaws.{box_inside, box_far}
 use mathlib.Core.Path.{refl}
 use borrow.Author.Rules.{rules}
 use Rattle.stitch_triangle.proofs.search.is_far.Statement.{statement}
@@ -18,19 +18,19 @@ shr-node : tie.Need-overflow-shr-node
 shr-node c = search rules
 
 mul-box-at : tie.Need-overflow-mul-box-at
-mul-box-at c = let l = box-inside c.before.before.before.requires c.power.ensures refl in search rules
+mul-box-at c = let l = box_inside c.before.before.before.requires c.power.ensures refl in search rules
 
 add-box-at : tie.Need-overflow-add-box-at
-add-box-at c = let l = box-inside c.before.before.before.before.requires c.before.power.ensures refl in search rules
+add-box-at c = let l = box_inside c.before.before.before.before.requires c.before.power.ensures refl in search rules
 
 box-at-requires : tie.Need-box-at-requires
-box-at-requires c κs = box-inside c.before.before.before.before.requires c.before.power.ensures refl
+box-at-requires c κs = box_inside c.before.before.before.before.requires c.before.power.ensures refl
 
 far-requires : tie.Need-far-requires
 far-requires c κs = search rules
 
 returns : tie.Need-returns
-returns c = search box-far
+returns c = search box_far
 
 pub is-far-spec : {M : Type 1} → statement M
 is-far-spec =

@@ -1,5 +1,5 @@
 -- `may_split` meets its contract. Assumes nothing.
-use Rattle.stitch_triangle.proofs.SearchLaws.{word-inside, coordinates-there, ruled-there}
+use Rattle.stitch_triangle.proofs.SearchLaws.{word_inside, coordinates_there, ruled_there}
 use borrow.Author.Rules.{rules}
 use Rattle.stitch_triangle.proofs.search.may_split.Statement.{statement}
 use Rattle.stitch_triangle.proofs.search.may_split.Tie as tie
@@ -11,13 +11,13 @@ mul-vertex : tie.Need-overflow-mul-vertex
 mul-vertex c = search rules
 
 vertex-requires : tie.Need-vertex-requires
-vertex-requires c κs = coordinates-there c.before.before.before.requires c.vertex-at.ensures
+vertex-requires c κs = coordinates_there c.before.before.before.requires c.vertex_at.ensures
 
 may-hit-requires : tie.Need-may-hit-requires
 may-hit-requires c κs = search rules
 
 returns : tie.Need-returns
-returns c = search ruled-there
+returns c = search ruled_there
 
 pub may-split-spec : {M : Type 1} → statement M
 may-split-spec =

@@ -1,6 +1,6 @@
 -- `try_block` meets its contract. Assumes nothing.
 use borrow.Author.Rules.{rules}
-use Rattle.stitch_triangle.proofs.SearchLaws.{Trying, trying-none, next-ready, point-ready, trying-more, trying-ruled, trying-all}
+use Rattle.stitch_triangle.proofs.SearchLaws.{Trying, trying_none, next_ready, point_ready, trying_more, trying_ruled, trying_all}
 use Prim.Native.Nat.{◌-◌}
 use Rattle.stitch_triangle.proofs.search.try_block.Statement.{statement}
 use Rattle.stitch_triangle.proofs.search.try_block.Tie as tie
@@ -18,13 +18,13 @@ block-end-requires : tie.Need-block-end-requires invariant-loop decreases-loop
 block-end-requires c κs = search rules
 
 loop-holds : tie.Need-loop-init invariant-loop decreases-loop
-loop-holds c = search trying-none
+loop-holds c = search trying_none
 
 may-split-requires : tie.Need-may-split-requires invariant-loop decreases-loop
-may-split-requires c κs = search point-ready
+may-split-requires c κs = search point_ready
 
 try-vertex-requires : tie.Need-try-vertex-requires invariant-loop decreases-loop
-try-vertex-requires c κs = search next-ready
+try-vertex-requires c κs = search next_ready
 
 add-j : tie.Need-overflow-add-j invariant-loop decreases-loop
 add-j c = search rules
@@ -33,7 +33,7 @@ loop-less : tie.Need-loop-smaller invariant-loop decreases-loop
 loop-less c = search rules
 
 loop-again : tie.Need-loop-preserved invariant-loop decreases-loop
-loop-again c = search trying-more
+loop-again c = search trying_more
 
 add-j-2 : tie.Need-overflow-add-j-2 invariant-loop decreases-loop
 add-j-2 c = search rules
@@ -48,13 +48,13 @@ loop-again-2 c =
     let l = t.before in
     let b = l.before in
     let i = b.before in
-    trying-ruled i.before.before.before.requires _ b.block-end.ensures l.loop.invariant t.loop-test.true i.side-of.ensures m.may-split.ensures c.if1.false
+    trying_ruled i.before.before.before.requires _ b.block-end.ensures l.loop.invariant t.loop-test.true i.side-of.ensures m.may-split.ensures c.if1.false
 
 same_length : tie.Need-same-length invariant-loop decreases-loop
 same_length c = search rules
 
 returns : tie.Need-returns invariant-loop decreases-loop
-returns c = search trying-all
+returns c = search trying_all
 
 pub try-block-spec : {M : Type 1} → statement M
 try-block-spec =

@@ -1,5 +1,5 @@
 -- `try_vertex` meets its contract. Assumes nothing.
-use Rattle.stitch_triangle.proofs.SearchLaws.{word_fits, point-inside, name-inside, tried-not, tried-nowhere, tried-placed, pair-room}
+use Rattle.stitch_triangle.proofs.SearchLaws.{word_fits, point_inside, name_inside, tried_not, tried_nowhere, tried_placed, pair_room}
 use borrow.Author.Rules.{rules}
 use Rattle.stitch_triangle.proofs.search.try_vertex.Statement.{statement}
 use Rattle.stitch_triangle.proofs.search.try_vertex.Tie as tie
@@ -20,13 +20,13 @@ mul-vertex : tie.Need-overflow-mul-vertex
 mul-vertex c = search rules
 
 vertex-requires : tie.Need-vertex-requires
-vertex-requires c κs = point-inside c.before.before.before.before.before.before.requires c.vertex-at.ensures
+vertex-requires c κs = point_inside c.before.before.before.before.before.before.requires c.vertex_at.ensures
 
 mul-name : tie.Need-overflow-mul-name
 mul-name c = search rules
 
 slice-read-name : tie.Need-slice-read-name
-slice-read-name c = name-inside c.before.before.before.before.before.before.before.before.requires c.before.before.vertex-at.ensures
+slice-read-name c = name_inside c.before.before.before.before.before.before.before.before.requires c.before.before.vertex_at.ensures
 
 found-on-requires : tie.Need-found-on-requires
 found-on-requires c κs = search rules
@@ -50,8 +50,8 @@ returns c =
     let f = i.before in
     let v = f.before.before in
     let l = v.before in
-    tried-nowhere l.before.before.before.before.before.before.requires l.vertex-at.ensures _ v.vertex.ensures f.found-on.ensures i.if1.true
-    p.place-on.ensures c.before.enum_told.given.1
+    tried_nowhere l.before.before.before.before.before.before.requires l.vertex_at.ensures _ v.vertex.ensures f.found_on_lem.ensures i.if1.true
+    p.place_on.ensures c.before.enum_told.given.1
 
 enum-known-p : tie.Need-enum-known-p
 enum-known-p c = search rules
@@ -69,8 +69,8 @@ append-pair-requires c κs =
     let f = i.before in
     let v = f.before.before in
     let l = v.before in
-    pair-room l.before.before.before.before.before.before.requires l.vertex-at.ensures _ v.vertex.ensures f.found-on.ensures i.if1.true
-    p.place-on.ensures c.before.before.p.given.1
+    pair_room l.before.before.before.before.before.before.requires l.vertex_at.ensures _ v.vertex.ensures f.found_on_lem.ensures i.if1.true
+    p.place_on.ensures c.before.before.p.given.1
 
 add-t27 : tie.Need-overflow-add-t27
 add-t27 c = search rules
@@ -93,8 +93,8 @@ returns-2 c =
     let f = i.before in
     let v = f.before.before in
     let l = v.before in
-    tried-placed l.before.before.before.before.before.before.requires l.vertex-at.ensures _ v.vertex.ensures f.found-on.ensures i.if1.true
-    p.place-on.ensures k.p.given.1 n.append-pair.ensures
+    tried_placed l.before.before.before.before.before.before.requires l.vertex_at.ensures _ v.vertex.ensures f.found_on_lem.ensures i.if1.true
+    p.place_on.ensures k.p.given.1 n.append-pair.ensures
 
 same-length-3 : tie.Need-same-length-3
 same-length-3 c = search rules
@@ -104,7 +104,7 @@ returns-3 c =
     let f = c.before in
     let v = f.before.before in
     let l = v.before in
-    tried-not l.before.before.before.before.before.before.requires l.vertex-at.ensures _ v.vertex.ensures f.found-on.ensures c.if1.false
+    tried_not l.before.before.before.before.before.before.requires l.vertex_at.ensures _ v.vertex.ensures f.found_on_lem.ensures c.if1.false
 
 pub try-vertex-spec : {M : Type 1} → statement M
 try-vertex-spec =

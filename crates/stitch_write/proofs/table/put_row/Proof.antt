@@ -1,7 +1,7 @@
 -- `put_row` meets its contract. Six stores are one run of stores. Assumes nothing.
 use native.Mathlib.Omega.{arith}
 use lib.ListN.{length-set}
-use Rattle.stitch_write.proofs.TableLaws.{six-stores}
+use Rattle.stitch_write.proofs.TableLaws.{six_stores}
 use borrow.Author.Rules.{rules}
 use Rattle.stitch_write.proofs.table.put_row.Statement.{statement}
 use Rattle.stitch_write.proofs.table.put_row.Tie as tie
@@ -64,7 +64,7 @@ same_length : tie.Need-same-length
 same_length c = search rules
 
 returns : tie.Need-returns
-returns c = search six-stores
+returns c = search six_stores
 
 pub put-row-spec : {M : Type 1} → statement M
 put-row-spec =

@@ -2,7 +2,7 @@
 use mathlib.Core.Path.{refl}
 use Prim.Native.Nat.{◌-◌}
 use native.Mathlib.Omega.{arith}
-use Rattle.stitch_write.proofs.BodyWriteLaws.{WritingRows, writing-none, end_low, base-low, row-writable, row_room, vertices-small, indices-small, writing_more, writing-all}
+use Rattle.stitch_write.proofs.BodyWriteLaws.{WritingRows, writing_none, end_low, base_low, row_writable, row_room, vertices_small, indices_small, writing_more, writing_all}
 use borrow.Author.Rules.{rules}
 use Rattle.stitch_write.proofs.write.write_body.Statement.{statement}
 use Rattle.stitch_write.proofs.write.write_body.Tie as tie
@@ -19,7 +19,7 @@ row-count-requires : tie.Need-row-count-requires invariant-loop decreases-loop
 row-count-requires c κs = search rules
 
 loop-holds : tie.Need-loop-init invariant-loop decreases-loop
-loop-holds c = search writing-none
+loop-holds c = search writing_none
 
 vertices-requires : tie.Need-vertices-requires invariant-loop decreases-loop
 vertices-requires c κs = search rules
@@ -46,7 +46,7 @@ write-row-requires c κs =
     let i = c.before.before.before.before in
     let t = i.before.before in
     let q = t.before in
-    row-writable q.before.before.before.before.before.before.before.before.before.before.before.requires q.loop.invariant q.before.row_count.ensures refl t.loop-test.true i.before.vertices.ensures (omega (arith, i.indices.ensures))
+    row_writable q.before.before.before.before.before.before.before.before.before.before.before.requires q.loop.invariant q.before.row_count.ensures refl t.loop-test.true i.before.vertices.ensures (omega (arith, i.indices.ensures))
 
 sub-more-vertices : tie.Need-overflow-sub-more-vertices invariant-loop decreases-loop
 sub-more-vertices c = search rules
@@ -57,7 +57,7 @@ cast-more-vertices c =
     let i = d.before.before.before.before.before in
     let t = i.before.before in
     let q = t.before in
-    let l = vertices-small q.before.before.before.before.before.before.before.before.before.before.before.requires q.loop.invariant q.before.row_count.ensures refl t.loop-test.true i.before.vertices.ensures (omega (arith, i.indices.ensures)) d.write-row.ensures in
+    let l = vertices_small q.before.before.before.before.before.before.before.before.before.before.before.requires q.loop.invariant q.before.row_count.ensures refl t.loop-test.true i.before.vertices.ensures (omega (arith, i.indices.ensures)) d.write-row.ensures in
     omega (arith, l)
 
 sub-more-indices : tie.Need-overflow-sub-more-indices invariant-loop decreases-loop
@@ -69,7 +69,7 @@ cast-more-indices c =
     let i = d.before.before.before.before.before in
     let t = i.before.before in
     let q = t.before in
-    let l = indices-small q.before.before.before.before.before.before.before.before.before.before.before.requires q.loop.invariant q.before.row_count.ensures refl t.loop-test.true i.before.vertices.ensures (omega (arith, i.indices.ensures)) d.write-row.ensures in
+    let l = indices_small q.before.before.before.before.before.before.before.before.before.before.before.requires q.loop.invariant q.before.row_count.ensures refl t.loop-test.true i.before.vertices.ensures (omega (arith, i.indices.ensures)) d.write-row.ensures in
     omega (arith, l)
 
 put-counts-requires : tie.Need-put-counts-requires invariant-loop decreases-loop
@@ -85,7 +85,7 @@ add-base c =
     let t = i.before.before in
     let q = t.before in
     let p = q.before.before.before.before.before.before.before.before.before.before.before.requires in
-    let l = base-low p q.loop.invariant q.before.row_count.ensures refl t.loop-test.true refl refl in
+    let l = base_low p q.loop.invariant q.before.row_count.ensures refl t.loop-test.true refl refl in
     omega (arith, l, i.before.vertices.ensures, p.body.stands.few)
 
 add-k : tie.Need-overflow-add-k invariant-loop decreases-loop
@@ -126,7 +126,7 @@ same-length-5 : tie.Need-same-length-5 invariant-loop decreases-loop
 same-length-5 c = search rules
 
 returns : tie.Need-returns invariant-loop decreases-loop
-returns c = search writing-all
+returns c = search writing_all
 
 pub write-body-spec : {M : Type 1} → statement M
 write-body-spec =

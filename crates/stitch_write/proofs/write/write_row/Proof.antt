@@ -1,7 +1,7 @@
 -- `write_row` meets its contract. With the triangles before k written, their vertices and indices stand behind the row's own. Assumes nothing.
 use Prim.Native.Nat.{◌-◌}
 use native.Mathlib.Omega.{arith}
-use Rattle.stitch_write.proofs.RowWriteLaws.{Writing, own-positions, own-normals, long-p, long-n, writing-none, triangle-writable, writing_more, writing-all}
+use Rattle.stitch_write.proofs.RowWriteLaws.{Writing, own_positions, own_normals, long_p, long_n, writing_none, triangle_writable, writing_more, writing_all}
 use borrow.Author.Rules.{rules}
 use Rattle.stitch_write.proofs.write.write_row.Statement.{statement}
 use Rattle.stitch_write.proofs.write.write_row.Tie as tie
@@ -27,13 +27,13 @@ mul-append-stretch : tie.Need-overflow-mul-append-stretch invariant-loop decreas
 mul-append-stretch c = search rules
 
 append-stretch-requires : tie.Need-append-stretch-requires invariant-loop decreases-loop
-append-stretch-requires c κs = own-positions c.before.before.before.before.before.before.before.before.requires
+append-stretch-requires c κs = own_positions c.before.before.before.before.before.before.before.before.requires
 
 mul-append-stretch-2 : tie.Need-overflow-mul-append-stretch-2 invariant-loop decreases-loop
 mul-append-stretch-2 c = search rules
 
 append-stretch-requires-2 : tie.Need-append-stretch-requires-2 invariant-loop decreases-loop
-append-stretch-requires-2 c κs = own-normals c.before.before.before.before.before.before.before.before.before.before.before.before.requires
+append-stretch-requires-2 c κs = own_normals c.before.before.before.before.before.before.before.before.before.before.before.before.requires
 
 add-t21 : tie.Need-overflow-add-t21 invariant-loop decreases-loop
 add-t21 c = search rules
@@ -45,10 +45,10 @@ loop-holds c =
     let p = first.before.before.before.before.before.before.before.before.before.requires in
     let a = first.append-stretch.ensures in
     let b = second.append-stretch2.ensures in
-    writing-none p a b
+    writing_none p a b
 
 sub-next : tie.Need-overflow-sub-next invariant-loop decreases-loop
-sub-next c = omega (arith, c.before.before.loop.invariant.vertices-end)
+sub-next c = omega (arith, c.before.before.loop.invariant.vertices_end)
 
 write-triangle-requires : tie.Need-write-triangle-requires invariant-loop decreases-loop
 write-triangle-requires c κs =
@@ -59,7 +59,7 @@ write-triangle-requires c κs =
     let p = first.before.before.before.before.before.before.before.before.before.requires in
     let a = first.append-stretch.ensures in
     let b = second.append-stretch2.ensures in
-    triangle-writable p (long-p p a b) (long-n p a b) l.loop.invariant i.loop-test.true
+    triangle_writable p (long_p p a b) (long_n p a b) l.loop.invariant i.loop-test.true
 
 add-k : tie.Need-overflow-add-k invariant-loop decreases-loop
 add-k c =
@@ -79,7 +79,7 @@ loop-again c =
     let p = first.before.before.before.before.before.before.before.before.before.requires in
     let a = first.append-stretch.ensures in
     let b = second.append-stretch2.ensures in
-    writing_more p (long-p p a b) (long-n p a b) l.loop.invariant i.loop-test.true t.write-triangle.ensures (omega (arith, t.write-triangle.auto))
+    writing_more p (long_p p a b) (long_n p a b) l.loop.invariant i.loop-test.true t.write-triangle.ensures (omega (arith, t.write-triangle.auto))
 
 same_length : tie.Need-same-length invariant-loop decreases-loop
 same_length c = search rules
@@ -101,7 +101,7 @@ returns c =
     let p = first.before.before.before.before.before.before.before.before.before.requires in
     let a = first.append-stretch.ensures in
     let b = second.append-stretch2.ensures in
-    writing-all p a b l.loop.invariant c.loop-test.false
+    writing_all p a b l.loop.invariant c.loop-test.false
 
 pub write-row-spec : {M : Type 1} → statement M
 write-row-spec =

@@ -1,6 +1,6 @@
 -- `write_triangle` meets its contract. Assumes nothing.
 use native.Mathlib.Omega.{arith}
-use Rattle.stitch_write.proofs.TriangleWriteLaws.{kept-many, positions-ready, normals-ready, fan-ready, triangle-written}
+use Rattle.stitch_write.proofs.TriangleWriteLaws.{kept_many, positions_ready, normals_ready, fan_ready, triangle_written}
 use borrow.Author.Rules.{rules}
 use Rattle.stitch_write.proofs.write.write_triangle.Statement.{statement}
 use Rattle.stitch_write.proofs.write.write_triangle.Tie as tie
@@ -26,34 +26,34 @@ find-splits-requires c κs = search rules
 mul-append-positions : tie.Need-overflow-mul-append-positions
 mul-append-positions c =
     let s = c.before.before.before.before.before.before.before.before.before.before.before.before.before.before.before.before in
-    omega (arith, s.requires.room-positions, s.well-formed.1.1.1.1.1.1.1.1.1.0)
+    omega (arith, s.requires.room_positions, s.well-formed.1.1.1.1.1.1.1.1.1.0)
 
 append-positions-requires : tie.Need-append-positions-requires
 append-positions-requires c κs =
     let s = c.before.before.before.before in
     let p = s.before.before.before.before.before.before.before.before.before.before.before.before.requires in
-    positions-ready p s.find-splits.ensures (omega arith)
+    positions_ready p s.find-splits.ensures (omega arith)
 
 mul-append-normals : tie.Need-overflow-mul-append-normals
 mul-append-normals c =
     let s = c.before.before.before.before.before.before.before.before.before.before.before.before.before.before.before.before.before.before.before.before.before in
-    omega (arith, s.requires.room-normals, s.well-formed.1.1.1.1.1.1.1.1.1.1.0)
+    omega (arith, s.requires.room_normals, s.well-formed.1.1.1.1.1.1.1.1.1.1.0)
 
 append-normals-requires : tie.Need-append-normals-requires
 append-normals-requires c κs =
     let s = c.before.before.before.before.before.before.before.before.before in
     let p = s.before.before.before.before.before.before.before.before.before.before.before.before.requires in
-    normals-ready p s.find-splits.ensures (omega arith) s.before.before.before.before.corner.ensures s.before.before.before.corner2.ensures s.before.before.corner3.ensures
+    normals_ready p s.find-splits.ensures (omega arith) s.before.before.before.before.corner.ensures s.before.before.before.corner2.ensures s.before.before.corner3.ensures
 
 mul-append-fan : tie.Need-overflow-mul-append-fan
 mul-append-fan c =
     let s = c.before.before.before.before.before.before.before.before.before.before.before.before.before.before.before.before.before.before.before.before.before.before.before.before.before in
-    omega (arith, s.requires.ready.in-a.inside, s.well-formed.1.1.0)
+    omega (arith, s.requires.ready.in_a.inside, s.well-formed.1.1.0)
 
 shared-slice-read-append-fan : tie.Need-shared-slice-read-append-fan
 shared-slice-read-append-fan c =
     let p = c.before.before.before.before.before.before.before.before.before.before.before.before.before.before.before.before.before.before.before.before.before.before.before.before.before.before.requires in
-    omega (arith, p.ready.in-a.inside)
+    omega (arith, p.ready.in_a.inside)
 
 add-append-fan : tie.Need-overflow-add-append-fan
 add-append-fan c =
@@ -89,14 +89,14 @@ append-fan-requires : tie.Need-append-fan-requires
 append-fan-requires c κs =
     let s = c.before.before.before.before.before.before.before.before.before.before.before.before.before.before.before.before.before in
     let p = s.before.before.before.before.before.before.before.before.before.before.before.before.requires in
-    fan-ready p s.find-splits.ensures (omega arith) _ _ _
+    fan_ready p s.find-splits.ensures (omega arith) _ _ _
 
 add-t21 : tie.Need-overflow-add-t21
 add-t21 c =
     let s = c.before.before.before.before.before.before.before.before.before.before.before.before.before.before.before.before.before.before.before.before in
     let p = s.before.before.before.before.before.before.before.before.before.before.before.before.requires in
-    let l = kept-many p s.find-splits.ensures (omega arith) in
-    omega (arith, l, p.room-positions, s.before.before.before.before.before.before.before.before.before.before.before.before.well-formed.1.1.1.1.1.1.1.1.1.0)
+    let l = kept_many p s.find-splits.ensures (omega arith) in
+    omega (arith, l, p.room_positions, s.before.before.before.before.before.before.before.before.before.before.before.before.well-formed.1.1.1.1.1.1.1.1.1.0)
 
 same_length : tie.Need-same-length
 same_length c = omega arith
@@ -117,7 +117,7 @@ returns c =
     let q = n.before.before.before.before.before in
     let s = q.before.before.before.before.before in
     let p = s.before.before.before.before.before.before.before.before.before.before.before.before.requires in
-    triangle-written p s.find-splits.ensures (omega arith) s.before.before.before.before.corner.ensures s.before.before.before.corner2.ensures s.before.before.corner3.ensures q.append-positions.ensures n.append-normals.ensures f.append-fan.ensures
+    triangle_written p s.find-splits.ensures (omega arith) s.before.before.before.before.corner.ensures s.before.before.before.corner2.ensures s.before.before.corner3.ensures q.append-positions.ensures n.append-normals.ensures f.append-fan.ensures
 
 pub write-triangle-spec : {M : Type 1} → statement M
 write-triangle-spec =

@@ -1,6 +1,6 @@
 -- `any_not_finite` meets its contract. Assumes nothing.
 use Prim.Native.Nat.{◌-◌}
-use Rattle.stl_read.proofs.CornerLaws.{Looked, looked-none, looked-more, looked-all}
+use Rattle.stl_read.proofs.CornerLaws.{Looked, looked_none, looked_more, looked_all}
 use borrow.Author.Rules.{rules}
 use Rattle.stl_read.proofs.corners.any_not_finite.Statement.{statement}
 use Rattle.stl_read.proofs.corners.any_not_finite.Tie as tie
@@ -12,7 +12,7 @@ abbrev decreases-loop : tie.decreases-loop
 decreases-loop file n found₀ t₀ found t = n - t
 
 loop-holds : tie.Need-loop-init invariant-loop decreases-loop
-loop-holds c = looked-none _ _
+loop-holds c = looked_none _ _
 
 mul-facet-not-finite : tie.Need-overflow-mul-facet-not-finite invariant-loop decreases-loop
 mul-facet-not-finite c = search rules
@@ -33,10 +33,10 @@ loop-less : tie.Need-loop-smaller invariant-loop decreases-loop
 loop-less c = search rules
 
 loop-again : tie.Need-loop-preserved invariant-loop decreases-loop
-loop-again c = search looked-more
+loop-again c = search looked_more
 
 returns : tie.Need-returns invariant-loop decreases-loop
-returns c = search looked-all
+returns c = search looked_all
 
 pub any-not-finite-spec : {M : Type 1} → statement M
 any-not-finite-spec =

@@ -1,5 +1,5 @@
 -- `facet_not_finite` meets its contract. Assumes nothing.
-use Rattle.stl_read.proofs.CornerLaws.{facet-any}
+use Rattle.stl_read.proofs.CornerLaws.{facet_any}
 use borrow.Author.Rules.{rules}
 use Rattle.stl_read.proofs.corners.facet_not_finite.Statement.{statement}
 use Rattle.stl_read.proofs.corners.facet_not_finite.Tie as tie
@@ -20,7 +20,7 @@ point-not-finite-requires-3 : tie.Need-point-not-finite-requires-3
 point-not-finite-requires-3 c κs = search rules
 
 returns : tie.Need-returns
-returns c = search facet-any
+returns c = search facet_any
 
 pub facet-not-finite-spec : {M : Type 1} → statement M
 facet-not-finite-spec =

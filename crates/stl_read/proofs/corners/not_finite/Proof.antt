@@ -1,5 +1,5 @@
 -- `not_finite` meets its contract. Assumes nothing.
-use Rattle.stl_read.proofs.CornerLaws.{not-finite-is}
+use Rattle.stl_read.proofs.CornerLaws.{not_finite_is}
 use borrow.Author.Rules.{rules}
 use Rattle.stl_read.proofs.corners.not_finite.Statement.{statement}
 use Rattle.stl_read.proofs.corners.not_finite.Tie as tie
@@ -11,7 +11,7 @@ is-finite-f32-requires : tie.Need-is-finite-f32-requires
 is-finite-f32-requires c κs = search rules
 
 returns : tie.Need-returns
-returns c = search not-finite-is
+returns c = search not_finite_is
 
 pub not-finite-spec : {M : Type 1} → statement M
 not-finite-spec = tie.close (tie.spec f32-of-bits-requires is-finite-f32-requires returns)

@@ -1,5 +1,5 @@
 -- `point_not_finite` meets its contract. Assumes nothing.
-use Rattle.stl_read.proofs.CornerLaws.{point-any}
+use Rattle.stl_read.proofs.CornerLaws.{point_any}
 use borrow.Author.Rules.{rules}
 use Rattle.stl_read.proofs.corners.point_not_finite.Statement.{statement}
 use Rattle.stl_read.proofs.corners.point_not_finite.Tie as tie
@@ -29,7 +29,7 @@ not-finite-requires-3 : tie.Need-not-finite-requires-3
 not-finite-requires-3 c κs = search rules
 
 returns : tie.Need-returns
-returns c = search point-any
+returns c = search point_any
 
 pub point-not-finite-spec : {M : Type 1} → statement M
 point-not-finite-spec =

@@ -1,6 +1,6 @@
 -- `put_corners` meets its contract. Assumes nothing.
 use Prim.Native.Nat.{◌-◌}
-use Rattle.stl_read.proofs.CornerLaws.{Putting, putting-none, putting-more, putting-all}
+use Rattle.stl_read.proofs.CornerLaws.{Putting, putting_none, putting_more, putting_all}
 use borrow.Author.Rules.{rules}
 use Rattle.stl_read.proofs.corners.put_corners.Statement.{statement}
 use Rattle.stl_read.proofs.corners.put_corners.Tie as tie
@@ -12,7 +12,7 @@ abbrev decreases-loop : tie.decreases-loop
 decreases-loop file n positions₀ t₀ positions t = n - t
 
 loop-holds : tie.Need-loop-init invariant-loop decreases-loop
-loop-holds c = search putting-none
+loop-holds c = search putting_none
 
 mul-put-facet : tie.Need-overflow-mul-put-facet invariant-loop decreases-loop
 mul-put-facet c = search rules
@@ -36,13 +36,13 @@ loop-less : tie.Need-loop-smaller invariant-loop decreases-loop
 loop-less c = search rules
 
 loop-again : tie.Need-loop-preserved invariant-loop decreases-loop
-loop-again c = search putting-more
+loop-again c = search putting_more
 
 same_length : tie.Need-same-length invariant-loop decreases-loop
 same_length c = search rules
 
 returns : tie.Need-returns invariant-loop decreases-loop
-returns c = search putting-all
+returns c = search putting_all
 
 pub put-corners-spec : {M : Type 1} → statement M
 put-corners-spec =

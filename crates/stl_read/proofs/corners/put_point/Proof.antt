@@ -1,7 +1,7 @@
 -- `put_point` meets its contract. Assumes nothing.
 use native.Mathlib.Omega.{arith}
 use lib.ListN.{length-set}
-use Rattle.stl_read.proofs.CornerLaws.{point-put}
+use Rattle.stl_read.proofs.CornerLaws.{point_put}
 use borrow.Author.Rules.{rules}
 use Rattle.stl_read.proofs.corners.put_point.Statement.{statement}
 use Rattle.stl_read.proofs.corners.put_point.Tie as tie
@@ -58,7 +58,7 @@ same_length : tie.Need-same-length
 same_length c = search rules
 
 returns : tie.Need-returns
-returns c = search point-put
+returns c = search point_put
 
 pub put-point-spec : {M : Type 1} → statement M
 put-point-spec =

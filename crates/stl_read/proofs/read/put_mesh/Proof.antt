@@ -1,5 +1,5 @@
 -- `put_mesh` meets its contract. Assumes nothing.
-use Rattle.stl_read.proofs.ReadLaws.{mesh-put}
+use Rattle.stl_read.proofs.ReadLaws.{mesh_put}
 use borrow.Author.Rules.{rules}
 use Rattle.stl_read.proofs.read.put_mesh.Statement.{statement}
 use Rattle.stl_read.proofs.read.put_mesh.Tie as tie
@@ -44,7 +44,7 @@ same-length-4 : tie.Need-same-length-4
 same-length-4 c = search rules
 
 returns : tie.Need-returns
-returns c = search mesh-put
+returns c = search mesh_put
 
 pub put-mesh-spec : {M : Type 1} → statement M
 put-mesh-spec =

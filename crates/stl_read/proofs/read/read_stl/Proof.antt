@@ -1,5 +1,5 @@
 -- `read_stl` meets its contract. Assumes nothing.
-use Rattle.stl_read.proofs.ReadLaws.{read_back, read_left, read-refused, readable, refused-back}
+use Rattle.stl_read.proofs.ReadLaws.{read_back, read_left, read_refused, readable, refused_back}
 use borrow.Author.Rules.{rules}
 use Rattle.stl_read.proofs.read.read_stl.Statement.{statement}
 use Rattle.stl_read.proofs.read.read_stl.Tie as tie
@@ -8,7 +8,7 @@ file-failing-requires : tie.Need-file-failing-requires
 file-failing-requires c κs = search rules
 
 returns : tie.Need-returns
-returns c = search (rules, read-refused, refused-back)
+returns c = search (rules, read_refused, refused_back)
 
 read-checked-requires : tie.Need-read-checked-requires
 read-checked-requires c κs = search (rules, readable)

@@ -1,6 +1,6 @@
 -- `fill_floats` meets its contract. Assumes nothing.
 use Prim.Native.Nat.{◌-◌}
-use Rattle.stl_definition.specs.FrontLaws.{Filled, filled_none, filled_more, filled-all}
+use Rattle.stl_definition.specs.FrontLaws.{Filled, filled_none, filled_more, filled_all}
 use borrow.Author.Rules.{rules}
 use Rattle.stl_read.proofs.slices.fill_floats.Statement.{statement}
 use Rattle.stl_read.proofs.slices.fill_floats.Tie as tie
@@ -33,7 +33,7 @@ same_length : tie.Need-same-length invariant-loop decreases-loop
 same_length c = search rules
 
 returns : tie.Need-returns invariant-loop decreases-loop
-returns c = search filled-all
+returns c = search filled_all
 
 pub fill-floats-spec : {M : Type 1} → statement M
 fill-floats-spec =

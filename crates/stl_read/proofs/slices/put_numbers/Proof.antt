@@ -1,6 +1,6 @@
 -- `put_numbers` meets its contract. Assumes nothing.
 use Prim.Native.Nat.{◌-◌}
-use Rattle.stl_read.proofs.SliceLaws.{Numbered, numbered-none, numbered_more, numbered-all}
+use Rattle.stl_read.proofs.SliceLaws.{Numbered, numbered_none, numbered_more, numbered_all}
 use borrow.Author.Rules.{rules}
 use Rattle.stl_read.proofs.slices.put_numbers.Statement.{statement}
 use Rattle.stl_read.proofs.slices.put_numbers.Tie as tie
@@ -12,7 +12,7 @@ abbrev decreases-loop : tie.decreases-loop
 decreases-loop indices₀ n k₀ indices k = n - k
 
 loop-holds : tie.Need-loop-init invariant-loop decreases-loop
-loop-holds c = numbered-none _ _
+loop-holds c = numbered_none _ _
 
 cast-indices : tie.Need-overflow-cast-indices invariant-loop decreases-loop
 cast-indices c = search rules
@@ -36,7 +36,7 @@ same_length : tie.Need-same-length invariant-loop decreases-loop
 same_length c = search rules
 
 returns : tie.Need-returns invariant-loop decreases-loop
-returns c = search numbered-all
+returns c = search numbered_all
 
 pub put-numbers-spec : {M : Type 1} → statement M
 put-numbers-spec =

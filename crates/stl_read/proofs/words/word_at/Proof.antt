@@ -1,5 +1,5 @@
 -- `word_at` meets its contract. Assumes nothing.
-use Rattle.stl_read.proofs.CornerLaws.{word-is}
+use Rattle.stl_read.proofs.CornerLaws.{word_is}
 use borrow.Author.Rules.{rules}
 use Rattle.stl_read.proofs.words.word_at.Statement.{statement}
 use Rattle.stl_read.proofs.words.word_at.Tie as tie
@@ -44,7 +44,7 @@ add-result-3 : tie.Need-overflow-add-result-3
 add-result-3 c = search rules
 
 returns : tie.Need-returns
-returns c = search word-is
+returns c = search word_is
 
 pub word-at-spec : {M : Type 1} → statement M
 word-at-spec =

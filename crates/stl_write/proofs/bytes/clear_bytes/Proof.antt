@@ -1,6 +1,6 @@
 -- `clear_bytes` meets its contract. Assumes nothing.
 use Prim.Native.Nat.{◌-◌}
-use Rattle.stl_definition.specs.FrontLaws.{Filled, filled_none, filled_more, filled-all}
+use Rattle.stl_definition.specs.FrontLaws.{Filled, filled_none, filled_more, filled_all}
 use borrow.Author.Rules.{rules}
 use Rattle.stl_write.proofs.bytes.clear_bytes.Statement.{statement}
 use Rattle.stl_write.proofs.bytes.clear_bytes.Tie as tie
@@ -30,7 +30,7 @@ same_length : tie.Need-same-length invariant-loop decreases-loop
 same_length c = search rules
 
 returns : tie.Need-returns invariant-loop decreases-loop
-returns c = search filled-all
+returns c = search filled_all
 
 pub clear-bytes-spec : {M : Type 1} → statement M
 clear-bytes-spec =

@@ -1,7 +1,7 @@
 -- `put_word` meets its contract. Assumes nothing.
 use native.Mathlib.Omega.{arith}
 use lib.ListN.{length-set}
-use Rattle.stl_write.proofs.ByteLaws.{word-put}
+use Rattle.stl_write.proofs.ByteLaws.{word_put}
 use borrow.Author.Rules.{rules}
 use Rattle.stl_write.proofs.bytes.put_word.Statement.{statement}
 use Rattle.stl_write.proofs.bytes.put_word.Tie as tie
@@ -43,7 +43,7 @@ same_length : tie.Need-same-length
 same_length c = search rules
 
 returns : tie.Need-returns
-returns c = search word-put
+returns c = search word_put
 
 pub put-word-spec : {M : Type 1} → statement M
 put-word-spec =

@@ -1,5 +1,5 @@
 -- `put_words` meets its contract. Assumes nothing.
-use Rattle.stl_write.proofs.ByteLaws.{words-put}
+use Rattle.stl_write.proofs.ByteLaws.{words_put}
 use borrow.Author.Rules.{rules}
 use Rattle.stl_write.proofs.bytes.put_words.Statement.{statement}
 use Rattle.stl_write.proofs.bytes.put_words.Tie as tie
@@ -23,7 +23,7 @@ same_length : tie.Need-same-length
 same_length c = search rules
 
 returns : tie.Need-returns
-returns c = search words-put
+returns c = search words_put
 
 pub put-words-spec : {M : Type 1} → statement M
 put-words-spec =

@@ -1,5 +1,5 @@
 -- `put_corner` meets its contract. Assumes nothing.
-use Rattle.stl_write.proofs.ByteLaws.{corner-put}
+use Rattle.stl_write.proofs.ByteLaws.{corner_put}
 use borrow.Author.Rules.{rules}
 use Rattle.stl_write.proofs.facet.put_corner.Statement.{statement}
 use Rattle.stl_write.proofs.facet.put_corner.Tie as tie
@@ -47,7 +47,7 @@ same_length : tie.Need-same-length
 same_length c = search rules
 
 returns : tie.Need-returns
-returns c = search corner-put
+returns c = search corner_put
 
 pub put-corner-spec : {M : Type 1} → statement M
 put-corner-spec =

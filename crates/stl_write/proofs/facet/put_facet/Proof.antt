@@ -1,5 +1,5 @@
 -- `put_facet` meets its contract. Assumes nothing.
-use Rattle.stl_write.proofs.ByteLaws.{facet-put}
+use Rattle.stl_write.proofs.ByteLaws.{facet_put}
 use borrow.Author.Rules.{rules}
 use Rattle.stl_write.proofs.facet.put_facet.Statement.{statement}
 use Rattle.stl_write.proofs.facet.put_facet.Tie as tie
@@ -35,7 +35,7 @@ same_length : tie.Need-same-length
 same_length c = search rules
 
 returns : tie.Need-returns
-returns c = search facet-put
+returns c = search facet_put
 
 pub put-facet-spec : {M : Type 1} → statement M
 put-facet-spec =

@@ -1,5 +1,5 @@
 -- `put_triangle` meets its contract. Assumes nothing.
-use Rattle.stl_write.proofs.FileLaws.{triangle-inside}
+use Rattle.stl_write.proofs.FileLaws.{triangle_inside}
 use borrow.Author.Rules.{rules}
 use Rattle.stl_write.proofs.facet.put_triangle.Statement.{statement}
 use Rattle.stl_write.proofs.facet.put_triangle.Tie as tie
@@ -38,7 +38,7 @@ shared-slice-read-put-facet-3 : tie.Need-shared-slice-read-put-facet-3
 shared-slice-read-put-facet-3 c = search rules
 
 put-facet-requires : tie.Need-put-facet-requires
-put-facet-requires c κs = search (rules, triangle-inside)
+put-facet-requires c κs = search (rules, triangle_inside)
 
 same_length : tie.Need-same-length
 same_length c = search rules

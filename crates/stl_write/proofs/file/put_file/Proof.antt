@@ -1,5 +1,5 @@
 -- `put_file` meets its contract. Assumes nothing.
-use Rattle.stl_write.proofs.FileLaws.{file-put, writable-still}
+use Rattle.stl_write.proofs.FileLaws.{file_put, writable_still}
 use borrow.Author.Rules.{rules}
 use Rattle.stl_write.proofs.file.put_file.Statement.{statement}
 use Rattle.stl_write.proofs.file.put_file.Tie as tie
@@ -11,13 +11,13 @@ put-head-requires : tie.Need-put-head-requires
 put-head-requires c κs = search rules
 
 put-facets-requires : tie.Need-put-facets-requires
-put-facets-requires c κs = search (rules, writable-still)
+put-facets-requires c κs = search (rules, writable_still)
 
 same_length : tie.Need-same-length
 same_length c = search rules
 
 returns : tie.Need-returns
-returns c = search file-put
+returns c = search file_put
 
 pub put-file-spec : {M : Type 1} → statement M
 put-file-spec =

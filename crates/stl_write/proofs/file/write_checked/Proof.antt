@@ -1,5 +1,5 @@
 -- `write_checked` meets its contract. Assumes nothing.
-use Rattle.stl_write.proofs.FileLaws.{file-left, short-left}
+use Rattle.stl_write.proofs.FileLaws.{file_left_lem, short_left}
 use borrow.Author.Rules.{rules}
 use Rattle.stl_write.proofs.file.write_checked.Statement.{statement}
 use Rattle.stl_write.proofs.file.write_checked.Tie as tie
@@ -11,7 +11,7 @@ add-length : tie.Need-overflow-add-length
 add-length c = search rules
 
 returns : tie.Need-returns
-returns c = search (rules, short-left)
+returns c = search (rules, short_left)
 
 put-file-requires : tie.Need-put-file-requires
 put-file-requires c κs = search rules
@@ -20,7 +20,7 @@ same_length : tie.Need-same-length
 same_length c = search rules
 
 returns-2 : tie.Need-returns-2
-returns-2 c = search (rules, file-left)
+returns-2 c = search (rules, file_left_lem)
 
 pub write-checked-spec : {M : Type 1} → statement M
 write-checked-spec =

@@ -1,5 +1,5 @@
 -- `invert_if` meets its contract. Assumes nothing.
-use Rattle.turn_groups.proofs.GroupLaws.{judged-yes, judged-no}
+use Rattle.turn_groups.proofs.GroupLaws.{judged_yes, judged_no}
 use borrow.Author.Rules.{rules}
 use Rattle.turn_groups.proofs.settling.invert_if.Statement.{statement}
 use Rattle.turn_groups.proofs.settling.invert_if.Tie as tie
@@ -14,13 +14,13 @@ same_length : tie.Need-same-length
 same_length c = search rules
 
 returns : tie.Need-returns
-returns c = search judged-yes
+returns c = search judged_yes
 
 same-length-2 : tie.Need-same-length-2
 same-length-2 c = search rules
 
 returns-2 : tie.Need-returns-2
-returns-2 c = search judged-no
+returns-2 c = search judged_no
 
 pub invert-if-spec : {M : Type 1} → statement M
 invert-if-spec =

@@ -1,5 +1,5 @@
 -- `lay_bases` meets its contract. Assumes nothing.
-use Rattle.turn_groups.proofs.RootLaws.{bases-laid}
+use Rattle.turn_groups.proofs.RootLaws.{bases_laid}
 use borrow.Author.Rules.{rules}
 use Rattle.turn_groups.proofs.settling.lay_bases.Statement.{statement}
 use Rattle.turn_groups.proofs.settling.lay_bases.Tie as tie
@@ -65,7 +65,7 @@ same_length : tie.Need-same-length
 same_length c = search rules
 
 returns : tie.Need-returns
-returns c = search bases-laid
+returns c = search bases_laid
 
 pub lay-bases-spec : {M : Type 1} → statement M
 lay-bases-spec =

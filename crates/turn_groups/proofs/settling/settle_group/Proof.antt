@@ -1,5 +1,5 @@
 -- `settle_group` meets its contract. Assumes nothing.
-use Rattle.turn_groups.proofs.GroupLaws.{walked-judgeable, settled}
+use Rattle.turn_groups.proofs.GroupLaws.{walked_judgeable, settled}
 use borrow.Author.Rules.{rules}
 use Rattle.turn_groups.proofs.settling.settle_group.Statement.{statement}
 use Rattle.turn_groups.proofs.settling.settle_group.Tie as tie
@@ -8,7 +8,7 @@ walk-group-requires : tie.Need-walk-group-requires
 walk-group-requires c κs = search rules
 
 invert-if-requires : tie.Need-invert-if-requires
-invert-if-requires c κs = search walked-judgeable
+invert-if-requires c κs = search walked_judgeable
 
 same_length : tie.Need-same-length
 same_length c = search rules

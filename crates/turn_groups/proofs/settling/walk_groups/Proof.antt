@@ -1,5 +1,5 @@
 -- `walk_groups` meets its contract. Assumes nothing.
-use Rattle.turn_groups.proofs.RootLaws.{groups-ready, groups-walked}
+use Rattle.turn_groups.proofs.RootLaws.{groups_ready, groups_walked}
 use native.Mathlib.Omega.{arith}
 use borrow.Author.Rules.{rules}
 use Rattle.turn_groups.proofs.settling.walk_groups.Statement.{statement}
@@ -19,13 +19,13 @@ settle-groups-requires c κs =
     let b = c.before.before.before in
     let u = b.before.before.before.before in
     let q = u.before.before.before.before in
-    groups-ready q.before.before.before.before.before.before.requires q.chain-pairs.ensures (omega arith) u.uncolour.ensures (omega arith) b.lay-bases.ensures (omega arith)
+    groups_ready q.before.before.before.before.before.before.requires q.chain-pairs.ensures (omega arith) u.uncolour.ensures (omega arith) b.lay-bases.ensures (omega arith)
 
 same_length : tie.Need-same-length
 same_length c = search rules
 
 returns : tie.Need-returns
-returns c = search groups-walked
+returns c = search groups_walked
 
 pub walk-groups-spec : {M : Type 1} → statement M
 walk-groups-spec =

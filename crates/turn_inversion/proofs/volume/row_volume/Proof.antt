@@ -1,7 +1,7 @@
 -- `row_volume` meets its contract. Assumes nothing.
 use native.Mathlib.Omega.{arith}
-use Rattle.turn_inversion.specs.RowPatch.{v-room, i-room}
-use Rattle.turn_inversion.proofs.VolumeLaws.{row_within, row-volume-is}
+use Rattle.turn_inversion.specs.RowPatch.{v_room, i_room}
+use Rattle.turn_inversion.proofs.VolumeLaws.{row_within, row_volume_is}
 use borrow.Author.Rules.{rules}
 use Rattle.turn_inversion.proofs.volume.row_volume.Statement.{statement}
 use Rattle.turn_inversion.proofs.volume.row_volume.Tie as tie
@@ -25,7 +25,7 @@ shared-slice-read-v : tie.Need-shared-slice-read-v
 shared-slice-read-v c = search rules
 
 mul-v-4 : tie.Need-overflow-mul-v-4
-mul-v-4 c = omega (arith, v-room c.before.before.before.before.before.requires)
+mul-v-4 c = omega (arith, v_room c.before.before.before.before.before.requires)
 
 vertices-requires : tie.Need-vertices-requires
 vertices-requires c κs = search rules
@@ -37,7 +37,7 @@ mul-vend : tie.Need-overflow-mul-vend
 mul-vend c = search rules
 
 add-vend : tie.Need-overflow-add-vend
-add-vend c = omega (arith, v-room c.before.before.before.before.before.before.requires, c.vertices.ensures)
+add-vend c = omega (arith, v_room c.before.before.before.before.before.before.requires, c.vertices.ensures)
 
 mul-i : tie.Need-overflow-mul-i
 mul-i c = search rules
@@ -64,10 +64,10 @@ cast-iend : tie.Need-overflow-cast-iend
 cast-iend c = search rules
 
 add-iend : tie.Need-overflow-add-iend
-add-iend c = omega (arith, i-room c.before.before.before.before.before.before.before.before.requires, c.indices.ensures)
+add-iend c = omega (arith, i_room c.before.before.before.before.before.before.before.before.requires, c.indices.ensures)
 
 mul-patch-volume : tie.Need-overflow-mul-patch-volume
-mul-patch-volume c = omega (arith, v-room c.before.before.before.before.before.before.before.before.requires, c.before.before.vertices.ensures)
+mul-patch-volume c = omega (arith, v_room c.before.before.before.before.before.before.before.before.requires, c.before.before.vertices.ensures)
 
 sub-patch-volume : tie.Need-overflow-sub-patch-volume
 sub-patch-volume c = search rules
@@ -76,10 +76,10 @@ part-patch-volume-start : tie.Need-slice-bounds-patch-volume-start
 part-patch-volume-start c = search rules
 
 part-patch-volume-end : tie.Need-slice-bounds-patch-volume-end
-part-patch-volume-end c = omega (arith, v-room c.before.before.before.before.before.before.before.before.requires, c.before.before.vertices.ensures)
+part-patch-volume-end c = omega (arith, v_room c.before.before.before.before.before.before.before.before.requires, c.before.before.vertices.ensures)
 
 mul-patch-volume-2 : tie.Need-overflow-mul-patch-volume-2
-mul-patch-volume-2 c = omega (arith, i-room c.before.before.before.before.before.before.before.before.before.requires, c.before.indices.ensures)
+mul-patch-volume-2 c = omega (arith, i_room c.before.before.before.before.before.before.before.before.before.requires, c.before.indices.ensures)
 
 sub-patch-volume-2 : tie.Need-overflow-sub-patch-volume-2
 sub-patch-volume-2 c = search rules
@@ -88,7 +88,7 @@ part-patch-volume-start-2 : tie.Need-slice-bounds-patch-volume-start-2
 part-patch-volume-start-2 c = search rules
 
 part-patch-volume-end-2 : tie.Need-slice-bounds-patch-volume-end-2
-part-patch-volume-end-2 c = omega (arith, i-room c.before.before.before.before.before.before.before.before.before.requires, c.before.indices.ensures)
+part-patch-volume-end-2 c = omega (arith, i_room c.before.before.before.before.before.before.before.before.before.requires, c.before.indices.ensures)
 
 patch-volume-requires : tie.Need-patch-volume-requires
 patch-volume-requires c κs =
@@ -98,7 +98,7 @@ patch-volume-requires c κs =
 returns : tie.Need-returns
 returns c =
     let i = c.before.before.before in
-    row-volume-is c.before.before.before.before.before.before.before.before.before.before.before.requires i.before.before.vertices.ensures i.indices.ensures _ c.patch-volume.ensures
+    row_volume_is c.before.before.before.before.before.before.before.before.before.before.before.requires i.before.before.vertices.ensures i.indices.ensures _ c.patch-volume.ensures
 
 pub row-volume-spec : {M : Type 1} → statement M
 row-volume-spec =

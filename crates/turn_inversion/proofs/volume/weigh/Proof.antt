@@ -1,20 +1,20 @@
 -- `weigh` meets its contract: after k rows of the queue their weights are added. Assumes nothing.
 use Prim.Native.Nat.{◌-◌}
 use native.Mathlib.Omega.{arith}
-use Rattle.turn_walk.specs.Group.{queueOf, coloursOf}
-use Rattle.turn_inversion.proofs.VolumeLaws.{queue-row, queue-here, queue_long, Weighing, weighing-none, weighing-more, weighing-all}
+use Rattle.turn_walk.specs.Group.{queue_of, colours_of}
+use Rattle.turn_inversion.proofs.VolumeLaws.{queue_row, queue_here, queue_long, Weighing, weighing_none, weighing_more, weighing_all}
 use borrow.Author.Rules.{rules}
 use Rattle.turn_inversion.proofs.volume.weigh.Statement.{statement}
 use Rattle.turn_inversion.proofs.volume.weigh.Tie as tie
 
 abbrev invariant-loop : tie.invariant-loop
-invariant-loop rows w n m t c sum₀ k₀ sum k = Weighing rows (coloursOf n m w) (queueOf n m t w) c k sum
+invariant-loop rows w n m t c sum₀ k₀ sum k = Weighing rows (colours_of n m w) (queue_of n m t w) c k sum
 
 abbrev decreases-loop : tie.decreases-loop
 decreases-loop rows w n m t c sum₀ k₀ sum k = t - k
 
 loop-holds : tie.Need-loop-init invariant-loop decreases-loop
-loop-holds c = weighing-none _ _ _ _
+loop-holds c = weighing_none _ _ _ _
 
 queued-requires : tie.Need-queued-requires invariant-loop decreases-loop
 queued-requires c κs =
@@ -25,7 +25,7 @@ weight-requires : tie.Need-weight-requires invariant-loop decreases-loop
 weight-requires c κs =
     let l = c.before in
     let p = l.before.before.before.before.requires in
-    record { count = p.count; room = p.room; row = omega (arith, c.queued.ensures, queue-row p.queue p.room l.loop-test.true) }
+    record { count = p.count; room = p.room; row = omega (arith, c.queued.ensures, queue_row p.queue p.room l.loop-test.true) }
 
 cast-sum : tie.Need-overflow-cast-sum invariant-loop decreases-loop
 cast-sum c = search rules
@@ -47,12 +47,12 @@ loop-again c =
     let q = c.before in
     let l = q.before in
     let p = l.before.before.before.before.requires in
-    weighing-more l.before.loop.invariant (queue-here p.queue p.room l.loop-test.true) q.queued.ensures c.weight.ensures (omega arith)
+    weighing_more l.before.loop.invariant (queue_here p.queue p.room l.loop-test.true) q.queued.ensures c.weight.ensures (omega arith)
 
 returns : tie.Need-returns invariant-loop decreases-loop
 returns c =
     let s = c.before.before.before.before.args in
-    weighing-all c.before.loop.invariant (queue_long s.n s.m s.t s.w.now c.loop-test.false)
+    weighing_all c.before.loop.invariant (queue_long s.n s.m s.t s.w.now c.loop-test.false)
 
 pub weigh-spec : {M : Type 1} → statement M
 weigh-spec =

@@ -1,5 +1,5 @@
 -- `join_shells` meets its contract. Assumes nothing.
-use Rattle.turn_pairs.proofs.ShellLaws.{shells-joined}
+use Rattle.turn_pairs.proofs.ShellLaws.{shells_joined}
 use borrow.Author.Rules.{rules}
 use Rattle.turn_pairs.proofs.shells.join_shells.Statement.{statement}
 use Rattle.turn_pairs.proofs.shells.join_shells.Tie as tie
@@ -17,7 +17,7 @@ same_length : tie.Need-same-length
 same_length c = search rules
 
 returns : tie.Need-returns
-returns c = search shells-joined
+returns c = search shells_joined
 
 pub join-shells-spec : {M : Type 1} → statement M
 join-shells-spec =

@@ -1,6 +1,6 @@
 -- `list_shells` meets its contract: the first k numbers are written. Assumes nothing.
 use Prim.Native.Nat.{◌-◌}
-use Rattle.turn_pairs.proofs.ShellLaws.{Listing, listing_none, listing-more, listing-all}
+use Rattle.turn_pairs.proofs.ShellLaws.{Listing, listing_none, listing_more, listing_all}
 use borrow.Author.Rules.{rules}
 use Rattle.turn_pairs.proofs.shells.list_shells.Statement.{statement}
 use Rattle.turn_pairs.proofs.shells.list_shells.Tie as tie
@@ -39,13 +39,13 @@ loop-less : tie.Need-loop-smaller invariant-loop decreases-loop
 loop-less c = search rules
 
 loop-again : tie.Need-loop-preserved invariant-loop decreases-loop
-loop-again c = search listing-more
+loop-again c = search listing_more
 
 same_length : tie.Need-same-length invariant-loop decreases-loop
 same_length c = search rules
 
 returns : tie.Need-returns invariant-loop decreases-loop
-returns c = search listing-all
+returns c = search listing_all
 
 pub list-shells-spec : {M : Type 1} → statement M
 list-shells-spec =

@@ -1,5 +1,5 @@
 -- `lay_uses` meets its contract. Assumes nothing.
-use Rattle.turn_pairs.proofs.LaidLaws.{joinable, users-found, laid}
+use Rattle.turn_pairs.proofs.LaidLaws.{joinable, users_found, laid}
 use borrow.Author.Rules.{rules}
 use Rattle.turn_pairs.proofs.uses.lay_uses.Statement.{statement}
 use Rattle.turn_pairs.proofs.uses.lay_uses.Tie as tie
@@ -23,7 +23,7 @@ add-list-uses-2 : tie.Need-overflow-add-list-uses-2
 add-list-uses-2 c = search rules
 
 list-uses-requires : tie.Need-list-uses-requires
-list-uses-requires c κs = search users-found
+list-uses-requires c κs = search users_found
 
 same_length : tie.Need-same-length
 same_length c = search rules

@@ -1,6 +1,6 @@
 -- `negate` meets its contract. Assumes nothing.
 use Prim.Native.Nat.{◌-◌}
-use Rattle.turn_reversal.proofs.ReverseLaws.{Negating, negating-none, negating-more, negating-all}
+use Rattle.turn_reversal.proofs.ReverseLaws.{Negating, negating_none, negating_more, negating_all}
 use borrow.Author.Rules.{rules}
 use Rattle.turn_reversal.proofs.reverse.negate.Statement.{statement}
 use Rattle.turn_reversal.proofs.reverse.negate.Tie as tie
@@ -12,7 +12,7 @@ abbrev decreases-loop : tie.decreases-loop
 decreases-loop normals₀ from to k₀ normals k = to - k
 
 loop-holds : tie.Need-loop-init invariant-loop decreases-loop
-loop-holds c = search negating-none
+loop-holds c = search negating_none
 
 mul-normals : tie.Need-overflow-mul-normals invariant-loop decreases-loop
 mul-normals c = search rules
@@ -33,13 +33,13 @@ loop-less : tie.Need-loop-smaller invariant-loop decreases-loop
 loop-less c = search rules
 
 loop-again : tie.Need-loop-preserved invariant-loop decreases-loop
-loop-again c = search negating-more
+loop-again c = search negating_more
 
 same_length : tie.Need-same-length invariant-loop decreases-loop
 same_length c = search rules
 
 returns : tie.Need-returns invariant-loop decreases-loop
-returns c = search negating-all
+returns c = search negating_all
 
 pub negate-spec : {M : Type 1} → statement M
 negate-spec =

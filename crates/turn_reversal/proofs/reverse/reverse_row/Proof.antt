@@ -1,5 +1,5 @@
 -- `reverse_row` meets its contract. Assumes nothing.
-use Rattle.turn_reversal.proofs.ReverseLaws.{row_kept, row-turned}
+use Rattle.turn_reversal.proofs.ReverseLaws.{row_kept, row_turned}
 use borrow.Author.Rules.{rules}
 use Rattle.turn_reversal.proofs.reverse.reverse_row.Statement.{statement}
 use Rattle.turn_reversal.proofs.reverse.reverse_row.Tie as tie
@@ -17,7 +17,7 @@ same-length-2 : tie.Need-same-length-2
 same-length-2 c = search rules
 
 returns : tie.Need-returns
-returns c = search row-turned
+returns c = search row_turned
 
 returns-2 : tie.Need-returns-2
 returns-2 c = search row_kept

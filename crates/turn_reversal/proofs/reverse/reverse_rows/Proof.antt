@@ -2,7 +2,7 @@
 use mathlib.Core.Path.{refl}
 use Prim.Native.Nat.{◌-◌}
 use native.Mathlib.Omega.{arith}
-use Rattle.turn_reversal.proofs.ReverseRows.{Reversing, reversing-none, reversing-more, reversing-all, row-stretches, normals-end, indices-end}
+use Rattle.turn_reversal.proofs.ReverseRows.{Reversing, reversing_none, reversing_more, reversing_all, row_stretches, normals_end, indices_end}
 use borrow.Author.Rules.{rules}
 use Rattle.turn_reversal.proofs.reverse.reverse_rows.Statement.{statement}
 use Rattle.turn_reversal.proofs.reverse.reverse_rows.Tie as tie
@@ -17,7 +17,7 @@ row-count-requires : tie.Need-row-count-requires invariant-loop decreases-loop
 row-count-requires c κs = search rules
 
 loop-holds : tie.Need-loop-init invariant-loop decreases-loop
-loop-holds c = reversing-none _ _ _ _ _
+loop-holds c = reversing_none _ _ _ _ _
 
 vertices-requires : tie.Need-vertices-requires invariant-loop decreases-loop
 vertices-requires c κs = search rules
@@ -33,7 +33,7 @@ add-vend c =
     let l = c.before in
     let q = l.before in
     let p = q.before.before.before.before.before.before.requires in
-    omega (arith, normals-end p q.loop.invariant (omega (arith, l.loop-test.true, q.before.row_count.ensures)), c.vertices.ensures)
+    omega (arith, normals_end p q.loop.invariant (omega (arith, l.loop-test.true, q.before.row_count.ensures)), c.vertices.ensures)
 
 indices-requires : tie.Need-indices-requires invariant-loop decreases-loop
 indices-requires c κs = search rules
@@ -46,7 +46,7 @@ add-iend c =
     let l = c.before.before in
     let q = l.before in
     let p = q.before.before.before.before.before.before.requires in
-    omega (arith, indices-end p q.loop.invariant (omega (arith, l.loop-test.true, q.before.row_count.ensures)), c.indices.ensures)
+    omega (arith, indices_end p q.loop.invariant (omega (arith, l.loop-test.true, q.before.row_count.ensures)), c.indices.ensures)
 
 add-colour : tie.Need-overflow-add-colour invariant-loop decreases-loop
 add-colour c = search rules
@@ -63,7 +63,7 @@ reverse-row-requires c κs =
     let l = i.before.before in
     let q = l.before in
     let p = q.before.before.before.before.before.before.requires in
-    row-stretches p q.loop.invariant (omega (arith, l.loop-test.true, q.before.row_count.ensures)) (omega (arith, i.before.vertices.ensures)) (omega (arith, i.indices.ensures))
+    row_stretches p q.loop.invariant (omega (arith, l.loop-test.true, q.before.row_count.ensures)) (omega (arith, i.before.vertices.ensures)) (omega (arith, i.indices.ensures))
 
 add_turned : tie.Need-overflow-add-turned invariant-loop decreases-loop
 add_turned c =
@@ -72,7 +72,7 @@ add_turned c =
     let l = i.before.before in
     let q = l.before in
     let p = q.before.before.before.before.before.before.requires in
-    let n = reversing-more p q.loop.invariant (omega (arith, l.loop-test.true, q.before.row_count.ensures)) (omega (arith, i.before.vertices.ensures)) (omega (arith, i.indices.ensures)) refl t.reverse-row.ensures in
+    let n = reversing_more p q.loop.invariant (omega (arith, l.loop-test.true, q.before.row_count.ensures)) (omega (arith, i.before.vertices.ensures)) (omega (arith, i.indices.ensures)) refl t.reverse-row.ensures in
     omega (arith, n.few, n.low, p.rows.few)
 
 add-k : tie.Need-overflow-add-k invariant-loop decreases-loop
@@ -88,7 +88,7 @@ loop-again c =
     let l = i.before.before in
     let q = l.before in
     let p = q.before.before.before.before.before.before.requires in
-    reversing-more p q.loop.invariant (omega (arith, l.loop-test.true, q.before.row_count.ensures)) (omega (arith, i.before.vertices.ensures)) (omega (arith, i.indices.ensures)) refl t.reverse-row.ensures
+    reversing_more p q.loop.invariant (omega (arith, l.loop-test.true, q.before.row_count.ensures)) (omega (arith, i.before.vertices.ensures)) (omega (arith, i.indices.ensures)) refl t.reverse-row.ensures
 
 same_length : tie.Need-same-length invariant-loop decreases-loop
 same_length c = search rules
@@ -97,7 +97,7 @@ same-length-2 : tie.Need-same-length-2 invariant-loop decreases-loop
 same-length-2 c = search rules
 
 returns : tie.Need-returns invariant-loop decreases-loop
-returns c = reversing-all c.before.before.before.before.before.before.before.requires c.before.loop.invariant (omega (arith, c.loop-test.false, c.before.before.row_count.ensures))
+returns c = reversing_all c.before.before.before.before.before.before.before.requires c.before.loop.invariant (omega (arith, c.loop-test.false, c.before.before.row_count.ensures))
 
 pub reverse-rows-spec : {M : Type 1} → statement M
 reverse-rows-spec =

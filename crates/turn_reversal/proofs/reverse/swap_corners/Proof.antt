@@ -2,7 +2,7 @@
 use Prim.Native.Nat.{◌-◌}
 use native.Mathlib.Omega.{arith}
 use lib.ListN.{length-set}
-use Rattle.turn_reversal.proofs.ReverseLaws.{Swapping, swapping-none, swapping-more, swapping-all}
+use Rattle.turn_reversal.proofs.ReverseLaws.{Swapping, swapping_none, swapping_more, swapping_all}
 use borrow.Author.Rules.{rules}
 use Rattle.turn_reversal.proofs.reverse.swap_corners.Statement.{statement}
 use Rattle.turn_reversal.proofs.reverse.swap_corners.Tie as tie
@@ -14,7 +14,7 @@ abbrev decreases-loop : tie.decreases-loop
 decreases-loop indices₀ from to k₀ indices k = to - k
 
 loop-holds : tie.Need-loop-init invariant-loop decreases-loop
-loop-holds c = search swapping-none
+loop-holds c = search swapping_none
 
 add-b : tie.Need-overflow-add-b invariant-loop decreases-loop
 add-b c = search rules
@@ -59,13 +59,13 @@ loop-less : tie.Need-loop-smaller invariant-loop decreases-loop
 loop-less c = search rules
 
 loop-again : tie.Need-loop-preserved invariant-loop decreases-loop
-loop-again c = search swapping-more
+loop-again c = search swapping_more
 
 same_length : tie.Need-same-length invariant-loop decreases-loop
 same_length c = search rules
 
 returns : tie.Need-returns invariant-loop decreases-loop
-returns c = search swapping-all
+returns c = search swapping_all
 
 pub swap-corners-spec : {M : Type 1} → statement M
 swap-corners-spec =
