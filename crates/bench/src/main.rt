@@ -1,12 +1,14 @@
 // Reads a bench sheet from standard input and prints the finished mesh and its counts, or only the refusal.
+#![tactic(auto)]
 
 ghost use Rattle.std.specs.Prelude.{◌≡◌, ◌≤◌, length};
 ghost use Rattle.sheet_line_order.specs.Limits.{bench_limits};
 ghost use Rattle.bench_feed.specs.Feeding.{Answered};
 
 use bench_run::finish_input;
-use libc::STDOUT_FILENO;
 use sheet_line_order::Limits;
+use std::io;
+use std::io::{Read, Write};
 
 // What the program takes.
 fn limits() -> Limits
@@ -22,13 +24,14 @@ fn limits() -> Limits
     }
 }
 
-// Finishes the sheet on standard input in arrays for a line of it, for what it says, for its body, for the stitched body and for the mesh, and in a work area;
+// Finishes the sheet of an input in arrays for a line of it, for what it says, for its body, for the stitched body and for the mesh, and in a work area;
 // answers how many bytes of `out` are what the program prints.
-fn finish(out: &mut [u8]) -> usize
+fn finish<R: Read>(input: &mut R, out: &mut [u8]) -> usize
     ensures answered { Answered bench_limits out.old out.new result }
     ensures upper_bound { result ≤ length out.new }
 {
     finish_input(
+        input,
         limits(),
         &mut [0u8; 108],
         &mut [0u32; 96],
@@ -54,9 +57,9 @@ fn finish(out: &mut [u8]) -> usize
     )
 }
 
-fn main() {
+fn main(rt: HostRuntime) -> io::Result<()> {
     // an answer has at most 21,928 bytes
     let mut out = [0u8; 21928];
-    let n = finish(&mut out);
-    io::write_all(STDOUT_FILENO, &out[..n]);
+    let n = finish(&mut rt.reader(), &mut out);
+    io::writer(&rt).write_all(&out[..n])
 }

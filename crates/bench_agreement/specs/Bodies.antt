@@ -1,6 +1,6 @@
 -- The work area of a program, which every body with room has. Assumes nothing.
-use Rattle.std.specs.Prelude.{List, [], ◌∷◌, ◌++◌, ◌≡◌, refl, ℕ, zero, suc, ◌+◌, ◌*◌, ◌≤◌, length, drop, replicate, Float}
-use Rattle.std.proofs.Common.{sym, ◌∙◌, arith, length-append, length-drop}
+use Rattle.std.specs.Prelude.{List, ◌≡◌, ℕ, ◌+◌, ◌*◌, ◌≤◌, length, drop, replicate, Float}
+use Rattle.std.proofs.Common.{◌∙◌, arith, length-append, length-drop}
 use Rattle.std.proofs.lemmas.List.{length-replicate}
 use Rattle.body_rows.specs.Body.{Row, all_indices, all_vertices, cleared, row_width, rows_of, work_needed}
 use Rattle.body_table_checks.specs.Tabled.{Tabled}

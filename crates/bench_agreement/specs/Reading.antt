@@ -2,41 +2,20 @@
 use Rattle.std.specs.Prelude.{Bool, ◌&&◌, ◌||◌, ◌≡◌, ℕ, ◌+◌, ◌-◌, ◌*◌, ◌≤◌, ltb, length, replicate}
 use Rattle.std.proofs.Math.Bool.{true, false, not, cond}
 use mathlib.Core.List.{List, [], ◌∷◌, ◌++◌}
-use Rattle.std.proofs.Math.Option.{Option, none, some}
+use Rattle.std.proofs.Math.Option.{none, some}
 use Rattle.std.proofs.Math.Path.{refl, ap}
 use Rattle.std.proofs.Common.{sym, ◌∙◌, arith}
-use borrow.Author.Tests.{eqb-true, le-ltb, leb-false, lt-leb, ltb-false}
+use borrow.Author.Tests.{le-ltb, leb-false, lt-leb, ltb-false}
 use Rattle.std.proofs.Math.Dec.{leb, eqb}
 use Rattle.std.proofs.lemmas.List.{replicate-append-replicate, set-append_left}
 use Rattle.lists.specs.Both.{or_left, or_right}
-use Rattle.body_rows.specs.Body.{first_failing, row_width}
+use Rattle.body_rows.specs.Body.{row_width}
 use Rattle.sheet_lines.specs.Forms.{Line, line_of}
 use Rattle.sheet_lines.specs.declared.Kind.{Kind}
 use Rattle.sheet_lines.specs.declared.Kind.TheVariants.{Box, Sag, NoDefault, Default, Material, Face, FaceBin, Vertex, Triangle, Fail, FailBin}
 use Rattle.sheet_line_order.specs.declared.Limits.{Limits}
 use Rattle.sheet_line_order.specs.Laws.{line_limits}
-use Rattle.sheet_line_order.specs.Reading.{
-  Patterns,
-  State,
-  at,
-  cut,
-  fails_with_zero,
-  finished,
-  in_order,
-  line_refusal,
-  order_of,
-  passes_limit,
-  patterns,
-  read_from,
-  read_line,
-  refuse,
-  sheet_of,
-  start,
-  take_up,
-  with_form,
-  with_line,
-}
-use Rattle.sheet_line_order.specs.Refusals.{passed}
+use Rattle.sheet_line_order.specs.Reading.{Patterns, State, at, cut, finished, order_of, passes_limit, patterns, read_from, read_line, refuse, sheet_of, start, take_up, with_form, with_line}
 use Rattle.sheet_reader_state.specs.Kept.{Sized, sized_line, sized_start}
 use Rattle.bench_agreement.specs.Within.{Within}
 
@@ -65,7 +44,7 @@ end_stays : (s : State) (rest : List ℕ) → s.refusal ≡ 52 → (finished s r
 unfolding finished
 end_stays s rest e = ap (λ (n : ℕ). (cond (eqb n 0 && not (eqb (length rest) 0 && leb 3 s.place)) (refuse 51 s) s).refusal) e ∙ e
 
-read_stays : (s : State) (ls : List (List ℕ)) → s.refusal ≡ 52 → (read_from s ls).refusal ≡ 52
+pub read_stays : (s : State) (ls : List (List ℕ)) → s.refusal ≡ 52 → (read_from s ls).refusal ≡ 52
 unfolding read_from
 read_stays s [] e = e
 read_stays s (rest ∷ []) e = end_stays s rest e
@@ -124,7 +103,7 @@ sheet_limits limits text = read_limits (start limits) (cut text)
 -- ---- line by line
 
 -- the refusal by its two tests
-abbrev by_tests : Bool → Bool → ℕ
+abbrev pub by_tests : Bool → Bool → ℕ
 by_tests bad limit = cond bad 51 (cond limit 52 0)
 
 module _ (small large : Limits) (w : Within small large) (n : ℕ) where
@@ -134,7 +113,7 @@ module _ (small large : Limits) (w : Within small large) (n : ℕ) where
       let b = leb-false (row_width * small.rows) long (or_right (ltb small.face face) (leb (row_width * small.rows) long) e) in
       rw (le-ltb large.face face (omega (arith, w.face)), lt-leb (row_width * large.rows) long (omega (arith, w.rows)))
 
-  limit_same : (k : Kind) (ns : List ℕ) (x : Patterns) → passes_limit small k ns x ≡ false → passes_limit large k ns (padded n x) ≡ false
+  pub limit_same : (k : Kind) (ns : List ℕ) (x : Patterns) → passes_limit small k ns x ≡ false → passes_limit large k ns (padded n x) ≡ false
   unfolding passes_limit padded
   limit_same Box ns x e = refl
   limit_same Sag ns x e = refl
@@ -165,53 +144,15 @@ module _ (small large : Limits) (w : Within small large) (n : ℕ) where
   line_padded FailBin ns x m e = refl
 
   module _ (s : State) (el : s.limits ≡ small) (em : length s.sheet.materials ≡ small.face + 1) where
-    within_small : (l : Line) → passes_limit s.limits l.kind l.numbers s.sheet ≡ false → passes_limit small l.kind l.numbers s.sheet ≡ false
+    pub within_small : (l : Line) → passes_limit s.limits l.kind l.numbers s.sheet ≡ false → passes_limit small l.kind l.numbers s.sheet ≡ false
     within_small l e = ap (λ (m : Limits). passes_limit m l.kind l.numbers s.sheet) (sym el) ∙ e
 
-    refusal_same : (l : Line) → (line_refusal l s ≡ 52 → ⊥) → line_refusal l (widened large n s) ≡ line_refusal l s
-    unfolding line_refusal first_failing widened
-    refusal_same l h =
-        go (not (in_order s.place l.kind) || fails_with_zero l.kind l.numbers) (passes_limit s.limits l.kind l.numbers s.sheet)
-        (passes_limit large l.kind l.numbers (padded n s.sheet))
-        (λ e. limit_same l.kind l.numbers s.sheet (within_small l e)) h
-      where
-        go : (bad a b : Bool) → (a ≡ false → b ≡ false) → (by_tests bad a ≡ 52 → ⊥) → by_tests bad b ≡ by_tests bad a
-        go true a b f k = refl
-        go false true b f k = absurd (k refl)
-        go false false b f k = ap (by_tests false) (f refl)
-
-    take_same : (l : Line) → passes_limit s.limits l.kind l.numbers s.sheet ≡ false → take_up (widened large n s) l ≡ widened large n (take_up s l)
+    pub take_same : (l : Line) → passes_limit s.limits l.kind l.numbers s.sheet ≡ false → take_up (widened large n s) l ≡ widened large n (take_up s l)
     unfolding take_up widened
     take_same l e =
         ap (λ (x : Patterns). record { limits = large; refusal = 0; place = (order_of l.kind).then; sheet = x }) (line_padded l.kind l.numbers s.sheet em (within_small l e))
 
-    form_same : (l : Line) → ((with_form s l).refusal ≡ 52 → ⊥) → with_form (widened large n s) l ≡ widened large n (with_form s l)
-    unfolding with_form refuse widened
-    form_same l h =
-        ap (λ (k : ℕ). elim (eqb k 0) as (λ x. State) [ true ↦ take_up (widened large n s) l | false ↦ refuse k (widened large n s) ])
-        (refusal_same l (λ e. h (ap (λ (k : ℕ). (elim (eqb k 0) as (λ x. State) [ true ↦ take_up s l | false ↦ refuse k s ]).refusal) e)))
-        ∙ go (eqb (line_refusal l s) 0) refl
-      where
-        go : (b : Bool) → eqb (line_refusal l s) 0 ≡ b → elim b as (λ x. State) [ true ↦ take_up (widened large n s) l | false ↦ refuse (line_refusal l s) (widened large n s) ]
-            ≡ widened large n (elim b as (λ x. State) [ true ↦ take_up s l | false ↦ refuse (line_refusal l s) s ])
-        go true q = take_same l (passed l s (eqb-true (line_refusal l s) 0 q)).limit
-        go false q = refl
-
-    line_same : (xs : List ℕ) → ((read_line s xs).refusal ≡ 52 → ⊥) → read_line (widened large n s) xs ≡ widened large n (read_line s xs)
-    unfolding read_line refuse widened
-    line_same xs h = go (eqb s.refusal 0) (line_of xs) h
-      where
-        go : (b : Bool) (o : Option Line)
-            → ((elim b as (λ x. State) [ true ↦ elim o as (λ x. State) [ none ↦ refuse 51 s | some l ↦ with_form s l ] | false ↦ s ]).refusal ≡ 52 → ⊥)
-            → elim b as (λ x. State) [
-              | true ↦ elim o as (λ x. State) [ none ↦ refuse 51 (widened large n s) | some l ↦ with_form (widened large n s) l ]
-              | false ↦ widened large n s
-            ] ≡ widened large n (elim b as (λ x. State) [ true ↦ elim o as (λ x. State) [ none ↦ refuse 51 s | some l ↦ with_form s l ] | false ↦ s ])
-        go true none k = refl
-        go true (some l) k = form_same l k
-        go false o k = refl
-
-  end_same : (s : State) (rest : List ℕ) → finished (widened large n s) rest ≡ widened large n (finished s rest)
+  pub end_same : (s : State) (rest : List ℕ) → finished (widened large n s) rest ≡ widened large n (finished s rest)
   unfolding finished refuse widened
   end_same s rest = go (eqb s.refusal 0 && not (eqb (length rest) 0 && leb 3 s.place))
     where
@@ -219,31 +160,15 @@ module _ (small large : Limits) (w : Within small large) (n : ℕ) where
       go true = refl
       go false = refl
 
-  read_same : (s : State) (ls : List (List ℕ)) → s.limits ≡ small → Sized s → ((read_from s ls).refusal ≡ 52 → ⊥) → read_from (widened large n s) ls ≡ widened large n (read_from s ls)
-  unfolding read_from
-  read_same s [] e v h = refl
-  read_same s (rest ∷ []) e v h = end_same s rest
-  read_same s (l ∷ m ∷ ls) e v h =
-      let face = ap (λ (k : Limits). k.face) e in
-      ap (λ (t : State). read_from t (m ∷ ls)) (line_same s e (omega (arith, v.materials)) l (λ q. h (read_stays (read_line s l) (m ∷ ls) q)))
-      ∙ read_same (read_line s l) (m ∷ ls) (line_limits s l ∙ e) (sized_line s v l) h
-
 -- ---- the text
 
 -- how many faces more the larger program takes
 abbrev pub more_faces : Limits → Limits → ℕ
 more_faces small large = large.face - small.face
 
-start_same : (small large : Limits) → Within small large → start large ≡ widened large (more_faces small large) (start small)
+pub start_same : (small large : Limits) → Within small large → start large ≡ widened large (more_faces small large) (start small)
 unfolding start widened padded
 start_same small large w =
     let e : small.face + 1 + more_faces small large ≡ large.face + 1 = omega (arith, w.face) in
     ap (λ (ms : List ℕ). record { limits = large; refusal = 0; place = 0; sheet = patterns (replicate 6 0) 0 0 ms [] [] [] [] })
     (sym (replicate-append-replicate (small.face + 1) (more_faces small large) 0 ∙ ap (λ (k : ℕ). replicate k 0) e))
-
--- A text that passes no limit of the smaller program says the same to both, but that the larger has more faces.
-pub sheet_same : (small large : Limits) → Within small large → (text : List ℕ) → ((sheet_of small text).refusal ≡ 52 → ⊥)
-    → sheet_of large text ≡ widened large (more_faces small large) (sheet_of small text)
-unfolding sheet_of start
-sheet_same small large w text h =
-    ap (λ (s : State). read_from s (cut text)) (start_same small large w) ∙ read_same small large w (more_faces small large) (start small) (cut text) refl (sized_start small) h

@@ -1,4 +1,5 @@
 // The last of the three calls, in lent slices, and what is printed of its answer.
+#![tactic(auto)]
 
 ghost use Rattle.std.specs.Prelude.{◌≡◌};
 ghost use Rattle.bench_call_texts.specs.Told.{Told};

@@ -1,4 +1,5 @@
 // The three calls in a row, in lent slices and one work area, and what is printed of them.
+#![tactic(auto)]
 
 ghost use Rattle.bench_call_texts.specs.Told.{Told};
 ghost use Rattle.bench_call_texts.specs.Texts.{TurnSaid, bytes_in, finished_text, mesh_in, stitch_in};

@@ -45,7 +45,7 @@ pub record Ended (f : Fed) (line : List ℕ) (r : Reader) : Type 0 where
   pub goes : (limits : Limits) (text table positions normals indices materials : List ℕ) → SoFar limits text f line table positions normals indices materials
       → answer_in (lent r table positions normals indices materials) ≡ program limits text
 
--- what the program of these limits is to print of some text was written; which one, no contract of C's read could say
+-- what the program of these limits is to print of some text was written; which one, no contract of a read could say
 pub record Answered (limits : Limits) (E W : List ℕ) (r : ℕ) : Type 0 where
   pub text : List ℕ
   pub told : Told (bytes_in (mesh_slices limits)) E (program limits text) W r

@@ -1,4 +1,5 @@
 // A text taken in byte by byte: a line feed has the line before it read.
+#![tactic(auto)]
 
 ghost use Rattle.std.specs.Prelude.{[], ◌∷◌};
 ghost use Rattle.bench_feed.specs.Feeding.{Ended, FedOn};
@@ -10,7 +11,7 @@ use sheet_reader_state::Reader;
 use slice_front::front_bytes;
 
 // The reader, and how many bytes of the line at hand stand in its buffer; a line that fills the buffer keeps only what has room.
-#[derive(Drop)]
+#[derive(Clone, Copy)]
 pub struct Fed {
     pub reader: Reader,
     pub length: usize,

@@ -1,4 +1,5 @@
 // A sheet that was read, finished: its body turned, stitched and assembled in lent slices, and what the program prints written into one.
+#![tactic(auto)]
 
 ghost use Rattle.std.specs.Prelude.{◌≡◌, ◌+◌, length, take};
 ghost use Rattle.sheet_reader_state.specs.Limits.{Limited};

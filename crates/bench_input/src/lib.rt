@@ -1,12 +1,13 @@
-// A text on standard input fed to the reader, to its end.
+// A text fed to the reader, from an input to its end.
+#![tactic(auto)]
 
 ghost use Rattle.bench_feed.specs.Feeding.{FedOn, FedSome, failed_read};
 
 use bench_feed::{Fed, feed};
-use libc::STDIN_FILENO;
+use std::io::{ErrorKind, Read};
 
 // What has been fed, and whether the input may go on.
-#[derive(Drop)]
+#[derive(Clone, Copy)]
 struct Step {
     fed: Fed,
     more: bool,
@@ -31,8 +32,9 @@ fn fail_read(
     )
 }
 
-// Reads a stretch of the input.
-fn read_some(
+// Reads a stretch of the input. A read that a signal interrupted feeds nothing, and the input goes on.
+fn read_some<R: Read>(
+    input: &mut R,
     f: Fed,
     line: &mut [u8],
     table: &mut [u32],
@@ -46,36 +48,42 @@ fn read_some(
         materials.new }
 {
     let mut buf = [0u8; 4096];
-    let got = libc::read(STDIN_FILENO, &mut buf);
-    if got < 0 {
-        let g = fail_read(f, line, table, positions, normals, indices, materials);
-        return Step {
-            fed: g,
-            more: false,
-        };
+    match input.read(&mut buf) {
+        Ok(count) => {
+            if count == 0 {
+                return Step {
+                    fed: f,
+                    more: false,
+                };
+            }
+            let g = feed(
+                f,
+                &buf[..count],
+                line,
+                table,
+                positions,
+                normals,
+                indices,
+                materials,
+            );
+            Step { fed: g, more: true }
+        }
+        Err(e) => {
+            if e.kind() == ErrorKind::Interrupted {
+                return Step { fed: f, more: true };
+            }
+            let g = fail_read(f, line, table, positions, normals, indices, materials);
+            Step {
+                fed: g,
+                more: false,
+            }
+        }
     }
-    let count = io::count(got, &buf);
-    if count == 0 {
-        return Step {
-            fed: f,
-            more: false,
-        };
-    }
-    let g = feed(
-        f,
-        &buf[..count],
-        line,
-        table,
-        positions,
-        normals,
-        indices,
-        materials,
-    );
-    Step { fed: g, more: true }
 }
 
 // Reads to the end of the input. The loop counts its turns down, from a number that no run uses up, since nothing says that the input ends.
-pub fn read_all(
+pub fn read_all<R: Read>(
+    input: &mut R,
     f: Fed,
     line: &mut [u8],
     table: &mut [u32],
@@ -92,7 +100,9 @@ pub fn read_all(
     let mut turns = u64::MAX;
     while turns > 0 {
         turns -= 1;
-        let step = read_some(g, line, table, positions, normals, indices, materials);
+        let step = read_some(
+            input, g, line, table, positions, normals, indices, materials,
+        );
         g = step.fed;
         if !step.more {
             return g;

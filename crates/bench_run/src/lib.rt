@@ -1,4 +1,5 @@
-// The text on standard input finished in lent slices, as a program of given limits finishes it.
+// The text of an input finished in lent slices, as a program of given limits finishes it.
+#![tactic(auto)]
 
 ghost use Rattle.std.specs.Prelude.{◌≡◌, ◌≤◌, length};
 ghost use Rattle.sheet_reader_state.specs.Slices.{lent};
@@ -12,6 +13,7 @@ use bench_input::read_all;
 use sheet_ends::begin;
 use sheet_line_order::Limits;
 use sheet_reader_state::Reader;
+use std::io::Read;
 
 // How many bytes a refusal of two digits has.
 pub const REFUSAL_BYTES: usize = 13;
@@ -25,8 +27,9 @@ pub fn with_limits(s: Reader, limits: Limits) -> Reader
     t
 }
 
-// Reads the text on standard input to its end.
-pub fn read_input(
+// Reads the text of an input to its end.
+pub fn read_input<R: Read>(
+    input: &mut R,
     limits: Limits,
     line: &mut [u8],
     table: &mut [u32],
@@ -40,6 +43,7 @@ pub fn read_input(
 {
     let s = begin(limits, materials);
     let fed = read_all(
+        input,
         Fed {
             reader: s,
             length: 0,
@@ -54,8 +58,9 @@ pub fn read_input(
     end_text(fed, line)
 }
 
-// Reads the sheet on standard input and finishes it; answers how many bytes of `out` are what the program prints of it.
-pub fn finish_input(
+// Reads the sheet of an input and finishes it; answers how many bytes of `out` are what the program prints of it.
+pub fn finish_input<R: Read>(
+    input: &mut R,
     limits: Limits,
     line: &mut [u8],
     table: &mut [u32],
@@ -86,7 +91,9 @@ pub fn finish_input(
         failures.old) work.old out.old out.new result }
     ensures upper_bound { result ≤ length out.new }
 {
-    let s = read_input(limits, line, table, positions, normals, indices, materials);
+    let s = read_input(
+        input, limits, line, table, positions, normals, indices, materials,
+    );
     answer_sheet(
         s,
         table,

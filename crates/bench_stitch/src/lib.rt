@@ -1,4 +1,5 @@
 // The second call, in lent slices, then the last, and what is printed of them.
+#![tactic(auto)]
 
 ghost use Rattle.bench_call_texts.specs.Told.{Told};
 ghost use Rattle.bench_call_texts.specs.Texts.{StitchSaid, bytes_in, mesh_in, stitch_in, stitched_text};

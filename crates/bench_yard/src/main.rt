@@ -1,5 +1,6 @@
 // Reads a bench sheet from standard input and prints the finished mesh and its counts, or only the refusal, as the bench program does, of bodies of real size.
 // Most bodies are finished in small arrays, since an array is cleared before it is used; those that need more are finished once more in large ones.
+#![tactic(auto)]
 
 ghost use Rattle.std.specs.Prelude.{◌≡◌, ◌≤◌, length};
 ghost use Rattle.sheet_line_order.specs.Limits.{yard_limits};
@@ -9,9 +10,10 @@ ghost use Rattle.bench_run.specs.Smaller.{bin_limits};
 
 use bench_finish::answer_sheet;
 use bench_run::{REFUSAL_BYTES, read_input, with_limits};
-use libc::STDOUT_FILENO;
 use sheet_line_order::Limits;
 use sheet_reader_state::Reader;
+use std::io;
+use std::io::Write;
 
 // What the program takes.
 fn limits() -> Limits
@@ -123,22 +125,23 @@ fn finish_large(
 }
 
 // Prints a sheet that was read, if small arrays are enough for it.
-fn print_bin(
+fn print_bin<W: Write>(
+    output: &mut W,
     s: Reader,
     table: &[u32],
     positions: &[u32],
     normals: &[u32],
     indices: &[u32],
     materials: &[u64],
-) -> bool {
+) -> io::Result<bool> {
     // an answer in the small arrays has at most 158,392 bytes
     let mut out = [0u8; 158392];
     let n = finish_bin(s, table, positions, normals, indices, materials, &mut out);
     if n <= REFUSAL_BYTES {
-        return false;
+        return Ok(false);
     }
-    io::write_all(STDOUT_FILENO, &out[..n]);
-    true
+    output.write_all(&out[..n])?;
+    Ok(true)
 }
 
 // Room for the longest answer. The array comes from a function of its own because its length is then known to the proof of its caller, which needn't count it.
@@ -146,27 +149,30 @@ fn room() -> [u8; 1197304] {
     [0u8; 1197304]
 }
 
-// Prints a sheet that was read.
-fn print_large(
+// Prints a sheet that was read. It stays a function of its own: compiled into `main`, its arrays would have the program touch their every page as it starts.
+#[inline(never)]
+fn print_large<W: Write>(
+    output: &mut W,
     s: Reader,
     table: &[u32],
     positions: &[u32],
     normals: &[u32],
     indices: &[u32],
     materials: &[u64],
-) {
+) -> io::Result<()> {
     let mut out = room();
     let n = finish_large(s, table, positions, normals, indices, materials, &mut out);
-    io::write_all(STDOUT_FILENO, &out[..n]);
+    output.write_all(&out[..n])
 }
 
-fn main() {
+fn main(rt: HostRuntime) -> io::Result<()> {
     let mut table = [0u32; 1536];
     let mut positions = [0u32; 12288];
     let mut normals = [0u32; 12288];
     let mut indices = [0u32; 12288];
     let mut materials = [0u64; 4096];
     let s = read_input(
+        &mut rt.reader(),
         limits(),
         &mut [0u8; 108],
         &mut table,
@@ -175,12 +181,12 @@ fn main() {
         &mut indices,
         &mut materials,
     );
-    // one call of `print_large` alone would be compiled into `main`, whose every page the program would touch as it starts
+    let out = &mut io::writer(&rt);
     if s.indices > BIN_INDICES {
-        print_large(s, &table, &positions, &normals, &indices, &materials);
-        return;
+        return print_large(out, s, &table, &positions, &normals, &indices, &materials);
     }
-    if !print_bin(s, &table, &positions, &normals, &indices, &materials) {
-        print_large(s, &table, &positions, &normals, &indices, &materials);
+    if !print_bin(out, s, &table, &positions, &normals, &indices, &materials)? {
+        print_large(out, s, &table, &positions, &normals, &indices, &materials)?;
     }
+    Ok(())
 }

@@ -13,7 +13,7 @@ use Rattle.turn_walk.specs.Walk.{coloured}
 use Rattle.turn_definition.specs.Reversal.{swapped, turned_patch, turned_body}
 use Rattle.turn_definition.specs.Groups.{Walks}
 use Rattle.turn_definition.specs.Orient.{AfterTurn, walks_of, turn_body, refuse_turn, turn_of}
-use Rattle.turn_definition.specs.Seen.{walks_seen}
+use Rattle.turn_definition.proofs.Seen.{walks_seen}
 use Rattle.body_bins.specs.Covered.{covered_table, cover_row, cover_patch, rows_covered, patches_covered, cleared_covered, flat_covered_normals, flat_covered_indices}
 
 -- ---- turn leaves every row as it was

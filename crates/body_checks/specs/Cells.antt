@@ -4,7 +4,8 @@ use Rattle.std.specs.Prelude.{◌≡◌, false, List, map, ℕ, Float}
 use Rattle.std.proofs.Common.{sym, ◌∙◌}
 use Rattle.lists.specs.Lists.{any}
 use Rattle.point_rules.specs.Points.{cell, nearest, clamps}
-use Rattle.point_rules.specs.Unclamped.{of_vertex, cell_nearest, nearest_cell}
+use Rattle.point_rules.proofs.Unclamped.{cell_nearest, nearest_cell}
+use Rattle.point_rules.specs.Unclamped.{of_vertex}
 use Rattle.body_rows.specs.Body.{rows_of, first_failing}
 use Rattle.body_rows.specs.Patches.{any_position}
 use Rattle.body_refusals.specs.BodyChecks.{before_work, body_checks, lone_table, lone_checks}

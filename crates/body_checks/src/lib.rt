@@ -1,4 +1,5 @@
 // The checks that every call begins with, those of a patch asked about alone, and the words that the checks count.
+#![tactic(auto)]
 
 mod checks;
 mod clearing;

@@ -1,4 +1,5 @@
 // Checks 21 to 24: the patches' index counts, indices, positions and normals.
+#![tactic(auto)]
 
 mod patch;
 

@@ -47,7 +47,3 @@ flat_length rows = Flat.table_length (map body_row rows) ∙ ap (λ (n : ℕ). r
 pub flat_row : (rows : List Row) (k : ℕ) → Flat.row_at (flat rows) k ≡ body_row (row_at rows k)
 unfolding Flat.row_at
 flat_row rows k = ap (λ (rs : List Body.Row). get_or rs k Flat.no_row) (flat_rows rows) ∙ get_or-map body_row rows k no_row
-
--- So the face read from the slice has the number that the flat table has.
-pub flat_face : (rows : List Row) (k : ℕ) → (Flat.row_at (flat rows) k).face ≡ (face_at rows k).0
-flat_face rows k = ap (λ (r : Body.Row). r.face) (flat_row rows k)

@@ -1,4 +1,5 @@
 // The face table lent as a slice of rows: how many there are, and one of them.
+#![tactic(auto)]
 
 ghost use Rattle.std.specs.Prelude.{◌≡◌, length};
 ghost use Rattle.body_row_structs.specs.FaceRows.{face_at, row_at};
@@ -7,7 +8,7 @@ use mesh_materials::FaceId;
 
 // A row of the face table; an outcome of 0 is a patch, 1 to 255 an upstream failure.
 #[repr(C)]
-#[derive(Drop)]
+#[derive(Clone, Copy)]
 pub struct Row {
     pub shell: u32,
     pub face: u32,

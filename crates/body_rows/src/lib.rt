@@ -1,4 +1,5 @@
 // A body: its flat table of rows, its sizes, and where each row's patch starts.
+#![tactic(auto)]
 
 mod bases;
 mod rows;

@@ -1,4 +1,5 @@
 // Checks 11 to 15: the table, its sizes, the lengths of the slices, and the bins.
+#![tactic(auto)]
 
 mod limits;
 mod table;

@@ -8,7 +8,7 @@ use mesh_definition::Assembled;
 // 0 for the refusal, how many vertices, indices, parts, ranges and failures were written, the mesh's edges, those used once and those used more than twice,
 // and 1 if it is closed; or the refusal's number and zeros.
 #[repr(C)]
-#[derive(Drop)]
+#[derive(Clone, Copy)]
 pub struct CadAssembled {
     pub refusal: u32,
     pub vertices: u32,

@@ -1,4 +1,5 @@
 // The structs that the library's calls for C answer with, the refusal first, and the answers as these structs.
+#![tactic(auto)]
 
 mod assembling;
 mod naming;

@@ -9,7 +9,7 @@ use point_key::key::KeyAnswer;
 
 // A cell, and 1 if it was clamped, else 0.
 #[repr(C)]
-#[derive(Drop)]
+#[derive(Clone, Copy)]
 pub struct CadCell {
     pub value: i64,
     pub clamped: u32,
@@ -17,7 +17,7 @@ pub struct CadCell {
 
 // A key, and 1 if one of its cells was clamped, else 0.
 #[repr(C)]
-#[derive(Drop)]
+#[derive(Clone, Copy)]
 pub struct CadKey {
     pub value: u64,
     pub clamped: u32,

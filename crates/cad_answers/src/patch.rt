@@ -9,7 +9,7 @@ use patch_geometry::{Aabb, Vec3};
 
 // A number: 0 for the refusal, or the refusal's number and 0.
 #[repr(C)]
-#[derive(Drop)]
+#[derive(Clone, Copy)]
 pub struct CadMeasured {
     pub refusal: u32,
     pub value: f64,
@@ -17,7 +17,7 @@ pub struct CadMeasured {
 
 // A verdict, 1 or 0: 0 for the refusal, or the refusal's number and 0.
 #[repr(C)]
-#[derive(Drop)]
+#[derive(Clone, Copy)]
 pub struct CadJudged {
     pub refusal: u32,
     pub verdict: u32,

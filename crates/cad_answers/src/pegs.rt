@@ -7,7 +7,7 @@ use peg_definition::PegAnswer;
 
 // 0 for the refusal and how many bins are nearest; or the refusal's number and 0.
 #[repr(C)]
-#[derive(Drop)]
+#[derive(Clone, Copy)]
 pub struct CadNearestBins {
     pub refusal: u32,
     pub bins: u32,

@@ -7,7 +7,7 @@ use plan_definition::{ListingAnswer, PlanAnswer};
 
 // 0 for the refusal and how many bins the plan lists; or the refusal's number and 0.
 #[repr(C)]
-#[derive(Drop)]
+#[derive(Clone, Copy)]
 pub struct CadPlanRead {
     pub refusal: u32,
     pub entries: u64,
@@ -15,7 +15,7 @@ pub struct CadPlanRead {
 
 // 0 for the refusal and how many bytes the listing's text has; or the refusal's number and 0.
 #[repr(C)]
-#[derive(Drop)]
+#[derive(Clone, Copy)]
 pub struct CadPlanWritten {
     pub refusal: u32,
     pub length: u64,

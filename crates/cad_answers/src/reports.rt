@@ -7,7 +7,7 @@ use report_definition::{Page, Reported};
 
 // 0 for the refusal and the page with the body added; or the refusal's number and zeros.
 #[repr(C)]
-#[derive(Drop)]
+#[derive(Clone, Copy)]
 pub struct CadReported {
     pub refusal: u32,
     pub bodies: u64,

@@ -7,7 +7,7 @@ use stitch_definition::Stitched;
 
 // 0 for the refusal, the vertices and indices of the stitched body and the points that split a triangle; or the refusal's number and zeros.
 #[repr(C)]
-#[derive(Drop)]
+#[derive(Clone, Copy)]
 pub struct CadStitched {
     pub refusal: u32,
     pub vertices: u32,

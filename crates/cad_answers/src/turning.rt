@@ -7,7 +7,7 @@ use turn_definition::Turned;
 
 // 0 for the refusal, the rows turned and how often a pair that contradicts colours was met; or the refusal's number, 0 and 0.
 #[repr(C)]
-#[derive(Drop)]
+#[derive(Clone, Copy)]
 pub struct CadTurned {
     pub refusal: u32,
     pub turned: u32,

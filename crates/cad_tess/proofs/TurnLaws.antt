@@ -16,7 +16,7 @@ use Rattle.turn_definition.specs.Orient.{AfterTurn, walks_of, turn_body, refuse_
 use Rattle.turn_definition.specs.Answers.{Left, left, answered}
 use Rattle.turn_volume_rule.specs.Exact.{F32s}
 use Rattle.turn_volume_rule.specs.VolumeRule.{KeepsVolume}
-use Rattle.turn_volume_rule.specs.Rule.{volume_kept}
+use Rattle.turn_volume_rule.proofs.Rule.{volume_kept}
 use Rattle.cad_answers.specs.declared.turning.CadTurned.{CadTurned}
 use Rattle.cad_answers.specs.Turning.{cad_turned, left_after_turn}
 use Rattle.cad_tess.proofs.Told.{either}

@@ -1,4 +1,5 @@
 // The library's calls for C: each is a proved function under its C name, its answer a struct with the refusal first.
+#![tactic(auto)]
 
 mod assembling;
 mod faces;

@@ -13,7 +13,7 @@ use Rattle.body_rows.specs.Patches.{before_none, indices_front, indices_next, ve
 use Rattle.edge_uses.specs.Edges.{Use, triangle_uses}
 use Rattle.edge_uses.specs.RowUses.{row_inside, uses_agree, names_any_row, runs_any, uses_count}
 use Rattle.edge_uses.specs.Named.{use_name, use_run, row_uses, row_numbers, RowReady, NameReady, BodyReady, NamesReady, RowsRoom}
-use Rattle.edge_uses.specs.UseLaws.{length_named}
+use Rattle.edge_uses.proofs.UseLaws.{length_named}
 
 -- ---- where the rows before row k end
 

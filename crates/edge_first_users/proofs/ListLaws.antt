@@ -10,9 +10,9 @@ use Rattle.lists.specs.Stretches.{front_less, stretch_kept, stretch_sets}
 use Rattle.body_rows.specs.Body.{rows_of}
 use Rattle.edge_uses.specs.Named.{use_run, use_row, row_uses, row_numbers, BodyReady, RowsRoom}
 use Rattle.edge_uses.specs.FirstUsers.{UsersReady, FirstUsers, uses_in}
-use Rattle.edge_uses.specs.UseLaws.{length_named}
+use Rattle.edge_uses.proofs.UseLaws.{length_named}
 use Rattle.edge_uses.specs.Area.{RunsListed, UsesListed}
-use Rattle.edge_uses.specs.AreaLaws.{uses_many, rows_there, runs_ready, runs_there}
+use Rattle.edge_uses.proofs.AreaLaws.{uses_many, rows_there, runs_ready, runs_there}
 
 module _ {table is W : List ℕ} {points shells at : ℕ} (r : UsersReady table is W points shells at) where
   numbers_long : length (row_numbers 0 (rows_of table)) ≡ length is

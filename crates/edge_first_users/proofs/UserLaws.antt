@@ -13,7 +13,7 @@ use Rattle.join_definition.specs.Join.{joined, JoinedAt}
 use Rattle.edge_uses.specs.Named.{use_name}
 use Rattle.edge_uses.specs.RowUses.{uses_all}
 use Rattle.edge_uses.specs.FirstUsers.{UsersReady, FirstUsers, uses_in}
-use Rattle.edge_uses.specs.UseLaws.{length_named}
+use Rattle.edge_uses.proofs.UseLaws.{length_named}
 
 module _ {table is W X : List ℕ} {points shells at : ℕ} (r : UsersReady table is W points shells at) (named : X ≡ sets W at (map use_name (uses_in table is W points shells))) where
   names_long : length (map use_name (uses_in table is W points shells)) ≡ length is

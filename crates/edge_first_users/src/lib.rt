@@ -1,4 +1,5 @@
 // The uses of edges of a body: each named for joining, with its row and the way it runs.
+#![tactic(auto)]
 
 mod bodies;
 mod users;

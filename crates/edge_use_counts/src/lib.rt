@@ -1,4 +1,5 @@
 // How many uses each edge has.
+#![tactic(auto)]
 
 mod counts;
 

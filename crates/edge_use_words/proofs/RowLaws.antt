@@ -9,7 +9,7 @@ use Rattle.lists.specs.Sets.{get_d_sets_below, sets_append, three_stored}
 use Rattle.body_rows.specs.Body.{triangles_of}
 use Rattle.edge_uses.specs.Edges.{Use, triangle_uses}
 use Rattle.edge_uses.specs.Named.{PointReady, Low, RowReady}
-use Rattle.edge_uses.specs.UseLaws.{length_named}
+use Rattle.edge_uses.proofs.UseLaws.{length_named}
 
 -- the uses of the triangles whose indices stand from k up to `to`
 abbrev pub uses_between : List ℕ → List ℕ → ℕ → ℕ → ℕ → List Use

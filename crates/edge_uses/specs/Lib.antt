@@ -6,9 +6,8 @@ pub mod NameLaws
 pub mod RowUses
 pub mod Counted
 pub mod FirstUsers
-pub mod UseLaws
 pub mod Seen
 pub mod Area
-pub mod AreaLaws
 pub mod Evaluation
 pub mod Claims
+pub mod UseLaws

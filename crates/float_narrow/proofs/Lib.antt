@@ -1,2 +1,3 @@
 -- The laws that the proofs of this crate cite, by subject.
 pub mod NarrowBits
+pub mod NarrowNear

@@ -15,7 +15,7 @@ use Rattle.float_rounding.specs.Near.{Cmp, cmp, closest_below, closest_tie, clos
 use Rattle.float_rounding.specs.Pattern.{round_bits}
 use Rattle.float_rounding.specs.Shift.{closest_zero, moved, n_lt, drop_many, drop_none}
 use Rattle.float_narrow.specs.Narrow.{narrow, narrow_bits}
-use Rattle.float_narrow.specs.Narrowing.{narrow_value}
+use Rattle.float_narrow.proofs.NarrowNear.{narrow_value}
 use Rattle.float_steps.specs.Patterns.{sign, field, tail, all, all_lt, all_is, all_from, value, infinite}
 
 -- ---- the nearest whole number to m / (2 * h) by one sum

@@ -1,4 +1,5 @@
 // Narrowing an f64 to an f32, on bit patterns and on floats.
+#![tactic(auto)]
 
 mod narrowing;
 

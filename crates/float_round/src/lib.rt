@@ -1,4 +1,5 @@
 // Rounding an f64 to the nearest whole number, on bit patterns and on floats.
+#![tactic(auto)]
 
 mod integral;
 

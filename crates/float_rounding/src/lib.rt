@@ -1,1 +1,2 @@
 // Rounding to a binary format, over its precision: the theory stands in specs/, and there is no code.
+#![tactic(auto)]

@@ -130,7 +130,7 @@ unfolding sub
 sub_keeps f h k = add_keeps f h (neg_turns k)
 
 -- ---- the quotient by a float above zero
-div_below : (f : Format) (x y c : Float) → T (above c) → T (lt (div f x c) (div f y c)) → T (lt x y)
+pub div_below : (f : Format) (x y c : Float) → T (above c) → T (lt (div f x c) (div f y c)) → T (lt x y)
 unfolding div lt
 div_below f x y nan p h = absurd p
 div_below f x y (inf true) p h = absurd p
@@ -155,7 +155,3 @@ div_below f (fin s m e) (inf false) (fin false i g) p h = tt
 div_below f (fin s m e) (fin t n d) (fin false i g) p h =
     passes (lt (fin s m e) (fin t n d)) (λ u.
     lt_le (div f (fin s m e) (fin false i g)) (div f (fin t n d) (fin false i g)) h (div_le f (fin t n d) (fin s m e) (fin false i g) tt tt p (le_of_not (fin s m e) (fin t n d) tt tt u)))
-
--- quotients by one float above zero
-pub div_keeps : (f : Format) {x y : Float} (c : Float) → T (above c) → NotBelow x y → NotBelow (div f x c) (div f y c)
-div_keeps f {x} {y} c p h = not_below (div f x c) (div f y c) (λ l. refuted h (div_below f x y c p l))

@@ -49,7 +49,7 @@ chosen false h k = k
 pub hull_ends : {X Y : Span} → Ends X → Ends Y → Ends (hull X Y)
 hull_ends {X} {Y} h k = record { low = chosen (lt X.low Y.low) h.low k.low; high = chosen (lt Y.high X.high) h.high k.high }
 
-end_number : {s : Bool} {x : Float} → End s x → T (number x)
+pub end_number : {s : Bool} {x : Float} → End s x → T (number x)
 end_number {s} {x} (at h) = finite_number x h.real
 end_number (none e) = subst (λ (z : Float). T (number z)) (sym e) tt
 
@@ -57,20 +57,6 @@ end_number (none e) = subst (λ (z : Float). T (number z)) (sym e) tt
 -- x lies in the span of x
 pub one_holds : (x : Float) → Holds (one x) x
 one_holds x = record { least = not_self x; most = not_self x }
-
--- what lies in the first of two spans lies in their hull
-pub hull_left : {X Y : Span} {x : Float} → T (number x) → Ends X → Ends Y → Holds X x → Holds (hull X Y) x
-hull_left {X} {Y} {x} n p q h =
-    holds_of_le (hull X Y) x
-    (le_trans (lower X.low Y.low) X.low x (lower_le X.low Y.low (end_number p.low) (end_number q.low)).0 (low_le X x (end_number p.low) n h))
-    (le_trans x X.high (higher X.high Y.high) (le_high X x (end_number p.high) n h) (le_higher X.high Y.high (end_number p.high) (end_number q.high)).0)
-
--- what lies in the second does too
-pub hull_right : {X Y : Span} {x : Float} → T (number x) → Ends X → Ends Y → Holds Y x → Holds (hull X Y) x
-hull_right {X} {Y} {x} n p q h =
-    holds_of_le (hull X Y) x
-    (le_trans (lower X.low Y.low) Y.low x (lower_le X.low Y.low (end_number p.low) (end_number q.low)).1 (low_le Y x (end_number q.low) n h))
-    (le_trans x Y.high (higher X.high Y.high) (le_high Y x (end_number q.high) n h) (le_higher X.high Y.high (end_number p.high) (end_number q.high)).1)
 
 -- ---- of a span that holds a finite float both ends are finite f32 values
 low_single : (l x : Float) → End false l → T (finite x) → NotBelow x l → Single l

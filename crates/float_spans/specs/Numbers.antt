@@ -9,7 +9,7 @@ use Rattle.std.specs.Float.Ieee.Scale.{finite}
 use Rattle.float_spans.specs.Rounds.{number, round_neg}
 use Rattle.float_spans.specs.Monotone.{nought, mul_le}
 use Rattle.float_spans.specs.Orders.{NotBelow, not_below, refuted, lt_le, le_of_not, below_of_le, le_of_below}
-use Rattle.float_spans.specs.Everywhere.{top, bottom, tail, nan_mul, passes, add_keeps, sub_keeps, div_keeps}
+use Rattle.float_spans.specs.Everywhere.{top, bottom, tail, nan_mul, passes, add_keeps, sub_keeps}
 use Rattle.float_spans.specs.Squares.{nought_le}
 
 -- x ≤ x' and y ≤ y' give x + y ≤ x' + y'
@@ -19,10 +19,6 @@ add_any f x x' y y' p q h k = le_of_below (add f x' y') (add f x y) q p (add_kee
 -- x ≤ x' and y' ≤ y give x - y ≤ x' - y'
 pub sub_any : (f : Format) (x x' y y' : Float) → T (number (sub f x y)) → T (number (sub f x' y')) → T (le x x') → T (le y' y) → T (le (sub f x y) (sub f x' y'))
 sub_any f x x' y y' p q h k = le_of_below (sub f x' y') (sub f x y) q p (sub_keeps f (below_of_le x' x h) (below_of_le y y' k))
-
--- x ≤ y gives x / c ≤ y / c for a c above zero
-pub div_any : (f : Format) (x y c : Float) → T (above c) → T (number (div f x c)) → T (number (div f y c)) → T (le x y) → T (le (div f x c) (div f y c))
-div_any f x y c a p q h = le_of_below (div f y c) (div f x c) q p (div_keeps f c a (below_of_le y x h))
 
 -- ---- products by a finite float that is not below zero
 scaled : (f : Format) (s : Bool) (c : Float) → T (positive c) → mul f (inf s) c ≡ inf s

@@ -9,7 +9,7 @@ use Rattle.float_spans.specs.declared.Span.{Span}
 use Rattle.float_spans.specs.Rounds.{number}
 use Rattle.float_spans.specs.Monotone.{nought, mul_le, mul_ge}
 use Rattle.float_spans.specs.Orders.{NotBelow, not_below, le_of_not, below_of_le, le_of_below, le_trans, le_of_lt, le_self, not_self, number_le}
-use Rattle.float_spans.specs.Everywhere.{finite_number, tail, nan_mul, add_keeps, sub_keeps, div_keeps}
+use Rattle.float_spans.specs.Everywhere.{finite_number, tail, nan_mul, add_keeps, sub_keeps}
 use Rattle.float_spans.specs.Squares.{nought_le, upper_square, square_above, square_under, finite_between}
 
 -- x lies in X: it is not below the low end and not above the high one. An end that is a NaN says nothing, and a NaN lies in every span.
@@ -84,10 +84,6 @@ plus_holds f h k = record { least = add_keeps f h.least k.least; most = add_keep
 pub minus_holds : (f : Format) {X Y : Span} {x y : Float} → Holds X x → Holds Y y → Holds (minus f X Y) (sub f x y)
 minus_holds f h k = record { least = sub_keeps f h.least k.most; most = sub_keeps f h.most k.least }
 
--- c is above zero, the infinity included
-pub over_holds : (f : Format) {X : Span} {x : Float} (c : Float) → T (above c) → Holds X x → Holds (over f X c) (div f x c)
-over_holds f c p h = record { least = div_keeps f c p h.least; most = div_keeps f c p h.most }
-
 -- ---- the product, for finite ends and a finite c
 -- the lower of two is not above either
 pub lower_le : (a b : Float) → T (number a) → T (number b) → T (le (lower a b) a) × T (le (lower a b) b)
@@ -105,19 +101,8 @@ le_higher a b p q = go (lt b a) (le_of_lt b a) (le_of_not b a q p)
     go true h k = (le_self a p, h tt)
     go false h k = (k (λ x. x), le_self b q)
 
--- what lies between a and b, either way round
-between : (a b x : Float) → (T (le a x) × T (le x b)) ⊎ (T (le b x) × T (le x a)) → T (le (lower a b) x) × T (le x (higher a b))
-between a b x (inl (h, k)) =
-    let p = (number_le a x h).0 in
-    let q = (number_le x b k).1 in
-    (le_trans (lower a b) a x (lower_le a b p q).0 h, le_trans x b (higher a b) k (le_higher a b p q).1)
-between a b x (inr (h, k)) =
-    let p = (number_le x a k).1 in
-    let q = (number_le b x h).0 in
-    (le_trans (lower a b) b x (lower_le a b p q).1 h, le_trans x a (higher a b) k (le_higher a b p q).0)
-
 -- a finite float is not below zero, or not above it
-signed : (c : Float) → T (finite c) → T (le nought c) ⊎ T (le c nought)
+pub signed : (c : Float) → T (finite c) → T (le nought c) ⊎ T (le c nought)
 signed c p = go (lt c nought) (le_of_lt c nought) (le_of_not c nought (finite_number c p) tt)
   where
     go : (t : Bool) → (T t → T (le c nought)) → ((T t → ⊥) → T (le nought c)) → T (le nought c) ⊎ T (le c nought)
@@ -129,29 +114,10 @@ pub nan_holds : (X : Span) → Holds X nan
 nan_holds X = record { least = not_below nan X.low (λ h. unfold lt in h); most = not_below X.high nan (tail X.high) }
 
 -- a float of a span is a NaN, or a number
-cases : (x : Float) → (x ≡ nan) ⊎ T (number x)
+pub cases : (x : Float) → (x ≡ nan) ⊎ T (number x)
 cases nan = inl refl
 cases (inf s) = inr tt
 cases (fin s m e) = inr tt
-
--- x * c lies in X times c, for finite ends and a finite c
-pub times_holds : (f : Format) {X : Span} {x : Float} (c : Float) → Finite X → T (finite c) → Holds X x → Holds (times f X c) (mul f x c)
-times_holds f {X} {x} c g r h = go (cases x)
-  where
-    numbers : T (number x) → Holds (times f X c) (mul f x c)
-    numbers q =
-        let p = finite_between X.low x X.high g.low g.high q h.least h.most in
-        let a = low_le X x (finite_number X.low g.low) q h in
-        let b = le_high X x (finite_number X.high g.high) q h in
-        let ends = between (mul f X.low c) (mul f X.high c) (mul f x c) (elim (signed c r) [
-          | inl s ↦ inl (mul_le f X.low x c g.low p r s a, mul_le f x X.high c p g.high r s b)
-          | inr s ↦ inr (mul_ge f x X.high c p g.high r s b, mul_ge f X.low x c g.low p r s a)
-        ]) in
-        holds_of_le (times f X c) (mul f x c) ends.0 ends.1
-
-    go : (x ≡ nan) ⊎ T (number x) → Holds (times f X c) (mul f x c)
-    go (inl e) = subst (λ (z : Float). Holds (times f X c) (mul f z c)) (sym e) (subst (λ (z : Float). Holds (times f X c) z) (sym (nan_mul f c)) (nan_holds (times f X c)))
-    go (inr q) = numbers q
 
 -- ---- the square
 -- of a number in a span
@@ -163,13 +129,3 @@ square_le f X x p h = go (lt nought X.low) (lt X.high nought) (λ t. square_abov
     go true b k l = k tt
     go false true k l = l tt
     go false false k l = nought_le (mul f x x) (upper_square f x p)
-
--- of any float in a span
-pub square_holds : (f : Format) (X : Span) (x : Float) → Holds X x → NotBelow (mul f x x) (least_square f X)
-square_holds f X x h = go (cases x)
-  where
-    go : (x ≡ nan) ⊎ T (number x) → NotBelow (mul f x x) (least_square f X)
-    go (inl e) =
-        subst (λ (z : Float). NotBelow (mul f z z) (least_square f X)) (sym e)
-        (subst (λ (z : Float). NotBelow z (least_square f X)) (sym (nan_mul f nan)) (nan_holds (record { low = least_square f X; high = nought })).least)
-    go (inr p) = below_of_le (mul f x x) (least_square f X) (square_le f X x p h)

@@ -1,4 +1,5 @@
 // A span of f64 values: what is computed from a value of it lies in the span that is computed from its ends.
+#![tactic(auto)]
 
 ghost use Rattle.std.specs.Prelude.{◌≡◌};
 ghost use Rattle.std.specs.Float.{binary64};
@@ -6,7 +7,7 @@ ghost use Rattle.float_spans.specs.Spans.{less, plus, minus, over, lower, higher
 ghost use Rattle.float_spans.specs.Hulls.{empty, one, hull};
 
 // The values from low up to high.
-#[derive(Drop)]
+#[derive(Clone, Copy)]
 pub struct Span {
     pub low: f64,
     pub high: f64,

@@ -1,4 +1,5 @@
 // The square root of an f64, on bit patterns and on floats.
+#![tactic(auto)]
 
 mod root;
 

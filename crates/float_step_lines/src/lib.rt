@@ -1,4 +1,5 @@
 // One line of the program `steps`, without its line feed: the name of a float step and the bits of its operands in hex, read and answered.
+#![tactic(auto)]
 
 ghost use Rattle.std.specs.Prelude.{◌++◌, ◌∷◌, [], ◌≡◌, ◌≤◌};
 ghost use Rattle.sheet_digits.specs.Digits.{hex};
@@ -13,7 +14,7 @@ use sheet_digit_writing::{put_byte, put_hex, put_text};
 use sheet_lines::scan;
 
 // What a line comes to: the bits of an f64 or of an f32, or a refusal.
-#[derive(Drop)]
+#[derive(Clone, Copy)]
 pub enum Reply {
     Long(u64),
     Short(u32),

@@ -1,5 +1,6 @@
 // Float steps that the language lacks, on bit patterns and on f32 and f64: widening, the larger of two, the absolute value; and powers of two.
 // Each takes every input and answers what its definition in specs/Floats.antt says.
+#![tactic(auto)]
 
 mod comparison;
 mod conversion;

@@ -7,7 +7,7 @@ use join_table::{Source, join_table};
 use point_key::vertex::{digest_at, key_at};
 
 // A rule that says which points are the same.
-#[derive(Drop)]
+#[derive(Clone, Copy)]
 pub enum Rule {
     // Their keys are equal.
     Key,

@@ -1,4 +1,5 @@
 // Joining words for a benchmark in another language: the words are joined if they have room, else left alone.
+#![tactic(auto)]
 
 ghost use Rattle.join_speed.specs.Tried.{Tried};
 

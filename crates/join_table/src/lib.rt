@@ -1,5 +1,7 @@
 // A table of chains in 4·n words: a digest of each name, the representatives, the links, the heads of the chains.
 // A link is 0, or 1 + an item; it leads to a smaller item, so that a walk along a chain ends.
+#![tactic(auto)]
+
 ghost use Rattle.std.specs.Prelude.{◌≡◌, ◌*◌, ◌≤◌, eqb, length, get_or, take};
 ghost use Rattle.join_table.specs.Naming.{names_of};
 ghost use Rattle.join_table.specs.Table.{Bucket, Sized, Compared, Search, Hit, Turn, Step, Begun, Ready};
@@ -18,7 +20,7 @@ const SECOND: u64 = 15485907386658061715;
 const HALF: u64 = 4294967296;
 
 // Where the names of the items are.
-#[derive(Drop)]
+#[derive(Clone, Copy)]
 pub enum Source {
     // The words are the names.
     Words,

@@ -1,4 +1,5 @@
 // A body that passed its checks assembled: decisions, totals, and the mesh written or refused.
+#![tactic(auto)]
 
 ghost use Rattle.mesh_accepted.specs.Rows.{AssembleReady, BodyAssembled};
 

@@ -1,7 +1,8 @@
 // What assemble answers; what it does is defined in specs/.
+#![tactic(auto)]
 
 // How many vertices, indices, parts, ranges and failures were written; the mesh's edges, those used once, those used more than twice; and whether it is closed.
-#[derive(Drop)]
+#[derive(Clone, Copy)]
 pub struct MeshCounts {
     pub vertices: u32,
     pub indices: u32,
@@ -15,7 +16,7 @@ pub struct MeshCounts {
 }
 
 // What assemble answers: the counts, or the number of the first check that fails.
-#[derive(Drop)]
+#[derive(Clone, Copy)]
 pub enum Assembled {
     Done(MeshCounts),
     Refused(u32),

@@ -22,8 +22,9 @@ use Rattle.edge_uses.specs.Edges.{Use, triangle_uses}
 use Rattle.edge_uses.specs.Named.{use_name, use_run, RowReady, NameReady}
 use Rattle.edge_uses.specs.Counted.{CountReady, Counted}
 use Rattle.edge_uses.specs.RowUses.{uses_agree, uses_count}
-use Rattle.edge_uses.specs.AreaLaws.{count_ready}
-use Rattle.edge_uses.specs.UseLaws.{Apart, low_triangles, get_d_map, length_named}
+use Rattle.edge_uses.proofs.AreaLaws.{count_ready}
+use Rattle.edge_uses.proofs.UseLaws.{low_triangles, get_d_map, length_named}
+use Rattle.edge_uses.specs.UseLaws.{Apart}
 use Rattle.mesh_tally.specs.declared.EdgeCounts.{EdgeCounts}
 use Rattle.mesh_counts.specs.Counts.{counts_of}
 use Rattle.mesh_tally.specs.Tally.{counts_in, UseWords, CountsOver, Tallied}

@@ -19,7 +19,7 @@ use mesh_tally::{EdgeCounts, tally};
 const MINUS_ZERO: u32 = 2147483648;
 
 // How many edges there are, how many of them are open (one use), how many are over (more than two), and whether the mesh is closed.
-#[derive(Drop)]
+#[derive(Clone, Copy)]
 pub struct MeshEdges {
     pub edges: u64,
     pub opens: u64,

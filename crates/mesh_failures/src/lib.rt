@@ -1,4 +1,5 @@
 // The failures of the rows that are not accepted, written to their table.
+#![tactic(auto)]
 
 mod failures;
 

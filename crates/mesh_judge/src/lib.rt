@@ -1,4 +1,5 @@
 // The decision on each row, and what the accepted rows have together.
+#![tactic(auto)]
 
 mod judge;
 mod totals;

@@ -5,7 +5,7 @@ ghost use Rattle.body_rows.specs.Rows.{row_at};
 ghost use Rattle.mesh_judge.specs.Totals.{RowAddable, totals_with, Totalled, TotalsReady};
 
 // How many rows are accepted, and how many vertices and indices they have.
-#[derive(Drop)]
+#[derive(Clone, Copy)]
 pub struct Totals {
     pub rows: usize,
     pub vertices: usize,

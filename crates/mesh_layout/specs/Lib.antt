@@ -7,6 +7,5 @@ pub mod Ranges
 pub mod RowLaws
 pub mod LaidLaws
 pub mod MaterialLaws
-pub mod RunsLong
 pub mod RangeLaws
 pub mod Evaluation

@@ -1,4 +1,5 @@
 // The rows of a body put in the order of their materials, and where each is found.
+#![tactic(auto)]
 
 mod order;
 

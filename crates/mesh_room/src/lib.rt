@@ -1,4 +1,5 @@
 // Check 41: room for the mesh and its tables.
+#![tactic(auto)]
 
 mod lengths;
 

@@ -1,4 +1,5 @@
 // What a mesh has in row order: the vertices of its accepted rows, and a range for each.
+#![tactic(auto)]
 
 mod ranges;
 mod vertices;

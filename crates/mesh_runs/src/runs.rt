@@ -5,7 +5,7 @@ ghost use Rattle.mesh_runs.specs.Runs.{RowRunnable, RowRun, RunWritable, RunWrit
 use mesh_material_order::{INDICES, ROWS};
 
 // Where a run's words and its indices end.
-#[derive(Drop)]
+#[derive(Clone, Copy)]
 pub struct RunEnd {
     pub place: usize,
     pub end: usize,

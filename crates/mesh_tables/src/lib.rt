@@ -1,11 +1,12 @@
 // The runs, parts, ranges and failures of the accepted rows written to the lent slices.
+#![tactic(auto)]
 
 ghost use Rattle.mesh_tables.specs.Tables.{TablesReady, TablesWritten};
 
 use patch_geometry::Aabb;
 
 // How many parts, ranges and failures were written.
-#[derive(Drop)]
+#[derive(Clone, Copy)]
 pub struct Tables {
     pub parts: usize,
     pub ranges: usize,

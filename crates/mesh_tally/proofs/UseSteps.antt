@@ -17,7 +17,8 @@ use Rattle.join_definition.specs.Representatives.{rep_low, rep_name, same_name_r
 use Rattle.edge_uses.specs.Edges.{Use, skipped, same_edge, uses_of, first_uses}
 use Rattle.edge_uses.specs.Named.{use_name}
 use Rattle.edge_uses.specs.NameLaws.{run_equal, run_apart}
-use Rattle.edge_uses.specs.UseLaws.{no_use, apart_tells, get_d_map, length_named, edge_count}
+use Rattle.edge_uses.proofs.UseLaws.{apart_tells, get_d_map, length_named, edge_count}
+use Rattle.edge_uses.specs.UseLaws.{no_use}
 use Rattle.mesh_tally.specs.Tally.{UseWords}
 
 -- the uses before use i, the last first

@@ -1,4 +1,5 @@
 // The edges of a mesh counted from the words of their uses.
+#![tactic(auto)]
 
 ghost use Rattle.std.specs.Prelude.{◌≡◌};
 ghost use Rattle.mesh_tally.specs.Tally.{Few, UseReady, TallyReady, Tallied, counts_in, with_edge, with_use};
@@ -6,7 +7,7 @@ ghost use Rattle.mesh_tally.specs.Tally.{Few, UseReady, TallyReady, Tallied, cou
 use edge_uses::{EQUAL_ENDS, RUNS_AFTER_FIRSTS};
 
 // How many edges there are, how many of them are open (one use), and how many are over (more than two).
-#[derive(Drop)]
+#[derive(Clone, Copy)]
 pub struct EdgeCounts {
     pub edges: u64,
     pub opens: u64,

@@ -1,11 +1,12 @@
 // Whether a patch is accepted, and if not, why.
+#![tactic(auto)]
 
 mod verdict;
 
 pub use verdict::{Verdict, verdict_of};
 
 // Why a row is not in the mesh. An escape carries the reach and the span.
-#[derive(Drop)]
+#[derive(Clone, Copy)]
 pub enum Failure {
     Empty,
     Upstream(u32),

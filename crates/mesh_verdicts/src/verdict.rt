@@ -9,7 +9,7 @@ use crate::Failure;
 use patch_geometry::Aabb;
 
 // A patch is accepted, or it failed.
-#[derive(Drop)]
+#[derive(Clone, Copy)]
 pub enum Verdict {
     Accepted,
     Failed(Failure),

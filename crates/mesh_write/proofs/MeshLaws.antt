@@ -22,7 +22,7 @@ use Rattle.mesh_layout.specs.JudgedRows.{JudgedRow, judged_in, numbers_by}
 use Rattle.mesh_layout.specs.RowLaws.{judged_long}
 use Rattle.mesh_layout.specs.LaidLaws.{laid_few}
 use Rattle.mesh_layout.specs.MaterialLaws.{materials_few}
-use Rattle.mesh_layout.specs.RunsLong.{runs_long}
+use Rattle.mesh_layout.proofs.RunsLong.{runs_long}
 use Rattle.mesh_layout.specs.Written.{VerticesWritable, VerticesWritten}
 use Rattle.mesh_layout.specs.Parts.{laid_in}
 use Rattle.mesh_counts.specs.Counts.{counts_of, closed_mesh}

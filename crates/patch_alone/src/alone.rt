@@ -9,14 +9,14 @@ use patch_reach::{escapes_body, farthest};
 use patch_volume::patch_volume;
 
 // A number, or the refusal's number.
-#[derive(Drop)]
+#[derive(Clone, Copy)]
 pub enum Measured {
     Value(f64),
     Refused(u32),
 }
 
 // A verdict, or the refusal's number.
-#[derive(Drop)]
+#[derive(Clone, Copy)]
 pub enum Judged {
     Verdict(bool),
     Refused(u32),

@@ -1,4 +1,5 @@
 // A patch asked about alone: its checks, and then its volume, its reach or its escape.
+#![tactic(auto)]
 
 mod alone;
 

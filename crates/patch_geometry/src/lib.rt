@@ -1,4 +1,5 @@
 // Points and the box in f64, one rounding an operation, and the vertices of a patch as points.
+#![tactic(auto)]
 
 mod points;
 
@@ -8,7 +9,7 @@ ghost use Rattle.patch_geometry.specs.Geometry.{add_v, centre_of, diagonal, dot,
 pub use points::{point, vertex};
 
 // A point or a direction.
-#[derive(Drop)]
+#[derive(Clone, Copy)]
 pub struct Vec3 {
     pub x: f64,
     pub y: f64,
@@ -72,7 +73,7 @@ impl Vec3 {
 }
 
 // A box along the axes, from its minimum to its maximum corner.
-#[derive(Drop)]
+#[derive(Clone, Copy)]
 pub struct Aabb {
     pub min: Vec3,
     pub max: Vec3,

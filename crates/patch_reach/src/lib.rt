@@ -1,4 +1,5 @@
 // How far a patch reaches from the centre of the body's box, and whether it escapes.
+#![tactic(auto)]
 
 mod reach;
 

@@ -1,6 +1,6 @@
 -- A view of a patch's three stretches, what is read through it, and that a view of row k's stretches shows patch k. Assumes nothing.
 use Rattle.std.specs.Prelude.{◌≡◌, refl, Bool, List, [], ◌∷◌, ℕ, zero, suc, ◌+◌, ◌*◌, ◌<◌, length, get_or, take, drop, Float}
-use Rattle.std.proofs.Common.{sym, ap, ◌∙◌, le_of_suc-le-suc, not-suc-le-zero, arith}
+use Rattle.std.proofs.Common.{sym, ◌∙◌, le_of_suc-le-suc, not-suc-le-zero, arith}
 use Rattle.std.specs.Borrow.{Bor}
 use Rattle.body_rows.specs.Body.{Row, Patch, Triangle, patches_of, triangles_of}
 use Rattle.body_rows.specs.Rows.{no_row, vertices_before, indices_before}
@@ -39,12 +39,6 @@ pub shows_patch : (rows : List Row) (ps ns : List Float) (is : List ℕ) (k : �
 shows_patch rows ps ns is k v s =
     (λ j. record { row = get_or rows k no_row; positions = s.positions j; normals = s.normals j; indices = s.indices j })
     ∙ sym (patch_at_lem rows ps ns is k s.row)
-
--- A volume that is read through it is that of patch k alone.
-pub shows_volume : (rows : List Row) (ps ns : List Float) (is : List ℕ) (k : ℕ) (v : PatchView) (flip : Bool) → Stretches rows ps ns is k v
-    → let p = get_or (patches_of rows ps ns is) k no_patch in volume_of v flip ≡ measured_of (volume_alone p.positions p.normals p.indices flip)
-shows_volume rows ps ns is k v flip s =
-    ap (λ (p : Patch). measured_of (volume_alone p.positions p.normals p.indices flip)) (shows_patch rows ps ns is k v s)
 
 -- three indices in a row, from index i on
 abbrev triangle_from : List ℕ → ℕ → Triangle

@@ -1,4 +1,5 @@
 // A patch read through a view of its three stretches: positions, normals and indices.
+#![tactic(auto)]
 
 ghost use Rattle.std.specs.Prelude.{◌≡◌, get_or};
 ghost use Rattle.patch_alone.specs.Answers.{measured_of};
@@ -8,7 +9,7 @@ ghost use Rattle.patch_view.specs.Views.{corner_of, view_of, volume_of};
 use patch_alone::Measured;
 
 // A patch's stretches of a body's slices; three coordinates a vertex, indices from 0 within the patch.
-#[derive(Drop)]
+#[derive(Clone, Copy)]
 pub struct PatchView<'a> {
     pub positions: &'a [f32],
     pub normals: &'a [f32],

@@ -1,4 +1,5 @@
 // A patch's signed volume.
+#![tactic(auto)]
 
 mod volume;
 

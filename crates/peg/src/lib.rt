@@ -1,4 +1,5 @@
 // The bins nearest a peg, over placed bodies lent as one body with a place for each row.
+#![tactic(auto)]
 
 mod lookup;
 mod places;

@@ -1,4 +1,5 @@
 // How near the vertices of a row come to a peg, in words of whole micrometres that aren't negative.
+#![tactic(auto)]
 
 mod distance;
 mod target;

@@ -13,7 +13,7 @@ pub const MIDDLE: u64 = 0x800_0000_0000;
 pub const PLACE_WIDTH: usize = 3;
 
 // The words of a peg's place, each 2^40 more than its number.
-#[derive(Drop)]
+#[derive(Clone, Copy)]
 pub struct PegWords {
     pub x: u64,
     pub y: u64,
@@ -21,7 +21,7 @@ pub struct PegWords {
 }
 
 // The words of the peg less a row's place, each 2^43 more than its number.
-#[derive(Drop)]
+#[derive(Clone, Copy)]
 pub struct Target {
     pub x: u64,
     pub y: u64,

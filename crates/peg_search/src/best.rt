@@ -6,7 +6,7 @@ ghost use Rattle.peg_search.specs.Search.{best_with, no_best};
 use peg_distance::BEYOND;
 
 // The smallest sum of squares, `BEYOND` if no vertex is near, and the lowest and the highest bin that have it.
-#[derive(Drop)]
+#[derive(Clone, Copy)]
 pub struct Best {
     pub square: u64,
     pub low: u32,

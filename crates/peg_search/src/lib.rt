@@ -1,4 +1,5 @@
 // The bins nearest a peg, found by passes over the rows of a placed body: one for the smallest sum of squares, and one for each further bin that shares it.
+#![tactic(auto)]
 
 mod best;
 mod passes;

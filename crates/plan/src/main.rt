@@ -1,25 +1,27 @@
 // Reads a yard plan from standard input and prints its bins, a line each in the order read, or only the refusal.
+#![tactic(auto)]
 
 ghost use Rattle.plan_print.specs.Printing.{Answered};
 
-use libc::{STDIN_FILENO, STDOUT_FILENO};
 use plan_print::print_plan;
 use sheet_answer::write_refusal;
 use sheet_digit_writing::put_text;
 use slice_front::front_bytes;
+use std::io;
+use std::io::{ErrorKind, Read, Write};
 
 // The refusal of a plan that is longer than the program takes.
 const TOO_LONG: u32 = 52;
 
 // How many bytes of a text were read, or that there are too many.
-#[derive(Drop)]
+#[derive(Clone, Copy)]
 enum Input {
     Text(usize),
     TooLong,
 }
 
 // What one read came to: how many bytes of the text there are now, whether the input goes on, and whether the read failed.
-#[derive(Drop)]
+#[derive(Clone, Copy)]
 struct Got {
     length: usize,
     more: bool,
@@ -39,24 +41,33 @@ fn fail_read(text: &mut [u8], n: usize) -> usize {
     put_part(text, n, b"\n\n")
 }
 
-// Reads a stretch of the input behind the first n bytes of a text.
-fn read_some(text: &mut [u8], n: usize) -> Got {
+// Reads a stretch of the input behind the first n bytes of a text. A read that a signal interrupted adds nothing, and the input goes on.
+fn read_some<R: Read>(input: &mut R, text: &mut [u8], n: usize) -> Got {
     let mut buf = [0u8; 4096];
-    let got = libc::read(STDIN_FILENO, &mut buf);
-    if got < 0 {
-        let length = fail_read(text, n);
-        return Got {
-            length: length,
-            more: false,
-            failed: true,
-        };
-    }
-    let count = io::count(got, &buf);
-    let length = put_part(text, n, &buf[..count]);
-    Got {
-        length: length,
-        more: 0 < count,
-        failed: false,
+    match input.read(&mut buf) {
+        Ok(count) => {
+            let length = put_part(text, n, &buf[..count]);
+            Got {
+                length: length,
+                more: 0 < count,
+                failed: false,
+            }
+        }
+        Err(e) => {
+            if e.kind() == ErrorKind::Interrupted {
+                return Got {
+                    length: n,
+                    more: true,
+                    failed: false,
+                };
+            }
+            let length = fail_read(text, n);
+            Got {
+                length: length,
+                more: false,
+                failed: true,
+            }
+        }
     }
 }
 
@@ -68,13 +79,13 @@ fn too_long(room: usize, n: usize) -> bool {
     room - 2 < n
 }
 
-// Reads standard input to its end. The loop counts its turns down, from a number that no run uses up, since nothing says that the input ends.
-fn read_input(text: &mut [u8]) -> Input {
+// Reads the input to its end. The loop counts its turns down, from a number that no run uses up, since nothing says that the input ends.
+fn read_input<R: Read>(input: &mut R, text: &mut [u8]) -> Input {
     let mut n: usize = 0;
     let mut turns = u64::MAX;
     while turns > 0 {
         turns -= 1;
-        let got = read_some(text, n);
+        let got = read_some(input, text, n);
         n = got.length;
         if got.failed {
             return Input::Text(n);
@@ -89,12 +100,12 @@ fn read_input(text: &mut [u8]) -> Input {
     Input::TooLong
 }
 
-// Reads a plan from standard input and writes what is printed of it to the front of `out`; answers how many bytes.
-fn print_input(text: &mut [u8], list: &mut [i64], out: &mut [u8]) -> usize
+// Reads a plan from the input and writes what is printed of it to the front of `out`; answers how many bytes.
+fn print_input<R: Read>(input: &mut R, text: &mut [u8], list: &mut [i64], out: &mut [u8]) -> usize
     ensures { Answered list.old out.old out.new result }
 {
-    let input = read_input(text);
-    match input {
+    let read = read_input(input, text);
+    match read {
         Input::Text(n) => print_plan(front_bytes(text, n), list, out),
         Input::TooLong => write_refusal(out, TOO_LONG),
     }
@@ -110,9 +121,9 @@ fn room() -> [u8; 393216] {
     [0u8; 393216]
 }
 
-fn main() {
+fn main(rt: HostRuntime) -> io::Result<()> {
     let mut text = longest();
     let mut out = room();
-    let k = print_input(&mut text, &mut [0i64; 16384], &mut out);
-    io::write_all(STDOUT_FILENO, front_bytes(&out, k));
+    let k = print_input(&mut rt.reader(), &mut text, &mut [0i64; 16384], &mut out);
+    io::writer(&rt).write_all(front_bytes(&out, k))
 }

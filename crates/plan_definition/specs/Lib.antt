@@ -10,8 +10,8 @@ pub mod Words
 pub mod LineLaws
 pub mod TextLaws
 pub mod Steps
-pub mod Accepted
-pub mod RoundTrip
-pub mod ReadBack
 pub mod Evaluation
 pub mod Claims
+pub mod Accepted
+pub mod ReadBack
+pub mod RoundTrip

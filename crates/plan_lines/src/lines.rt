@@ -11,7 +11,7 @@ use sheet_lines::scan;
 const MOST_BIN: u64 = 65535;
 
 // A line of a plan, or none, or the end of the text.
-#[derive(Drop)]
+#[derive(Clone, Copy)]
 pub enum PlanLine {
     Open(OffsetWords),
     Bin(u64, OffsetWords),
@@ -21,7 +21,7 @@ pub enum PlanLine {
 }
 
 // A line, and where the next one begins.
-#[derive(Drop)]
+#[derive(Clone, Copy)]
 pub struct LineAt {
     pub line: PlanLine,
     pub end: usize,

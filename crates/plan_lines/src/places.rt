@@ -18,7 +18,7 @@ const SUM_ZERO: u64 = 0x2000_0000_0000;
 const ENTRY_WIDTH: usize = 4;
 
 // The words of a sum on three axes, each 2^45 more than the sum.
-#[derive(Drop)]
+#[derive(Clone, Copy)]
 pub struct SumWords {
     pub x: u64,
     pub y: u64,

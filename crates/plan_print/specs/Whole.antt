@@ -9,10 +9,12 @@ use Rattle.sheet_digits.specs.Bytes.{bytes}
 use Rattle.sheet_lines.specs.Printed.{decimal_length}
 use Rattle.plan_definition.specs.Places.{Place, in_range}
 use Rattle.plan_definition.specs.Grammar.{Plan, nothing, bin, group, Entry, bin_line, integer, inside_limits, keeps_limits, offset_text, placed}
-use Rattle.plan_definition.specs.Accepted.{BinKeeps, GroupKeeps, TextOf, accepted_plan, bin_keeps, group_keeps}
+use Rattle.plan_definition.proofs.Accepted.{accepted_plan, bin_keeps, group_keeps}
+use Rattle.plan_definition.specs.Accepted.{BinKeeps, GroupKeeps, TextOf}
 use Rattle.plan_definition.specs.Reading as Reading
 use Rattle.plan_definition.specs.Reading.{Reading, most_entries, plan_of}
-use Rattle.plan_definition.specs.RoundTrip.{InRange, none_left, one_more}
+use Rattle.plan_definition.specs.RoundTrip.{none_left, one_more}
+use Rattle.plan_definition.specs.RoundTrip.{InRange}
 use Rattle.plan_definition.specs.Writing as Writing
 use Rattle.plan_definition.specs.Writing.{bin_in_range, fitting, listing_refusal, listing_text, writing_of}
 use Rattle.plan_print.specs.Printing.{plan_program, printed_reading, reading_text, written_text}

@@ -1,4 +1,5 @@
 // What the program prints of a plan: a bin line for each entry in the order read, or only the refusal.
+#![tactic(auto)]
 
 ghost use Rattle.std.specs.Prelude.{◌≡◌, take, ◌*◌};
 ghost use Rattle.plan_definition.specs.Reading.{entry_width};

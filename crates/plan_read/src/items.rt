@@ -20,7 +20,7 @@ const TOO_MANY: u32 = 64;
 const MOST_DEPTH: usize = 16;
 
 // How far reading came: a refusal, or 0; whether the innermost group was closed; where the next line begins; how many bins stand.
-#[derive(Drop)]
+#[derive(Clone, Copy)]
 pub struct Step {
     pub refusal: u32,
     pub closed: bool,
@@ -29,7 +29,7 @@ pub struct Step {
 }
 
 // The sum along the path into a group that a line opens, or no such group.
-#[derive(Drop)]
+#[derive(Clone, Copy)]
 pub enum Opening {
     Group(SumWords),
     Other,

@@ -18,7 +18,7 @@ use Rattle.signed_numbers.specs.Range.{farthest}
 use Rattle.plan_definition.specs.Places.{in_range}
 use Rattle.plan_definition.specs.Grammar.{Entry, entry, bin_line}
 use Rattle.plan_definition.specs.Reading.{malformed, most_entries, out_of_range, too_many}
-use Rattle.plan_definition.specs.RoundTrip as RoundTrip
+use Rattle.plan_definition.proofs.RoundTrip as RoundTrip
 use Rattle.plan_definition.specs.Writing as Writing
 use Rattle.plan_definition.specs.Writing.{Writing, bin_in_range, entries_in, fitting, listing_refusal, listing_text, text_after, writing_of}
 use Rattle.plan_write.specs.declared.entries.EntryWords.{EntryWords}

@@ -27,7 +27,7 @@ const OUT_OF_RANGE: u32 = 63;
 const TOO_MANY: u32 = 64;
 
 // The words of an entry, each 2^40 more than its number.
-#[derive(Drop)]
+#[derive(Clone, Copy)]
 pub struct EntryWords {
     pub bin: u64,
     pub x: u64,

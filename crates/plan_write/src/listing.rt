@@ -14,7 +14,7 @@ const ENTRY_WIDTH: usize = 4;
 const NO_ROOM: u32 = 68;
 
 // How long a listing's text is, or what its first offending entry is refused for.
-#[derive(Drop)]
+#[derive(Clone, Copy)]
 pub struct Checked {
     pub refusal: u32,
     pub length: usize,

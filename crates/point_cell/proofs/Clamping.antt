@@ -37,6 +37,7 @@ inside true (suc n) h = lt-leb (2 ^ 63) n (omega arith)
 -- one above it is outside
 outside : (s : Bool) (n : ℕ) → 2 ^ 63 < n → outside64 (signed s n) ≡ true
 outside false n h = le-leb (2 ^ 63) n (omega arith)
+outside true zero h = elim h [ ]
 outside true (suc n) h = le-leb (2 ^ 63) n (omega arith)
 
 -- half of a small number

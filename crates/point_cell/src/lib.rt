@@ -1,4 +1,6 @@
 // The cell of a coordinate, and the whole number nearest a multiple of it, from the bits of its f32.
+#![tactic(auto)]
+
 ghost use Rattle.std.specs.Prelude.{◌≡◌, ◌^◌, ◌≤◌, ◌<◌, min};
 ghost use Rattle.float_round.specs.Integral.{half_up};
 ghost use Rattle.point_rules.specs.Points as Points;
@@ -118,7 +120,7 @@ fn cell_value(v: f32) -> i64
 }
 
 // A cell, and whether it was clamped.
-#[derive(Drop)]
+#[derive(Clone, Copy)]
 pub struct CellAnswer {
     pub value: i64,
     pub clamped: bool,

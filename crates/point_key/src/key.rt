@@ -73,7 +73,7 @@ pub fn key_of(x: f32, y: f32, z: f32) -> u64
 }
 
 // A key, and whether one of its three cells was clamped.
-#[derive(Drop)]
+#[derive(Clone, Copy)]
 pub struct KeyAnswer {
     pub value: u64,
     pub clamped: bool,

@@ -5,6 +5,6 @@ pub mod Names
 pub mod Points
 pub mod Bits
 pub mod Zeros
-pub mod Unclamped
 pub mod Evaluation
 pub mod Claims
+pub mod Unclamped

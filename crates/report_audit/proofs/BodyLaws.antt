@@ -27,8 +27,9 @@ use Rattle.edge_uses.specs.FirstUsers.{UsersReady}
 use Rattle.edge_uses.specs.FirstUsers as laid
 use Rattle.edge_uses.specs.RowUses.{numbers_below}
 use Rattle.edge_uses.specs.Area.{AreaReady, UsesListed}
-use Rattle.edge_uses.specs.AreaLaws.{uses_many, rows_there, points_low, users_ready, uses_there}
-use Rattle.edge_uses.specs.UseLaws.{Apart, low_uses, get_d_map, length_named}
+use Rattle.edge_uses.proofs.AreaLaws.{uses_many, rows_there, points_low, users_ready, uses_there}
+use Rattle.edge_uses.proofs.UseLaws.{low_uses, get_d_map, length_named}
+use Rattle.edge_uses.specs.UseLaws.{Apart}
 use Rattle.report_definition.specs.Audit.{Entry, audit_uses, marks_from, marks_of, entries_of, audit_of}
 use Rattle.report_definition.specs.AuditLaws.{entries_listed}
 use Rattle.report_audit.specs.Faces.{faces_of, FacesJoined}

@@ -16,9 +16,10 @@ use Rattle.join_definition.specs.Representatives.{rep_low, rep_name, same_name_r
 use Rattle.edge_uses.specs.Edges.{Use, skipped}
 use Rattle.edge_uses.specs.Named.{run_of, use_name, use_run, use_row}
 use Rattle.edge_uses.specs.NameLaws.{SameEnds, ends_same, run_equal, run_apart}
-use Rattle.edge_uses.specs.UseLaws.{no_use, Tells, Apart, apart_tells, get_d_map, length_named}
+use Rattle.edge_uses.proofs.UseLaws.{apart_tells, get_d_map, length_named}
+use Rattle.edge_uses.specs.UseLaws.{no_use, Tells, Apart}
 use Rattle.report_definition.specs.Audit.{marked_by, marks_from}
-use Rattle.report_definition.specs.MarkLaws.{marks_more, marked_first, marked_later}
+use Rattle.report_definition.proofs.MarkLaws.{marks_more, marked_first, marked_later}
 use Rattle.report_audit.specs.Counts.{first_at, own_at, run_at, alike, alike_at, heads_at, heads_before}
 use Rattle.report_audit.proofs.CountLaws.{alike_own, alike_ends, alike_runs, count_both, count_two, count_none}
 

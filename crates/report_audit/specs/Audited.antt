@@ -9,7 +9,7 @@ use Rattle.body_rows.specs.Patches.{shapes}
 use Rattle.body_checks.specs.Accepted.{Passed, passed_rows}
 use Rattle.edge_uses.specs.Edges.{Use, uses_from}
 use Rattle.edge_uses.specs.Named.{use_name, use_run, use_row}
-use Rattle.edge_uses.specs.UseLaws.{rows_uses}
+use Rattle.edge_uses.proofs.UseLaws.{rows_uses}
 use Rattle.edge_uses.specs.Area.{AreaReady}
 use Rattle.report_definition.specs.Audit.{Entry, audit_uses, marks_from, marks_of, entries_of, faces_in, audit_of}
 use Rattle.report_audit.specs.Faces.{faces_of}

@@ -9,8 +9,8 @@ abbrev pub first_at : List ℕ → ℕ → ℕ → ℕ
 first_at W firsts i = get_or W (firsts + i) 0
 
 -- its row
-abbrev pub field_own : List ℕ → ℕ → ℕ → ℕ → ℕ
-field_own W firsts n i = get_or W (firsts + n + i) 0
+abbrev pub own_at : List ℕ → ℕ → ℕ → ℕ → ℕ
+own_at W firsts n i = get_or W (firsts + n + i) 0
 
 -- which way it runs
 abbrev pub run_at : List ℕ → ℕ → ℕ → ℕ → ℕ
@@ -31,12 +31,12 @@ added W heads counts row = set W (counts + get_or W (heads + row) 0) (get_or W (
 -- what marking use i leaves: 1 for its row and 1 for the first use's, if the two run alike
 unfoldable pub marked_at : List ℕ → ℕ → ℕ → ℕ → ℕ → ℕ → List ℕ
 marked_at W firsts n i heads counts =
-    cond (alike_at W firsts n i) (added (added W heads counts (field_own W firsts n i)) heads counts (field_own W firsts n (first_at W firsts i))) W
+    cond (alike_at W firsts n i) (added (added W heads counts (own_at W firsts n i)) heads counts (own_at W firsts n (first_at W firsts i))) W
 
 -- the first rows of the face numbers that use i marks
 unfoldable pub heads_at : List ℕ → ℕ → ℕ → ℕ → ℕ → List ℕ
 heads_at W firsts n heads i =
-    cond (alike_at W firsts n i) (get_or W (heads + field_own W firsts n i) 0 ∷ get_or W (heads + field_own W firsts n (first_at W firsts i)) 0 ∷ []) []
+    cond (alike_at W firsts n i) (get_or W (heads + own_at W firsts n i) 0 ∷ get_or W (heads + own_at W firsts n (first_at W firsts i)) 0 ∷ []) []
 
 -- those that the uses before use i mark, in turn
 unfoldable pub heads_before : List ℕ → ℕ → ℕ → ℕ → ℕ → List ℕ
@@ -53,8 +53,8 @@ pub record UseReady (W : List ℕ) (firsts n i : ℕ) : Type 0 where
 pub record MarkReady (W : List ℕ) (firsts n i heads counts : ℕ) : Type 0 where
   pub use_ready : UseReady W firsts n i
   pub m : ℕ
-  pub own_low : field_own W firsts n i < m
-  pub far_low : field_own W firsts n (first_at W firsts i) < m
+  pub own_low : own_at W firsts n i < m
+  pub far_low : own_at W firsts n (first_at W firsts i) < m
   pub apart : heads + m ≤ counts
   pub room : counts + m ≤ length W
   pub low : (k : ℕ) → k < m → get_or W (heads + k) 0 < m
@@ -67,7 +67,7 @@ pub record CountsReady (W : List ℕ) (firsts n heads counts m : ℕ) : Type 0 w
   pub room : counts + m ≤ length W
   pub enough : 2 * n ≤ length W
   pub firsts_low : (i : ℕ) → i < n → first_at W firsts i < n
-  pub rows_low : (i : ℕ) → i < n → field_own W firsts n i < m
+  pub rows_low : (i : ℕ) → i < n → own_at W firsts n i < m
   pub low : (k : ℕ) → k < m → get_or W (heads + k) 0 < m
 
 -- what it leaves: at each row how often it was marked as a first row; nothing else was written

@@ -1,4 +1,5 @@
 // The winding audit of a body: its face numbers with a count above 0, ranked, in the work area.
+#![tactic(auto)]
 
 mod bodies;
 mod counts;

@@ -4,13 +4,12 @@ pub mod Page
 pub mod DivisorLaws
 pub mod Audit
 pub mod AuditLaws
-pub mod MarkLaws
 pub mod Report
 pub mod Share
-pub mod BodyAudit
 pub mod Pages
 pub mod Limits
 pub mod Calls
 pub mod TwoLists
 pub mod Evaluation
 pub mod Claims
+pub mod BodyAudit

@@ -1,8 +1,9 @@
 // The report's page and what adding a body to it answers; both are defined in specs/.
+#![tactic(auto)]
 
 // The page over finished bodies: their number, faces accepted and failed, the meshes' triangles and vertices, failures by kind, faces listed, and the
 // accepted share as a reduced fraction.
-#[derive(Drop)]
+#[derive(Clone, Copy)]
 pub struct Page {
     pub bodies: u64,
     pub accepted: u64,
@@ -18,7 +19,7 @@ pub struct Page {
 }
 
 // The page with the body added, or the number of the first check that fails.
-#[derive(Drop)]
+#[derive(Clone, Copy)]
 pub enum Reported {
     Done(Page),
     Refused(u32),

@@ -12,7 +12,7 @@ use mesh_verdicts::{Failure, Verdict};
 use patch_geometry::Aabb;
 
 // How many rows are accepted, how many fail for each cause, and the triangles and vertices of the accepted ones.
-#[derive(Drop)]
+#[derive(Clone, Copy)]
 pub struct RowCounts {
     pub accepted: u64,
     pub empty: u64,

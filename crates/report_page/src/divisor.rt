@@ -6,7 +6,7 @@ ghost use Rattle.report_definition.specs.Page.{share_of};
 ghost use Rattle.report_page.specs.Shares.{share_in};
 
 // So many accepted of so many faces.
-#[derive(Drop)]
+#[derive(Clone, Copy)]
 pub struct Share {
     pub accepted: u64,
     pub faces: u64,

@@ -1,4 +1,5 @@
 // The page of the report in numbers: what the rows of a body add, whether a page is refused, and the page with a body added.
+#![tactic(auto)]
 
 mod counts;
 mod divisor;

@@ -1,4 +1,5 @@
 // All that the program prints, written into a lent slice; what passes its end is left off.
+#![tactic(auto)]
 
 ghost use Rattle.std.specs.Prelude.{◌++◌};
 ghost use Rattle.sheet_answer_text.specs.Answer.{Written, count_text, mesh_text, refusal_line};

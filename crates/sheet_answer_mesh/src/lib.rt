@@ -1,4 +1,5 @@
 // The mesh as text, written at a place of a slice.
+#![tactic(auto)]
 
 ghost use Rattle.std.specs.Prelude.{◌≤◌, length};
 ghost use Rattle.sheet_digit_writing.specs.Writing.{Wrote};

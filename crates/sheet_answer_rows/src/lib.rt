@@ -1,4 +1,5 @@
 // A line for every row of a slice that is printed: vertices, three numbers a line, ranges, failures; what passes the end of the slice is left off.
+#![tactic(auto)]
 
 ghost use Rattle.std.specs.Prelude.{◌≡◌, map, ◌+◌, ◌≤◌, length};
 ghost use Rattle.float_steps.specs.Floats.{bits32};

@@ -1,4 +1,5 @@
 // What the program prints as text, and its counts, written at a place of a slice.
+#![tactic(auto)]
 
 ghost use Rattle.std.specs.Prelude.{cond, ◌∷◌, [], ◌≡◌, ◌≤◌, length};
 ghost use Rattle.sheet_digit_writing.specs.Writing.{Wrote};
@@ -9,7 +10,7 @@ ghost use Rattle.sheet_answer_text.specs.Answer.{count_text};
 use sheet_lines::put_line;
 
 // How much of the mesh's slices is written.
-#[derive(Drop)]
+#[derive(Clone, Copy)]
 pub struct Sizes {
     pub vertices: u32,
     pub indices: u32,
@@ -19,7 +20,7 @@ pub struct Sizes {
 }
 
 // What was counted: rows turned, pairs against, splits, accepted rows; edges of the mesh, those used once, those used more than twice; and closed.
-#[derive(Drop)]
+#[derive(Clone, Copy)]
 pub struct Tallies {
     pub turned: u64,
     pub against: u64,

@@ -1,1 +1,2 @@
 // Claims only: see specs/.
+#![tactic(auto)]

@@ -1,4 +1,5 @@
 // Numbers that stand at a place of a text.
+#![tactic(auto)]
 
 ghost use Rattle.std.specs.Prelude.{◌≡◌, false, ◌+◌, ◌^◌, ◌<◌, ◌≤◌, length, drop};
 ghost use Rattle.sheet_digits.specs.Digits.{below, decimal_below, decimal_from, digit_of, read_decimal, read_hex};
@@ -15,7 +16,7 @@ const FARTHEST: u64 = 0x100_0000_0000;
 const MINUS: u8 = 45;
 
 // A number that was read, and the place after it.
-#[derive(Drop)]
+#[derive(Clone, Copy)]
 pub struct Taken {
     pub ok: bool,
     pub value: u64,

@@ -11,7 +11,7 @@ use lib.Dec.{leb, lit<}
 use lib.ListN.{length, get_or, take, drop, set, drop_of_length-le, length-append, length-take, length-drop, length-set}
 use lib.Seq.{drop-cons, take_all, take-suc, take-suc-set, get_or-set_same, drop-set-lt}
 use Rattle.sheet_digits.specs.Digits.{decimal, decimal_to, digit_byte, digits}
-use Rattle.sheet_digits.specs.Exact.{digits_last, decimal_to_at}
+use Rattle.sheet_digits.proofs.Exact.{digits_last, decimal_to_at}
 use Rattle.signed_numbers.specs.Range.{farthest}
 use Rattle.sheet_digits.specs.Offsets.{offset}
 use Rattle.sheet_digit_writing.specs.Writing.{Digits, Filling, Wrote}

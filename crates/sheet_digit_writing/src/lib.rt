@@ -1,4 +1,5 @@
 // Numbers written at a place of a slice; what passes its end is left off.
+#![tactic(auto)]
 
 ghost use Rattle.std.specs.Prelude.{◌≡◌, ◌∷◌, [], ◌+◌, ◌-◌, ◌<◌, ◌≤◌, length};
 ghost use Rattle.sheet_digits.specs.Digits.{decimal, digit_byte, digits, hex};

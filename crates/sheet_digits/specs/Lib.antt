@@ -3,9 +3,9 @@ pub mod Bytes
 pub mod Digits
 pub mod ReadBack
 pub mod Lengths
-pub mod Exact
 pub mod Offsets
-pub mod OffsetLaws
 pub mod Next
 pub mod Evaluation
 pub mod Claims
+pub mod Exact
+pub mod OffsetLaws

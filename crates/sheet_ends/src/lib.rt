@@ -1,4 +1,5 @@
 // The reader before the first line of a sheet, with a refusal, and at the end.
+#![tactic(auto)]
 
 ghost use Rattle.std.specs.Prelude.{◌≡◌};
 ghost use Rattle.sheet_line_order.specs.Reading.{start};

@@ -1,4 +1,5 @@
 // What each kind of line adds.
+#![tactic(auto)]
 
 ghost use Rattle.std.specs.Prelude.{◌≡◌, ◌+◌, ◌*◌, ◌%◌, ◌^◌, ◌<◌, length, set};
 ghost use Rattle.sheet_reader_state.specs.Slices.{boxed, defaulted, lent, sagged, taken_up};

@@ -1,4 +1,5 @@
 // When a line of the sheet is refused: out of order, failing with 0, or past a limit.
+#![tactic(auto)]
 
 ghost use Rattle.std.specs.Prelude.{◌≡◌, ◌+◌, ◌<◌, ◌||◌, leb, ltb, length, take};
 ghost use Rattle.sheet_lines.specs.Counted.{count_in};

@@ -3,12 +3,13 @@ use Rattle.std.specs.Prelude.{Bool, true, false, List, [], ◌∷◌, ◌++◌, 
 use Rattle.std.proofs.Math.Option.{Option, none, some}
 use Rattle.std.proofs.Common.{sym, ◌∙◌, ap, subst, arith, lt→ltb, eqb-true}
 use Rattle.std.specs.Float.Ieee.Fits.{and_i}
-use Rattle.sheet_digits.specs.Exact.{read_decimal_small, hex_small, hex_exact, number_exact}
+use Rattle.sheet_digits.proofs.Exact.{read_decimal_small, hex_small, hex_exact, number_exact}
 use Rattle.sheet_digits.specs.Digits.{digits, decimal, Found, read_hex, read_decimal}
 use Rattle.sheet_lines.specs.Forms.{Piece, Word, Bits, Number, Offset, Line, print, after_word, spaced, read, form, line_among, line_of}
 use Rattle.sheet_lines.specs.declared.Kind.{Kind}
 use Rattle.sheet_digits.specs.Offsets.{offset, read_offset}
-use Rattle.sheet_digits.specs.OffsetLaws.{offset_exact, offset_words}
+use Rattle.sheet_digits.proofs.OffsetLaws.{offset_exact}
+use Rattle.sheet_digits.specs.OffsetLaws.{offset_words}
 use Rattle.sheet_lines.specs.ReadBack.{fits}
 
 -- ---- lines

@@ -5,7 +5,7 @@ use Rattle.std.proofs.Common.{ap, arith}
 use Rattle.sheet_digits.specs.Lengths.{hex_length, number_length}
 use Rattle.sheet_digits.specs.Digits.{Found, read_hex, read_decimal}
 use Rattle.sheet_digits.specs.Offsets.{read_offset}
-use Rattle.sheet_digits.specs.OffsetLaws.{offset_exact}
+use Rattle.sheet_digits.proofs.OffsetLaws.{offset_exact}
 use Rattle.sheet_lines.specs.Forms.{Piece, Word, Bits, Number, Offset, Line, after_word, spaced, read, form, numbers, line_among, line_of}
 use Rattle.sheet_lines.specs.declared.Kind.{Kind}
 use Rattle.sheet_lines.specs.declared.Kind.TheVariants.{Box, Sag, NoDefault, Default, Material, Face, FaceBin, Vertex, Triangle, Fail, FailBin}

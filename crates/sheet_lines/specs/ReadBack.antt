@@ -5,7 +5,8 @@ use Rattle.std.proofs.Common.{ltb→lt, eq-eqb}
 use Rattle.std.specs.Float.Ieee.Fits.{and_l, and_r}
 use Rattle.sheet_digits.specs.ReadBack.{read_hex_hex, read_decimal_decimal, no_digit}
 use Rattle.sheet_digits.specs.Digits.{digit_of}
-use Rattle.sheet_digits.specs.OffsetLaws.{offset_words, read_offset_offset}
+use Rattle.sheet_digits.proofs.OffsetLaws.{read_offset_offset}
+use Rattle.sheet_digits.specs.OffsetLaws.{offset_words}
 use Rattle.sheet_lines.specs.Forms.{Piece, Word, Bits, Number, Offset, print, after_word, spaced, read, form, numbers}
 use Rattle.sheet_lines.specs.declared.Kind.{Kind}
 use Rattle.sheet_lines.specs.declared.Kind.TheVariants.{Box, Sag, NoDefault, Default, Material, Face, FaceBin, Vertex, Triangle, Fail, FailBin}

@@ -9,7 +9,7 @@ use crate::Kind;
 use crate::scanning::scan;
 
 // The kind of a line, if it has a form of the sheet.
-#[derive(Drop)]
+#[derive(Clone, Copy)]
 pub enum Given {
     Line(Kind),
     Nothing,

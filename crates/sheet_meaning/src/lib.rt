@@ -1,4 +1,5 @@
 // The sheet's bits as floats, in one pass before the body is turned; a NaN's bits make the NaN.
+#![tactic(auto)]
 
 ghost use Rattle.std.specs.Prelude.{◌≡◌, ◌++◌, ◌∷◌, [], map, length, take, drop};
 ghost use Rattle.float_steps.specs.Floats.{f32, f64};

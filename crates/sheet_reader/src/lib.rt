@@ -1,4 +1,5 @@
 // A sheet read line by line: the order of its lines and its limits.
+#![tactic(auto)]
 
 ghost use Rattle.std.specs.Prelude.{◌≡◌};
 ghost use Rattle.sheet_reader_state.specs.Slices.{lent, read_form, read_into, read_roomy};

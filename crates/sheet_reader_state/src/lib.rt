@@ -2,12 +2,13 @@
 //
 // Floats are kept as their bits. The table has six numbers a row, positions and normals three a vertex; each face number within the limits has a
 // material, 0 for none and n + 1 for material n.
+#![tactic(auto)]
 
 use sheet_line_order::Limits;
 
 // What has been read within a program's limits: the refusal or 0, the place in the order of lines, how much of the slices is written, and what stands
 // in no slice.
-#[derive(Drop)]
+#[derive(Clone, Copy)]
 pub struct Reader {
     pub limits: Limits,
     pub refusal: u32,

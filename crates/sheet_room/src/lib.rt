@@ -1,4 +1,5 @@
 // Whether the lent slices have room for every sheet within the limits, and hold what the reader counts.
+#![tactic(auto)]
 
 ghost use Rattle.std.specs.Prelude.{◌≡◌, ◌*◌, ◌≤◌, leb, length};
 ghost use Rattle.body_rows.specs.Body.{row_width};

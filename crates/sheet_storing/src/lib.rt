@@ -1,4 +1,5 @@
 // Numbers of 32 bits stored side by side.
+#![tactic(auto)]
 
 ghost use Rattle.std.specs.Prelude.{◌≡◌, ◌∷◌, [], ◌+◌, ◌%◌, ◌^◌, ◌<◌, ◌≤◌, length, get_or, set};
 ghost use Rattle.body_rows.specs.Body.{row_width};

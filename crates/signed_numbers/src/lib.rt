@@ -1,4 +1,5 @@
 // Signed 64-bit numbers: the range of offsets and places, and words for them that aren't negative.
+#![tactic(auto)]
 
 ghost use Rattle.std.specs.Prelude.{◌≡◌, ◌+◌, ◌^◌, ◌≤◌, pos, ◌+ℤ◌, ◌-ℤ◌, nat_abs};
 ghost use Rattle.signed_numbers.specs.Range.{farthest, within};

@@ -1,4 +1,5 @@
 // Numbers written to a slice behind what it holds already.
+#![tactic(auto)]
 
 ghost use Rattle.std.specs.Prelude.{[], ◌∷◌, map, ◌+◌, ◌-◌, ◌≤◌, length, take, drop};
 ghost use Rattle.slice_append.specs.Appended.{Appended};

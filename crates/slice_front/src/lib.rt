@@ -1,4 +1,5 @@
 // The front of a slice: cut off, or copied to.
+#![tactic(auto)]
 
 ghost use Rattle.std.specs.Prelude.{◌≡◌, ◌++◌, length, take, drop};
 

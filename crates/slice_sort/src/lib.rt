@@ -1,4 +1,5 @@
 // Words of a slice sorted, bit by bit, the lowest bit first.
+#![tactic(auto)]
 
 mod sort;
 mod split;

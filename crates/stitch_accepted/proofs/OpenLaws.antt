@@ -16,12 +16,12 @@ use Rattle.body_rows.specs.Body.{Row, rows_of, table_of, patches_of, all_vertice
 use Rattle.body_rows.specs.Rows.{no_row, row_at}
 use Rattle.edge_uses.specs.Edges.{Use, uses_from}
 use Rattle.edge_uses.specs.RowUses.{Inside}
-use Rattle.edge_uses.specs.UseLaws.{rows_uses}
+use Rattle.edge_uses.proofs.UseLaws.{rows_uses}
 use Rattle.stitch_loose_points.specs.Listed.{loose_of, body_vertices}
-use Rattle.stitch_loose_points.specs.LooseLaws.{loose_is}
+use Rattle.stitch_loose_points.proofs.LooseLaws.{loose_is}
 use Rattle.stitch_loose_points.specs.Open.{body_uses, flag_of}
 use Rattle.stitch_splits.specs.FoundPoints.{Distinct}
-use Rattle.stitch_splits.specs.FoundLaws.{keys_distinct}
+use Rattle.stitch_splits.proofs.FoundLaws.{keys_distinct}
 use Rattle.stitch_splits.specs.declared.finder.Finder.{Finder}
 use Rattle.stitch_definition.specs.StitchedBody.{StitchedBody, stitched_body}
 use Rattle.stitch_count.specs.Views.{View, body_views, found_in, kept_in, viewed_rows, viewed_positions, viewed_normals, viewed_indices}

@@ -1,4 +1,5 @@
 // The cracks of an accepted body closed, or the body copied.
+#![tactic(auto)]
 
 mod closing;
 

@@ -12,7 +12,8 @@ use Rattle.float_spans.specs.Orders.{NotBelow, above_of_lt}
 use Rattle.float_spans.specs.Everywhere.{add_keeps}
 use Rattle.float_spans.specs.Squares.{upper_square}
 use Rattle.float_spans.specs.declared.Span.{Span}
-use Rattle.float_spans.specs.Spans.{Holds, Finite, minus, times, over, less_holds, plus_holds, minus_holds, times_holds, over_holds, square_holds}
+use Rattle.float_spans.specs.Spans.{Holds, Finite, minus, times, over, less_holds, plus_holds, minus_holds}
+use Rattle.float_spans.proofs.Spans.{times_holds, over_holds, square_holds}
 use Rattle.float_spans.specs.Clamps.{clamp_holds, clamp_finite, mul_swap, upper_add, sub_any}
 use Rattle.patch_geometry.specs.declared.Vec3.{Vec3}
 use Rattle.patch_geometry.specs.Geometry.{sub, mul, div, add, sub_v, scale, dot}

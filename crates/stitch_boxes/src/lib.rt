@@ -1,4 +1,5 @@
 // Boxes of points, and whether one is far from an edge: the formula of the distance evaluated on spans.
+#![tactic(auto)]
 
 ghost use Rattle.std.specs.Prelude.{◌≡◌};
 ghost use Rattle.std.specs.Float.{binary64};
@@ -10,7 +11,7 @@ use patch_geometry::Vec3;
 use stitch_projection::Edge;
 
 // A span for each axis.
-#[derive(Drop)]
+#[derive(Clone, Copy)]
 pub struct Bounds {
     pub x: Span,
     pub y: Span,

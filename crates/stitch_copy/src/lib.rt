@@ -1,4 +1,5 @@
 // The stitched body put into the second slices: written, or copied if it has no new vertex.
+#![tactic(auto)]
 
 mod copy;
 mod put;

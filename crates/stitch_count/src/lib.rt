@@ -1,4 +1,5 @@
 // The splits of a body counted: the work area made ready, and every triangle's splits found.
+#![tactic(auto)]
 
 mod count;
 mod ordering;

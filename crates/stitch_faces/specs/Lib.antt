@@ -2,5 +2,5 @@
 pub mod Faces
 pub mod Places
 pub mod Unsplit
-pub mod StitchedFaces
 pub mod Claims
+pub mod StitchedFaces

@@ -1,4 +1,5 @@
 // A row's indices after stitching: a stretch of the list that holds them, and a copy of it.
+#![tactic(auto)]
 
 mod faces;
 

@@ -7,7 +7,7 @@ ghost use Rattle.stitch_fans.specs.FanSteps.{picked, edge_numbers, Held, PushRoo
 use stitch_splits::EDGE_STEP;
 
 // The fan so far: where its next index goes, the vertex pushed last, and whether there was one.
-#[derive(Drop)]
+#[derive(Clone, Copy)]
 struct Fan {
     o: usize,
     last: u32,

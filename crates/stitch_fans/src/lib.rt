@@ -1,4 +1,5 @@
 // The fan of a split triangle written to the stitched body.
+#![tactic(auto)]
 
 mod fan;
 

@@ -1,4 +1,5 @@
 // Where a point projects on an edge, strictly between its ends, and how far off it is.
+#![tactic(auto)]
 
 ghost use Rattle.std.specs.Prelude.{◌≡◌};
 ghost use Rattle.stitch_feet.specs.Answers.{footing, projected};
@@ -8,21 +9,21 @@ use patch_geometry::Vec3;
 use stitch_projection::{Edge, Hit};
 
 // The projection parameter, and the way from the projection to the point.
-#[derive(Drop)]
+#[derive(Clone, Copy)]
 pub struct Foot {
     pub t: f64,
     pub off: Vec3,
 }
 
 // Whether a point projects into an edge, and where.
-#[derive(Drop)]
+#[derive(Clone, Copy)]
 pub enum Footing {
     Outside,
     Inside(Foot),
 }
 
 // Whether a point projects into an edge, and its hit.
-#[derive(Drop)]
+#[derive(Clone, Copy)]
 pub enum Projection {
     Outside,
     Inside(Hit),

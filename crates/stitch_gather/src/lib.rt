@@ -1,4 +1,5 @@
 // Loose points: the corners of triangles with an open edge, listed by key.
+#![tactic(auto)]
 
 mod gather;
 mod stand;

@@ -2,7 +2,6 @@
 pub mod Loose
 pub mod Listed
 pub mod Open
-pub mod Insertions
 pub mod Based
-pub mod LooseLaws
 pub mod Evaluation
+pub mod Insertions

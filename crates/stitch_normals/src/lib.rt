@@ -1,4 +1,5 @@
 // The normal of a point between two vertices.
+#![tactic(auto)]
 
 ghost use Rattle.std.specs.Prelude.{◌≡◌};
 ghost use Rattle.stitch_normals.specs.Answers.{normal_of};
@@ -7,7 +8,7 @@ ghost use Rattle.stitch_projection.specs.Projection.{mixed};
 use patch_geometry::Vec3;
 
 // A normal as a mesh holds it.
-#[derive(Drop)]
+#[derive(Clone, Copy)]
 pub struct Normal {
     pub x: f32,
     pub y: f32,

@@ -19,8 +19,9 @@ use Rattle.edge_uses.specs.Edges.{Use, uses_of}
 use Rattle.edge_uses.specs.Named.{use_name, use_run}
 use Rattle.edge_uses.specs.FirstUsers.{UsersReady, uses_in}
 use Rattle.edge_uses.specs.Area.{uses_end, Layable}
-use Rattle.edge_uses.specs.AreaLaws.{uses_many, points_low, users_ready, uses_there}
-use Rattle.edge_uses.specs.UseLaws.{no_use, Apart, low_uses, get_d_map, length_named, edge_count}
+use Rattle.edge_uses.proofs.AreaLaws.{uses_many, points_low, users_ready, uses_there}
+use Rattle.edge_uses.proofs.UseLaws.{low_uses, get_d_map, length_named, edge_count}
+use Rattle.edge_uses.specs.UseLaws.{no_use, Apart}
 use Rattle.stitch_loose_points.specs.Open.{flags_at, body_uses, flag_of, flag_by, count_in, flag_in, Marked, BodyJoined, UsesCounted, FlagsReady, FlagsSet}
 use Rattle.stitch_open_edges.proofs.FlagLaws.{flag_is}
 

@@ -16,9 +16,9 @@ use Rattle.join_points.specs.Rules.{rule_of, words_of, JoinedPoints}
 use Rattle.edge_uses.specs.Named.{use_name, use_run, row_uses, BodyReady}
 use Rattle.edge_uses.specs.FirstUsers.{UsersReady, FirstUsers, uses_in}
 use Rattle.edge_uses.specs.Counted.{CountReady, Counted}
-use Rattle.edge_uses.specs.UseLaws.{length_named}
+use Rattle.edge_uses.proofs.UseLaws.{length_named}
 use Rattle.edge_uses.specs.Area.{RunsListed}
-use Rattle.edge_uses.specs.AreaLaws.{count_ready, uses_many, runs_ready, runs_there}
+use Rattle.edge_uses.proofs.AreaLaws.{count_ready, uses_many, runs_ready, runs_there}
 use Rattle.stitch_loose_points.specs.Open.{Joinable, BodyJoined, UsesCounted}
 
 -- ---- vertices and rows

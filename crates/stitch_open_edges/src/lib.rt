@@ -1,4 +1,5 @@
 // Open edges, marked by a flag for each use.
+#![tactic(auto)]
 
 mod open;
 

@@ -4,5 +4,5 @@ pub mod Words
 pub mod BitOrder
 pub mod Spots
 pub mod Inserted
-pub mod SortedEntries
 pub mod RankedLaws
+pub mod SortedEntries

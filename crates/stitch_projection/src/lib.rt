@@ -1,4 +1,5 @@
 // Edges and hits on them, and an edge made; where a point projects, when it is within the sag and how normals are mixed is defined in specs/.
+#![tactic(auto)]
 
 ghost use Rattle.std.specs.Prelude.{◌≡◌};
 ghost use Rattle.stitch_projection.specs.Projection.{edge_of};
@@ -6,7 +7,7 @@ ghost use Rattle.stitch_projection.specs.Projection.{edge_of};
 use patch_geometry::Vec3;
 
 // An edge from a point to another: its start, the way along it, and its squared length.
-#[derive(Drop)]
+#[derive(Clone, Copy)]
 pub struct Edge {
     pub start: Vec3,
     pub along: Vec3,
@@ -14,7 +15,7 @@ pub struct Edge {
 }
 
 // Where a point projects on an edge, and its distance from there.
-#[derive(Drop)]
+#[derive(Clone, Copy)]
 pub struct Hit {
     pub t: f64,
     pub distance: f64,

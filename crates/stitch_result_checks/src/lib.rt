@@ -1,4 +1,5 @@
 // Checks 33 and 32 of the result of stitching.
+#![tactic(auto)]
 
 mod sizes;
 

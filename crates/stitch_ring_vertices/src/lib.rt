@@ -1,4 +1,5 @@
 // The positions and normals of a split triangle's new vertices written to the stitched body.
+#![tactic(auto)]
 
 mod vertices;
 

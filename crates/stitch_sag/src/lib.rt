@@ -1,4 +1,5 @@
 // Whether a point projects into an edge within the sag; a root is taken only where the square of the distance leaves it open.
+#![tactic(auto)]
 
 ghost use Rattle.std.specs.Prelude.{◌≡◌};
 ghost use Rattle.stitch_sag.specs.Beyond.{Beyond, Ruled};

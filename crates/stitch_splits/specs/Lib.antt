@@ -5,8 +5,7 @@ pub mod Found
 pub mod SideLaws
 pub mod Filters
 pub mod Cells
+pub mod Evaluation
 pub mod FoundPoints
 pub mod Places
 pub mod Sorted
-pub mod FoundLaws
-pub mod Evaluation

@@ -1,4 +1,5 @@
 // What finding the points that split a triangle looks at: the triangle's edges, and where lists and flags stand.
+#![tactic(auto)]
 
 mod finder;
 mod sides;

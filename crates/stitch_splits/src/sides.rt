@@ -6,7 +6,7 @@ ghost use Rattle.stitch_splits.specs.Found.{side_of};
 use stitch_projection::Edge;
 
 // An edge of a triangle, the names of its ends, and whether it is open.
-#[derive(Drop)]
+#[derive(Clone, Copy)]
 pub struct TriangleEdge {
     pub edge: Edge,
     pub start: u64,
@@ -15,7 +15,7 @@ pub struct TriangleEdge {
 }
 
 // The edges from corner 0, 1 and 2.
-#[derive(Drop)]
+#[derive(Clone, Copy)]
 pub struct Sides {
     pub first: TriangleEdge,
     pub second: TriangleEdge,

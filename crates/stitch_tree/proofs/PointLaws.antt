@@ -9,7 +9,8 @@ use lib.Ieee.{Float}
 use Rattle.patch_geometry.specs.declared.Vec3.{Vec3}
 use Rattle.stitch_boxes.specs.declared.Bounds.{Bounds}
 use Rattle.stitch_boxes.specs.Boxes.{Within, empty_box, point_box, hull_v}
-use Rattle.stitch_boxes.specs.Points.{Point, BoxEnds, empty_box_lem, point_box_lem, hull_box, point_within, within_left, within_right}
+use Rattle.stitch_boxes.proofs.Points.{empty_box_lem, point_box_lem, hull_box, point_within, within_left, within_right}
+use Rattle.stitch_boxes.specs.Points.{Point, BoxEnds}
 use Rattle.lists.specs.Stretches.{front_at}
 use Rattle.stitch_tree.specs.Nodes.{point_of, PointHeld, Pointed, PointsBounded}
 

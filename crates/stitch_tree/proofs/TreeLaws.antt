@@ -11,7 +11,8 @@ use lib.Pow.{pow_pos, pow_mono, shr_le}
 use lib.Ieee.{Float}
 use Rattle.patch_geometry.specs.declared.Vec3.{Vec3}
 use Rattle.stitch_boxes.specs.Boxes.{Within}
-use Rattle.stitch_boxes.specs.Points.{Point, BoxEnds, hull_box, within_left, within_right}
+use Rattle.stitch_boxes.proofs.Points.{hull_box, within_left, within_right}
+use Rattle.stitch_boxes.specs.Points.{Point, BoxEnds}
 use Rattle.lists.specs.Stretches.{stretch_kept, front_at, front_less, rest_at, rest_less}
 use Rattle.slice_pairs.specs.Rearranged.{Rearranged}
 use Rattle.stitch_tree.specs.Nodes.{point_of, box_at, Pointed, LeavesReady, LeavesBounded, NodesReady, NodesBounded}

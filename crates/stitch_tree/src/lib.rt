@@ -1,4 +1,5 @@
 // Loose points ordered so that blocks of them lie close together, and the boxes of the blocks.
+#![tactic(auto)]
 
 mod boxes;
 mod order;

@@ -14,7 +14,7 @@ use Rattle.patch_geometry.specs.Geometry.{point_at}
 use Rattle.stitch_projection.specs.declared.Edge.{Edge}
 use Rattle.stitch_projection.specs.Projection.{edge_of, within_sag}
 use Rattle.stitch_boxes.specs.Boxes.{far, Within}
-use Rattle.stitch_boxes.specs.Points.{passed_over}
+use Rattle.stitch_boxes.proofs.Points.{passed_over}
 use Rattle.stitch_tree.specs.Nodes.{box_at, point_of}
 use Rattle.stitch_tree.specs.Kept.{box_kept}
 use Rattle.stitch_splits.specs.declared.sides.TriangleEdge.{TriangleEdge}

@@ -22,7 +22,7 @@ use Rattle.stitch_splits.specs.Found.{side_of, found_count, triangle_found, tria
 use Rattle.stitch_pairs.specs.FoundPairs.{ranked_from, found_pairs, entry_of_pair}
 use Rattle.stitch_pairs.specs.Inserted.{insert_numbers, inserted_rises, inserted_same}
 use Rattle.stitch_pairs.specs.Words.{KeptInOrder}
-use Rattle.stitch_pairs.specs.SortedEntries.{sorted_entries}
+use Rattle.stitch_pairs.proofs.SortedEntries.{sorted_entries}
 use Rattle.stitch_pairs.specs.RankedLaws.{found_same, pairs_same}
 use Rattle.stitch_triangle.specs.Triangle.{is_found, Ordered, FoundIn, FindOn, Splittable, Split}
 use Rattle.stitch_triangle.proofs.SearchLaws.{ordered_kept}

@@ -1,4 +1,5 @@
 // The points that split a triangle: found by edge among the loose vertices, placed and kept.
+#![tactic(auto)]
 
 mod finding;
 mod placing;

@@ -12,7 +12,7 @@ use stitch_projection::Hit;
 use stitch_splits::Sides;
 
 // An edge, the parameter along it, and the distance from it.
-#[derive(Drop)]
+#[derive(Clone, Copy)]
 pub struct Placing {
     pub e: u64,
     pub t: f64,
@@ -20,7 +20,7 @@ pub struct Placing {
 }
 
 // Whether a point projects into an edge of the triangle, and where it is placed.
-#[derive(Drop)]
+#[derive(Clone, Copy)]
 pub enum Place {
     Nowhere,
     On(Placing),

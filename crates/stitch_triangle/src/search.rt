@@ -37,7 +37,7 @@ const BOX: usize = 6;
 const FINDER_STEP: u64 = 274877906944;
 
 // How many points were found, and how many pairs there are.
-#[derive(Drop)]
+#[derive(Clone, Copy)]
 pub struct Tally {
     pub found: u64,
     pub placed: usize,

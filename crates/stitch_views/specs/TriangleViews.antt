@@ -17,7 +17,7 @@ use Rattle.stitch_splits.specs.Entries.{Entry}
 use Rattle.stitch_splits.specs.Found.{edge_from, sides_from, triangle_found, triangle_kept}
 use Rattle.stitch_splits.specs.FoundPoints.{Distinct}
 use Rattle.stitch_splits.specs.Places.{side_at, placed_of}
-use Rattle.stitch_splits.specs.FoundLaws.{found_is, kept_is}
+use Rattle.stitch_splits.proofs.FoundLaws.{found_is, kept_is}
 use Rattle.stitch_rings.specs.Rings.{fan, fan_go, coordinates_at, new_positions, new_normals, start_of, end_of, numbers_of, edges_of, ring_after}
 use Rattle.stitch_definition.specs.StitchedBody.{new_normal, coordinates, ring}
 use Rattle.stitch_count.specs.Views.{edge_at, sides_at, View, view_of}

@@ -193,7 +193,7 @@ module _ (sag : Float) (ps ns : List Float) (nms gs : List ℕ) (d : Distinct ps
       let n = r.indices in
       let long : length (take n is) ≡ n = length-take-le n is (omega arith) in
       let here = patch_is {ns = ns} {base = base} r (take (3 * v) qs) (take (3 * v) ts) (take n is) (points_from ns base v ts g.normals) (first_seen r rs is g long h) in
-      let rest = body_patches rs (drop n is) (begun_rest g v n (length (take n is)) long) (omega (arith, length-drop n is)) (inside_rest r rs is h) in
+      let rest = body_patches {base = base + r.vertices} rs (drop n is) (begun_rest g v n (length (take n is)) long) (omega (arith, length-drop n is)) (inside_rest r rs is h) in
       λ k. here k ∷ rest k
 
   -- as many points split the triangles
@@ -208,7 +208,7 @@ module _ (sag : Float) (ps ns : List Float) (nms gs : List ℕ) (d : Distinct ps
       let n = r.indices in
       let long : length (take n is) ≡ n = length-take-le n is (omega arith) in
       let here = row_found (first_seen r rs is g long h) in
-      let rest = body_found rs (drop n is) (begun_rest g v n (length (take n is)) long) (omega (arith, length-drop n is)) (inside_rest r rs is h) in
+      let rest = body_found {base = base + r.vertices} rs (drop n is) (begun_rest g v n (length (take n is)) long) (omega (arith, length-drop n is)) (inside_rest r rs is h) in
       λ k. here k + rest k
 
 -- ---- the laws

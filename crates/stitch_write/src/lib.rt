@@ -1,4 +1,5 @@
 // The stitched body written to the second slices.
+#![tactic(auto)]
 
 mod table;
 mod write;

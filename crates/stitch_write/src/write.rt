@@ -9,7 +9,7 @@ use stitch_splits::Finder;
 use stitch_triangle::Tally;
 
 // Where the written vertices and indices end.
-#[derive(Drop)]
+#[derive(Clone, Copy)]
 pub struct Ends {
     pub vertices: usize,
     pub indices: usize,

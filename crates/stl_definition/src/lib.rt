@@ -1,14 +1,15 @@
 // What the writer and the reader of STL files answer; both calls are defined in specs/.
+#![tactic(auto)]
 
 // How long the written file is, or the refusal's number.
-#[derive(Drop)]
+#[derive(Clone, Copy)]
 pub enum StlWritten {
     Done(u64),
     Refused(u32),
 }
 
 // How many vertices were read, which are as many as the indices; or the refusal's number.
-#[derive(Drop)]
+#[derive(Clone, Copy)]
 pub enum StlRead {
     Done(u32),
     Refused(u32),

@@ -15,7 +15,7 @@ use Rattle.body_rows.specs.Body.{Patch, first_failing}
 use Rattle.mesh_acceptance.specs.Acceptance.{Accepted, accepted_vertices, accepted_indices}
 use Rattle.mesh_layout.specs.Mesh.{vertices_of, Laid, laid_from, materials_of, run_of, runs_of}
 use Rattle.mesh_layout.specs.LaidLaws.{laid_total}
-use Rattle.mesh_layout.specs.RunsLong.{runs_long}
+use Rattle.mesh_layout.proofs.RunsLong.{runs_long}
 use Rattle.body_patch_checks.specs.PatchTests.{not_finite}
 use Rattle.stl_definition.specs.Write.{Held, in_two, mesh_checks}
 use Rattle.stl_definition.specs.TestLaws.{first_not, rest_not, none_passes, neither}

@@ -1,4 +1,5 @@
 // An STL file read into one row of lent slices.
+#![tactic(auto)]
 
 mod corners;
 mod failing;

@@ -1,4 +1,5 @@
 // The file of a mesh written to a lent slice.
+#![tactic(auto)]
 
 mod bytes;
 mod facet;

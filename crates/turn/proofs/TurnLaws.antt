@@ -16,7 +16,7 @@ use Rattle.turn_definition.specs.Orient.{refuse_turn, turn_of}
 use Rattle.turn_definition.specs.Answers.{left, left_done, answered, turn_done}
 use Rattle.turn_volume_rule.specs.Exact.{F32s}
 use Rattle.turn_volume_rule.specs.VolumeRule.{KeepsVolume}
-use Rattle.turn_volume_rule.specs.Rule.{volume_kept}
+use Rattle.turn_volume_rule.proofs.Rule.{volume_kept}
 
 module _ (table : List ℕ) (ps ns : List Float) (is W : List ℕ) {refusal : ℕ} (f : refusal ≡ first_failing (body_checks table ps ns is (length W))) where
   -- a body that no check refuses has passed them

@@ -1,4 +1,5 @@
 // turn: the rows of a body turned to agree, where they stand.
+#![tactic(auto)]
 
 ghost use Rattle.std.specs.Prelude.{◌≡◌};
 ghost use Rattle.point_rules.specs.Points.{key};

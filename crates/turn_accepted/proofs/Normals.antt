@@ -8,7 +8,7 @@ use lib.Ieee.{Float}
 use Rattle.body_rows.specs.Body.{Row, Patch, patches_of}
 use Rattle.edge_uses.specs.Seen.{seen}
 use Rattle.turn_definition.specs.Orient.{walks_of}
-use Rattle.turn_definition.specs.Seen.{walks_seen}
+use Rattle.turn_definition.proofs.Seen.{walks_seen}
 
 -- a patch without its normals
 abbrev bare : Patch → Patch

@@ -1,4 +1,5 @@
 // An accepted body turned: coloured, coloured rows reversed, the work area cleared.
+#![tactic(auto)]
 
 ghost use Rattle.std.specs.Prelude.{◌≡◌, length};
 ghost use Rattle.body_checks.specs.Accepted.{Passed};

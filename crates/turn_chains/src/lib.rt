@@ -1,4 +1,5 @@
 // Pairs of rows chained by row in the work area (turn_walk/specs/Area.antt names where each part of it stands).
+#![tactic(auto)]
 
 ghost use Rattle.std.specs.Prelude.{◌≡◌, ◌+◌, ◌*◌};
 ghost use Rattle.turn_walk.specs.Uses.{far};

@@ -1,4 +1,5 @@
 // The rows of a body coloured: its uses laid out, its groups walked, measured and inverted.
+#![tactic(auto)]
 
 ghost use Rattle.turn_colouring.specs.Coloured.{Coloured};
 ghost use Rattle.edge_uses.specs.Area.{AreaReady};

@@ -1,4 +1,5 @@
 // The colours of rows in the work area, and a group's colours inverted (turn_walk/specs/Area.antt names where each part of it stands).
+#![tactic(auto)]
 
 ghost use Rattle.std.specs.Prelude.{◌≡◌, ◌+◌, ◌-◌, ◌*◌, ◌<◌, ◌≤◌, length, get_or};
 ghost use Rattle.turn_walk.specs.Walk.{unvisited, opposite};

@@ -4,7 +4,6 @@ pub mod Inversion
 pub mod Groups
 pub mod Reversal
 pub mod Orient
-pub mod Seen
 pub mod Answers
 pub mod Evaluation
 pub mod Claims

@@ -1,4 +1,5 @@
 // The groups of a body: walked, measured, inverted if their volume says so.
+#![tactic(auto)]
 
 mod settling;
 

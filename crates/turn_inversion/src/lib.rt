@@ -1,4 +1,5 @@
 // The volume of a group, and whether its colours are inverted.
+#![tactic(auto)]
 
 mod volume;
 

@@ -1,6 +1,7 @@
 // A row met on the walk of a group, and the row that it starts from: queued and coloured if it has no colour yet (turn_walk/specs/Area.antt names where each
 // part of
 // the work area stands).
+#![tactic(auto)]
 
 ghost use Rattle.std.specs.Prelude.{◌+◌};
 ghost use Rattle.turn_walk.specs.Walk.{meet};
@@ -9,7 +10,7 @@ ghost use Rattle.turn_walk.specs.Group.{RootAt, Started, Stage, MeetAt, walk_of}
 use turn_walk::{COLOURS, PLAIN, UNVISITED, USE_REGIONS};
 
 // The rows found so far, and how often a pair that contradicts colours was met.
-#[derive(Drop)]
+#[derive(Clone, Copy)]
 pub struct Tally {
     pub found: usize,
     pub against: u64,

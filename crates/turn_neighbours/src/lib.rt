@@ -1,6 +1,7 @@
 // What the pair of a use leads to on the walk of a group: the row across it, the colour wanted there, and the next pair of a row (turn_walk/specs/Area.antt
 // names
 // where each part of the work area stands).
+#![tactic(auto)]
 
 ghost use Rattle.std.specs.Prelude.{◌≡◌, cond, ◌-◌};
 ghost use Rattle.turn_walk.specs.Walk.{opposite};

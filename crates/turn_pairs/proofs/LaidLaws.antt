@@ -18,8 +18,9 @@ use Rattle.edge_uses.specs.Named.{use_name, use_run, use_row, row_numbers}
 use Rattle.edge_uses.specs.FirstUsers.{UsersReady, uses_in}
 use Rattle.edge_uses.specs.RowUses.{numbers_below}
 use Rattle.edge_uses.specs.Area.{uses_end, Layable, UsesListed}
-use Rattle.edge_uses.specs.AreaLaws.{uses_many, rows_there, points_low, users_ready, uses_there}
-use Rattle.edge_uses.specs.UseLaws.{in_shell, name_by, no_use, Apart, uses_in_lem, low_uses, shells_uses, length_named}
+use Rattle.edge_uses.proofs.AreaLaws.{uses_many, rows_there, points_low, users_ready, uses_there}
+use Rattle.edge_uses.proofs.UseLaws.{uses_in_lem, low_uses, shells_uses, length_named}
+use Rattle.edge_uses.specs.UseLaws.{in_shell, name_by, no_use, Apart}
 use Rattle.turn_walk.specs.Uses.{Uses, pairs_by, own}
 use Rattle.turn_walk.specs.Area.{uses_of, Sound}
 use Rattle.turn_pairs.specs.PairLaws.{listed, pairs_are}

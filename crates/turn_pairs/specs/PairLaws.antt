@@ -14,7 +14,8 @@ use Rattle.join_definition.specs.Representatives.{rep_below, rep_name, joined_at
 use Rattle.edge_uses.specs.Edges.{Use, skipped, first_user}
 use Rattle.edge_uses.specs.Named.{run_of, use_run, use_row}
 use Rattle.edge_uses.specs.NameLaws.{SameEnds, ends_same, run_equal, run_apart}
-use Rattle.edge_uses.specs.UseLaws.{no_use, name_by, Apart, apart_tells, first_at, get_d_map, length_named}
+use Rattle.edge_uses.proofs.UseLaws.{apart_tells, first_at, get_d_map, length_named}
+use Rattle.edge_uses.specs.UseLaws.{no_use, name_by, Apart}
 use Rattle.turn_walk.specs.Walk.{Pair}
 use Rattle.turn_walk.specs.Uses.{Uses, own, far, records, agrees, pair_at, pairs_by, records_skip, records_same, records_yes, agrees_yes, agrees_not, pairs_match}
 use Rattle.turn_definition.specs.Pairs.{pair_of, pairs_of}

@@ -1,4 +1,5 @@
 // The uses of a body's edges laid out for the walk: points joined by key, rows by shell, and each use with its first use, row and run.
+#![tactic(auto)]
 
 mod shells;
 mod uses;

@@ -1,4 +1,5 @@
 // Coloured rows reversed where they stand.
+#![tactic(auto)]
 
 mod reverse;
 

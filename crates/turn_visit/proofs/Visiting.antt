@@ -7,7 +7,8 @@ use native.Mathlib.Omega.{arith}
 use native.Mathlib.Decide.{ℕ_discrete}
 use lib.ListN.{length, get_or}
 use Rattle.turn_walk.specs.Walk.{opposite, Neighbour, Walk, meet, neighbours, visit}
-use Rattle.turn_walk.specs.Uses.{Uses, agrees, pairs_from, touches, across, across_from, across_agreeing, neighbours_across}
+use Rattle.turn_walk.specs.Uses.{Uses, agrees, pairs_from, touches, across, across_from, across_agreeing}
+use Rattle.turn_walk.proofs.Uses.{neighbours_across}
 use Rattle.turn_walk.specs.Area.{WrittenBetween, uses_of}
 use Rattle.turn_walk.specs.Chains.{link_from, across_on, UseAt, Paired, On, LinkAt}
 use Rattle.turn_walk.specs.Group.{walk_of, UnderWay, Stage, MeetAt, WantAt, VisitAt, visit_of}

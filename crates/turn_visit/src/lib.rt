@@ -1,4 +1,5 @@
 // The walk of one group over the chained pairs, in the work area (turn_walk/specs/Area.antt names where each part of it stands).
+#![tactic(auto)]
 
 ghost use Rattle.std.specs.Prelude.{◌+◌};
 ghost use Rattle.turn_walk.specs.Group.{Rooted, GroupWalked, Stage, VisitAt, visit_of};

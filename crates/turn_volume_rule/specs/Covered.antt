@@ -13,7 +13,7 @@ use Rattle.turn_definition.specs.Groups.{Walks, Group, add_group, walks_from}
 use Rattle.turn_definition.specs.Inversion.{patch_at, volume_from, inverts}
 use Rattle.turn_definition.specs.Orient.{walks_of}
 use Rattle.turn_walk.specs.Walk.{Pair, Neighbour, Walk, unvisited, plain, opposite, neighbours, meet, visit, walk, inverted}
-use Rattle.turn_volume_rule.specs.Sign as All
+use Rattle.turn_volume_rule.specs.Sign as Sign
 use Rattle.turn_volume_rule.specs.Sign.{All}
 use Rattle.turn_volume_rule.specs.Walks.{inverted_other}
 use Rattle.turn_volume_rule.specs.VolumeRule as Stated
@@ -39,13 +39,13 @@ some_last (x ∷ xs) g h = Stated.that (some_last xs g h)
 
 -- it is, or no item is n
 found : (n : ℕ) (xs : List ℕ) → In n xs ⊎ All (λ k. k ≡ n → ⊥) xs
-found n [] = inr All.none
+found n [] = inr Sign.none
 found n (x ∷ xs) = go (eqb x n) refl (found n xs)
   where
     go : (b : Bool) → eqb x n ≡ b → In n xs ⊎ All (λ k. k ≡ n → ⊥) xs → In n (x ∷ xs) ⊎ All (λ k. k ≡ n → ⊥) (x ∷ xs)
     go true e h = inl (subst (λ (k : ℕ). In n (k ∷ xs)) (sym (eqb-true x n e)) Stated.here)
     go false e (inl h) = inl (Stated.there h)
-    go false e (inr h) = inr (All.more (eqb-false x n e) h)
+    go false e (inr h) = inr (Sign.more (eqb-false x n e) h)
 
 -- ---- a walk keeps its root, and gives colours to its rows only
 

@@ -12,7 +12,7 @@ use Rattle.turn_definition.specs.Groups.{Walks, Group, add_group, walks_from}
 use Rattle.turn_definition.specs.Inversion.{patch_at, volume_from, inverts}
 use Rattle.turn_definition.specs.Orient.{walks_of}
 use Rattle.turn_walk.specs.Walk.{Pair, Walk, unvisited, plain, opposite, walk, inverted}
-use Rattle.turn_volume_rule.specs.Sign as All
+use Rattle.turn_volume_rule.specs.Sign as Sign
 use Rattle.turn_volume_rule.specs.Sign.{All, Settled}
 use Rattle.turn_volume_rule.specs.Pairs.{all_append, all_map, Each, last, then, Ends, uses_each, pairs_ends}
 use Rattle.turn_volume_rule.specs.Walks.{two_opposite, two_pos, Found, Walking, walk_walking, start_walking, length_inverted, inverted_other, inverted_rows}
@@ -98,8 +98,8 @@ module _ (patches : List Patch) where
 
     zip : (rows : List ℕ) (cols final : List ℕ) → All (Found (Taking patches) (length patches) in_range before cols) rows → All (λ n. get_or final n unvisited ≡ opposite (get_or cols n unvisited)) rows
         → All (Settled patches cols final true) rows
-    zip [] cols final a b = All.none
-    zip (n ∷ ns) cols final (All.more f a) (All.more e b) = All.more (record { row = f.is.row; two = f.two; left = e }) (zip ns cols final a b)
+    zip [] cols final a b = Sign.none
+    zip (n ∷ ns) cols final (Sign.more f a) (Sign.more e b) = Sign.more (record { row = f.is.row; two = f.two; left = e }) (zip ns cols final a b)
 
     end_settled : (b : Bool) → All (Settled patches w.colours (end b) b) w.rows
     unfolding end
@@ -115,7 +115,7 @@ module _ (patches : List Patch) where
         record {
           size = end_size b;
           groups = all_append (all_map (keep patches before (end b) (end_kept b)) o)
-              (All.more (record { rows = w.rows; cols = w.colours; is = refl; settled = end_settled b; taking = all_map (λ n f. f.is) g.rows; few = omega (arith, g.count) }) All.none);
+              (Sign.more (record { rows = w.rows; cols = w.colours; is = refl; settled = end_settled b; taking = all_map (λ n f. f.is) g.rows; few = omega (arith, g.count) }) Sign.none);
         }
 
   from_state : (pairs : List Pair) → All (Ends (Taking patches)) pairs → (n : ℕ) (rest : List Patch) (s : Walks) → Each (Taking patches) n rest → State patches s
@@ -155,4 +155,4 @@ module _ (patches : List Patch) where
   unfolding walks_of
   groups_ok names =
       from_state _ (pairs_ends (Taking patches) _ (uses_each (Taking patches) (λ r. r.shell) 0 names patches (each_row patches))) 0 patches _ (each_row patches)
-      (record { size = length-replicate (length patches) unvisited; groups = All.none })
+      (record { size = length-replicate (length patches) unvisited; groups = Sign.none })

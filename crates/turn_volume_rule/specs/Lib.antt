@@ -7,13 +7,12 @@ pub mod Premise
 pub mod Ints
 pub mod Det
 pub mod Sums
-pub mod Bound
 pub mod Sign
-pub mod Outward
 pub mod Accepted
 pub mod Pairs
 pub mod Walks
 pub mod Groups
 pub mod Output
-pub mod Rule
 pub mod Covered
+pub mod Outward
+pub mod Rule

@@ -22,7 +22,7 @@ use Rattle.turn_definition.specs.Inversion.{patch_at, volume_from}
 use Rattle.turn_walk.specs.Walk.{coloured, unvisited}
 use Rattle.turn_volume_rule.specs.Exact.{whole_at, exact_det, exact_triangles, exact_rows, triangles_in}
 use Rattle.turn_volume_rule.specs.Ints.{Is, is_pos, is_add}
-use Rattle.turn_volume_rule.specs.Sign as All
+use Rattle.turn_volume_rule.specs.Sign as Sign
 use Rattle.turn_volume_rule.specs.Sign.{All}
 use Rattle.turn_volume_rule.specs.Det.{Corner, corners_d, whole_det, corners_near}
 
@@ -89,7 +89,7 @@ module _ (M : ℕ) (fine : Fine M) where
   sum_near ps flip [] {n} {x} {z} g r l = rw (add-zero, +ℤ_idr) r
   sum_near ps flip (a ∷ []) {n} {x} {z} g r l = rw (add-zero, +ℤ_idr) r
   sum_near ps flip (a ∷ b ∷ []) {n} {x} {z} g r l = rw (add-zero, +ℤ_idr) r
-  sum_near ps flip (a ∷ b ∷ c ∷ is) {n} {x} {z} (All.more A (All.more B (All.more C g))) r l =
+  sum_near ps flip (a ∷ b ∷ c ∷ is) {n} {x} {z} (Sign.more A (Sign.more B (Sign.more C g))) r l =
       let t : Triangle = record { a = a; b = b; c = c } in
       let e : n + suc (length (triangles_of is)) ≡ n + 1 + length (triangles_of is) = omega arith in
       let o = sum_near ps flip is g (at_sum (λ c d c' d' p q. patch_more v n p q (omega arith) fine.three) r (triangle ps flip A B C)) (omega arith) in
@@ -127,7 +127,7 @@ module _ (M : ℕ) (fine : Fine M) where
       → TotalAt v (t + triangles_in patches rows) (volume_from patches colours x rows) (z +ℤ exact_rows patches rows (map (λ n. get_or colours n unvisited) rows))
   unfolding triangles_in volume_from exact_rows
   rows_near patches colours [] {t} {x} {z} g r l = rw (add-zero, +ℤ_idr) r
-  rows_near patches colours (n ∷ ns) {t} {x} {z} (All.more w g) r l =
+  rows_near patches colours (n ∷ ns) {t} {x} {z} (Sign.more w g) r l =
       let p = patch_at patches n in
       let flip = eqb (get_or colours n unvisited) coloured in
       let k = length (triangles_of p.indices) in

@@ -7,7 +7,7 @@ use Rattle.std.proofs.Math.Bool.{true, false}
 use Rattle.std.proofs.Math.ListN.{get_or, set}
 use Rattle.turn_walk.specs.Walk.{Pair, Walk, Neighbour, unvisited, plain, opposite, meet, neighbours, visit, walk, inverted}
 use Rattle.turn_walk.specs.Steps.{walk_stop}
-use Rattle.turn_volume_rule.specs.Sign as All
+use Rattle.turn_volume_rule.specs.Sign as Sign
 use Rattle.turn_volume_rule.specs.Sign.{All}
 use Rattle.turn_volume_rule.specs.Pairs.{all_append, all_at, all_map, Ends, neighbours_rows}
 
@@ -53,8 +53,8 @@ pub data Distinct : List ℕ → Type 0 where
   fresh : {n : ℕ} {ns : List ℕ} → All (λ k. k ≡ n → ⊥) ns → Distinct ns → Distinct (n ∷ ns)
 
 append_fresh : (ns : List ℕ) (m : ℕ) → All (λ k. k ≡ m → ⊥) ns → Distinct ns → Distinct (ns ++ m ∷ [])
-append_fresh [] m g d = fresh All.none none
-append_fresh (n ∷ ns) m (All.more h g) (fresh f d) = fresh (all_append f (All.more (λ e. h (sym e)) All.none)) (append_fresh ns m g d)
+append_fresh [] m g d = fresh Sign.none none
+append_fresh (n ∷ ns) m (Sign.more h g) (fresh f d) = fresh (all_append f (Sign.more (λ e. h (sym e)) Sign.none)) (append_fresh ns m g d)
 
 module _ (P : ℕ → Type 0) (N : ℕ) (bounded : (n : ℕ) → P n → n < N) where
   -- a row found: it had no colour before, and has one
@@ -88,7 +88,7 @@ module _ (P : ℕ → Type 0) (N : ℕ) (bounded : (n : ℕ) → P n → n < N) 
       record {
         size = length-set colours m c ∙ w.size;
         rows = all_append (all_map (still before colours m c e) w.rows)
-            (All.more (record { is = p; new = b; two = subst (λ (k : ℕ). Two k) (sym (get_or-set_same colours m c unvisited l)) t }) All.none);
+            (Sign.more (record { is = p; new = b; two = subst (λ (k : ℕ). Two k) (sym (get_or-set_same colours m c unvisited l)) t }) Sign.none);
         distinct = append_fresh rows m (all_map (apart before colours m e) w.rows) w.distinct;
         others = λ n h. get_or-set_other colours m n c unvisited (λ q. differ n h b q) ∙ w.others n h;
         count = omega (arith, w.count, length-append rows (m ∷ []), zeros_set colours m c l e (two_pos c t));
@@ -119,7 +119,7 @@ module _ (P : ℕ → Type 0) (N : ℕ) (bounded : (n : ℕ) → P n → n < N) 
   visit_walking : (before : List ℕ) (c : ℕ) (ms : List Neighbour) (w : Walk) → All (λ (m : Neighbour). P m.row) ms → Two c → Walking before w → Walking before (visit c ms w)
   unfolding visit
   visit_walking before c [] w a t g = g
-  visit_walking before c (m ∷ ms) w (All.more p a) t g =
+  visit_walking before c (m ∷ ms) w (Sign.more p a) t g =
       visit_walking before c ms (meet m.row (cond m.agreeing c (opposite c)) w) a t (meet_walking before m.row (cond m.agreeing c (opposite c)) w p (pick_two m.agreeing c t) g)
 
   pub walk_walking : (before : List ℕ) (pairs : List Pair) (fuel done : ℕ) (w : Walk) → All (Ends P) pairs → Walking before w → Walking before (walk pairs fuel done w)
@@ -168,7 +168,7 @@ module _ (P : ℕ → Type 0) (N : ℕ) (bounded : (n : ℕ) → P n → n < N) 
   pub start_walking : (colours : List ℕ) (n against : ℕ) → length colours ≡ N → P n → get_or colours n unvisited ≡ 0
       → Walking colours (record { rows = n ∷ []; colours = set colours n plain; against = against })
   start_walking colours n against s p e =
-      meet_new colours [] colours against against n plain p (inl refl) (record { size = s; rows = All.none; distinct = none; others = λ k h. refl; count = omega (arith, zeros_le colours, s) }) e
+      meet_new colours [] colours against against n plain p (inl refl) (record { size = s; rows = Sign.none; distinct = none; others = λ k h. refl; count = omega (arith, zeros_le colours, s) }) e
 
 -- ---- inverting
 pub length_inverted : (rows colours : List ℕ) → length (inverted rows colours) ≡ length colours
@@ -179,20 +179,20 @@ length_inverted (n ∷ ns) colours = length_inverted ns (set colours n (opposite
 pub inverted_other : (rows colours : List ℕ) (n : ℕ) → All (λ k. k ≡ n → ⊥) rows → get_or (inverted rows colours) n unvisited ≡ get_or colours n unvisited
 unfolding inverted
 inverted_other [] colours n g = refl
-inverted_other (k ∷ ks) colours n (All.more h g) =
+inverted_other (k ∷ ks) colours n (Sign.more h g) =
     inverted_other ks (set colours k (opposite (get_or colours k unvisited))) n g ∙ get_or-set_other colours k n (opposite (get_or colours k unvisited)) unvisited (λ e. h (sym e))
 
 pub inverted_rows : (rows colours : List ℕ) → Distinct rows → All (λ n. n < length colours) rows → All (λ n. get_or (inverted rows colours) n unvisited ≡ opposite (get_or colours n unvisited)) rows
 unfolding inverted
-inverted_rows [] colours d b = All.none
-inverted_rows (n ∷ ns) colours (fresh f d) (All.more l b) =
+inverted_rows [] colours d b = Sign.none
+inverted_rows (n ∷ ns) colours (fresh f d) (Sign.more l b) =
     let c = opposite (get_or colours n unvisited) in
     let colours' = set colours n c in
-    All.more (inverted_other ns colours' n f ∙ get_or-set_same colours n c unvisited l)
+    Sign.more (inverted_other ns colours' n f ∙ get_or-set_same colours n c unvisited l)
     (both ns (inverted ns colours') colours' f (inverted_rows ns colours' d (all_map (λ k h. subst (λ (j : ℕ). k < j) (sym (length-set colours n c)) h) b)))
   where
     both : (ks : List ℕ) (after colours' : List ℕ) → All (λ k. k ≡ n → ⊥) ks → All (λ k. get_or after k unvisited ≡ opposite (get_or (set colours n (opposite (get_or colours n unvisited))) k unvisited)) ks
         → All (λ k. get_or after k unvisited ≡ opposite (get_or colours k unvisited)) ks
-    both [] after c' g h = All.none
-    both (k ∷ ks) after c' (All.more q g) (All.more e h) =
-        All.more (e ∙ ap (λ (x : ℕ). opposite x) (get_or-set_other colours n k (opposite (get_or colours n unvisited)) unvisited q)) (both ks after c' g h)
+    both [] after c' g h = Sign.none
+    both (k ∷ ks) after c' (Sign.more q g) (Sign.more e h) =
+        Sign.more (e ∙ ap (λ (x : ℕ). opposite x) (get_or-set_other colours n k (opposite (get_or colours n unvisited)) unvisited q)) (both ks after c' g h)

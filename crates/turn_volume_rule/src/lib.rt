@@ -1,1 +1,2 @@
-// The volume rule over the definitions: its statement is specs/VolumeRule.antt, its proof ends in specs/Rule.antt.
+// The volume rule over the definitions: its statement is specs/VolumeRule.antt, its proof ends in proofs/Rule.antt.
+#![tactic(auto)]

@@ -9,7 +9,6 @@ pub mod Steps
 pub mod Links
 pub mod Kept
 pub mod Visited
-pub mod Found
-pub mod Groups
 pub mod Evaluation
 pub mod Claims
+pub mod Found

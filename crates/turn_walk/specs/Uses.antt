@@ -168,44 +168,23 @@ module _ (u : Uses) (i : ℕ) where
 -- ---- the neighbours of a row
 
 -- no pairs lead nowhere
-neighbours_none : (x : ℕ) → neighbours x [] ≡ []
+pub neighbours_none : (x : ℕ) → neighbours x [] ≡ []
 unfolding neighbours
 neighbours_none x = refl
 
 -- a pair that starts the list, by the tests of the definition
 module _ (x : ℕ) (p : Pair) (ps : List Pair) where
-  neighbours_first : p.first ≡ x → neighbours x (p ∷ ps) ≡ record { row = p.later; agreeing = p.agreeing } ∷ neighbours x ps
+  pub neighbours_first : p.first ≡ x → neighbours x (p ∷ ps) ≡ record { row = p.later; agreeing = p.agreeing } ∷ neighbours x ps
   unfolding neighbours
   neighbours_first e = rw (eq-eqb p.first x e)
 
-  neighbours_later : (p.first ≡ x → ⊥) → p.later ≡ x → neighbours x (p ∷ ps) ≡ record { row = p.first; agreeing = p.agreeing } ∷ neighbours x ps
+  pub neighbours_later : (p.first ≡ x → ⊥) → p.later ≡ x → neighbours x (p ∷ ps) ≡ record { row = p.first; agreeing = p.agreeing } ∷ neighbours x ps
   unfolding neighbours
   neighbours_later f e = rw (ne_eqb p.first x f, eq-eqb p.later x e)
 
-  neighbours_other : (p.first ≡ x → ⊥) → (p.later ≡ x → ⊥) → neighbours x (p ∷ ps) ≡ neighbours x ps
+  pub neighbours_other : (p.first ≡ x → ⊥) → (p.later ≡ x → ⊥) → neighbours x (p ∷ ps) ≡ neighbours x ps
   unfolding neighbours
   neighbours_other f e = rw (ne_eqb p.first x f, ne_eqb p.later x e)
-
--- The neighbours of row x among the pairs are where the row's pairs lead, in the same order.
-pub neighbours_across : (u : Uses) (x i d : ℕ) → neighbours x (pairs_from u i d) ≡ across_from u x i d
-unfolding pairs_from across_from pair_at across
-neighbours_across u x i zero = neighbours_none x
-neighbours_across u x i (suc d) = go (records u i) refl (ℕ_discrete (far u i) x) (ℕ_discrete (own u i) x) (neighbours_across u x (i + 1) d)
-  where
-    here : Pair
-    here = record { first = far u i; later = own u i; agreeing = agrees u i }
-
-    go : (b : Bool) → records u i ≡ b → Dec (far u i ≡ x) → Dec (own u i ≡ x) → neighbours x (pairs_from u (i + 1) d) ≡ across_from u x (i + 1) d
-        → neighbours x (ahead (cond b (some here) none) (pairs_from u (i + 1) d))
-        ≡ cond (touches u x i) (across u x i ∷ across_from u x (i + 1) d) (across_from u x (i + 1) d)
-    go false e f o ih = rw (touch_none u i x e) ih
-    go true e (yes f) o ih =
-        rw (touch_far u i x e f)
-        (neighbours_first x here (pairs_from u (i + 1) d) f ∙ (λ k. record { row = sym (across_far u i x (λ z. records_apart u i e (z ∙ sym f))) k; agreeing = agrees u i } ∷ ih k))
-    go true e (no f) (yes o) ih =
-        rw (touch_own u i x e o)
-        (neighbours_later x here (pairs_from u (i + 1) d) f o ∙ (λ k. record { row = sym (across_own u i x o) k; agreeing = agrees u i } ∷ ih k))
-    go true e (no f) (no o) ih = rw (touch_other u i x o f) (neighbours_other x here (pairs_from u (i + 1) d) f o ∙ ih)
 
 -- nothing gives nothing
 map_none : {A : Type 0} (f : A → Option Pair) → [] ≡ filter_map f []

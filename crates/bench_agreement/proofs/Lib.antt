@@ -1,0 +1,3 @@
+-- Theorems about the definitions, by subject.
+pub mod Agreement
+pub mod Reading

@@ -1,0 +1,15 @@
+-- `body_patch_checks::patch::any_clamps` meets its contract. The first k numbers were looked at. Assumes nothing.
+use Prim.Native.Nat.{◌-◌}
+use native.Mathlib.Omega.{arith}
+use lib.Ieee.{nan}
+use Rattle.lists.specs.Any.{looked_none, looked_more, looked_all}
+use Rattle.body_patch_checks.proofs.patch.any_clamps.Goals as goal
+
+pub loop-k-init : goal.loop-k-init
+loop-k-init c = looked_none _ _
+
+pub loop-k-preserved : goal.loop-k-preserved
+loop-k-preserved c = looked_more nan c.loop-k.invariant (omega arith) c.clamps-found.ensures
+
+pub returns : goal.returns
+returns c = search looked_all

@@ -1,0 +1,11 @@
+-- `run_row` meets its contract: after each triangle the words of those before it are written. Assumes nothing.
+use Prim.Native.Nat.{◌-◌}
+use Rattle.edge_uses.specs.Named.{use_run}
+use Rattle.edge_use_words.proofs.RowLaws.{Writing}
+use Rattle.edge_use_words.proofs.rows.run_row.Given as goal
+
+abbrev pub invariant-loop-k : goal.invariant-loop-k
+invariant-loop-k l = Writing use_run l.indices l.initial.w l.points l.from l.to l.at 0 l.k l.w
+
+abbrev pub decreases-loop-k : goal.decreases-loop-k
+decreases-loop-k l = l.to - l.k

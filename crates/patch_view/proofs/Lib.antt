@@ -1,0 +1,2 @@
+-- Theorems about the definitions, by subject.
+pub mod Views

@@ -1,0 +1,19 @@
+-- `count_row` meets its contract. Assumes nothing.
+use Rattle.stitch_count.proofs.RowCountLaws.{counting_none, counting_stopped, counting_all, next_ready, counting_more}
+use Prim.Native.Nat.{◌-◌}
+use Rattle.stitch_count.proofs.count.count_row.Goals as goal
+
+pub loop-k-init : goal.loop-k-init
+loop-k-init c = search counting_none
+
+pub returns-then-too_many : goal.returns-then-too_many
+returns-then-too_many c = search counting_stopped
+
+pub count_triangle-r-requires : goal.count_triangle-r-requires
+count_triangle-r-requires c = search next_ready
+
+pub loop-k-preserved : goal.loop-k-preserved
+loop-k-preserved c = search counting_more
+
+pub returns : goal.returns
+returns c = search counting_all

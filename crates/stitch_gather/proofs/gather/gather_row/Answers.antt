@@ -1,0 +1,16 @@
+-- `gather_row` meets its contract. Assumes nothing.
+use Prim.Native.Nat.{◌-◌}
+use Rattle.stitch_gather.proofs.GatherLaws.{gathering_none, gathering_more, gathering_all, row_triangle}
+use Rattle.stitch_gather.proofs.gather.gather_row.Goals as goal
+
+pub loop-k-init : goal.loop-k-init
+loop-k-init c = search gathering_none
+
+pub gather_triangle-found-requires : goal.gather_triangle-found-requires
+gather_triangle-found-requires c = search row_triangle
+
+pub loop-k-preserved : goal.loop-k-preserved
+loop-k-preserved c = search gathering_more
+
+pub returns : goal.returns
+returns c = search gathering_all

@@ -1,0 +1,6 @@
+-- `turn_chains::clear_heads` meets its contract. Assumes nothing.
+use Rattle.turn_chains.proofs.Chaining.{heads_cleared}
+use Rattle.turn_chains.proofs.clear_heads.Goals as goal
+
+pub returns : goal.returns
+returns c = search heads_cleared

@@ -1,0 +1,17 @@
+-- `turn_meet::meet_row` meets its contract, by its two tests. Assumes nothing.
+use Rattle.turn_meet.proofs.Meeting.{meet_new, meet_same, meet_against}
+use lib.ListN.{length-set}
+use native.Mathlib.Omega.{arith}
+use Rattle.turn_meet.proofs.meet_row.Goals as goal
+
+pub bounds-w-colours-then-had-eq-UNVISITED : goal.bounds-w-colours-then-had-eq-UNVISITED
+bounds-w-colours-then-had-eq-UNVISITED c = simp length-set (omega arith)
+
+pub returns-then-had-eq-UNVISITED : goal.returns-then-had-eq-UNVISITED
+returns-then-had-eq-UNVISITED c = search meet_new
+
+pub returns-then-had-c : goal.returns-then-had-c
+returns-then-had-c c = search meet_same
+
+pub returns : goal.returns
+returns c = search meet_against

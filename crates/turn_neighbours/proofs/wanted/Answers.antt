@@ -1,0 +1,19 @@
+-- `turn_neighbours::wanted` meets its contract, by its test. Assumes nothing.
+use Rattle.turn_neighbours.proofs.Across.{run_index, want_not, want_yes}
+use native.Mathlib.Omega.{arith}
+use Rattle.turn_neighbours.proofs.wanted.Goals as goal
+
+pub overflow_add-runs : goal.overflow_add-runs
+overflow_add-runs c = omega (arith, run_index c.requires)
+
+pub offset_bounds-w-runs : goal.offset_bounds-w-runs
+offset_bounds-w-runs c = omega (arith, run_index c.requires)
+
+pub bounds-w-runs : goal.bounds-w-runs
+bounds-w-runs c = search run_index
+
+pub returns-then-w-runs : goal.returns-then-w-runs
+returns-then-w-runs c = search want_not
+
+pub returns : goal.returns
+returns c = search want_yes

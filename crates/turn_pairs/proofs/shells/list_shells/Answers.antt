@@ -1,0 +1,13 @@
+-- `list_shells` meets its contract: the first k numbers are written. Assumes nothing.
+use Prim.Native.Nat.{◌-◌}
+use Rattle.turn_pairs.proofs.ShellLaws.{listing_none, listing_more, listing_all}
+use Rattle.turn_pairs.proofs.shells.list_shells.Goals as goal
+
+pub loop-k-init : goal.loop-k-init
+loop-k-init c = search listing_none
+
+pub loop-k-preserved : goal.loop-k-preserved
+loop-k-preserved c = search listing_more
+
+pub returns : goal.returns
+returns c = search listing_all
