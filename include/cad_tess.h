@@ -279,8 +279,6 @@ typedef char cad_layout_is_the_library_s[sizeof(float) == 4 && sizeof(double) ==
 /*
  * Turns the rows of a body so that neighbours of one shell agree on which side is outside; a group of neighbours whose volume comes
  * out below 0 is inverted. A turned row has corners 1 and 2 of each triangle swapped and its normals negated, where they stand.
- * Neighbours are rows that share an edge, before stitching: against 0 and a closed mesh are not enough, and what cad_report lists of the
- * stitched body tells which faces are still wound against a neighbour; turning the stitched body again then helps.
  *
  *     rows_len CAD_ROW_NUMBERS * F, positions_len 3 * V, normals_len 3 * V, indices_len I,
  *     work_len at least CAD_WORK_WORDS(V, I, F)

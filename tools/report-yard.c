@@ -1,6 +1,5 @@
 /*
- * Adds a finished body to a page over bodies, with the proved library's cad_report, which audits the winding of the stitched body:
- * report_yard ANSWER. On standard input stand the line
+ * Adds a finished body to a page over bodies, with the proved library's cad_report: report_yard ANSWER. On standard input stand the line
  *
  *     (page BODIES ACCEPTED FAILED TRIANGLES VERTICES EMPTY UPSTREAM ESCAPED LISTED)
  *
@@ -430,7 +429,7 @@ static unsigned add(const uint64_t *page)
     if (refusal != 0)
         HOLD("(refused %u)\n", refusal);
     if (!same || getc(answer) != EOF || ferror(answer))
-        fail("the report's reader and the proved program differ");
+        fail("the page's reader and the proved program differ");
     if (refusal != 0)
         return refusal;
     const CadReported reported = report(page);

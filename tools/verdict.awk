@@ -1,7 +1,6 @@
 # What the program's answer to one sheet comes to, as fields parted by tabs:
 #   verdict (usable, unusable, refused or none), refusal, turned, against, split, ok, failed, triangles, edges, open, over, closed, what is wrong in words
-# A body is usable only if its answer is whole, its mesh has triangles and edges, no face failed, nothing contradicts, the mesh is closed, and both triangles of
-# an edge run along it in opposite directions. That the audit of the stitched body lists no face is asked by ./finish.
+# A body is usable only if its answer is whole, its mesh has triangles and edges, no face failed, nothing contradicts, and the mesh is closed.
 # The numbers' meanings are read from README.md, whose name comes first; the answer comes second.
 BEGIN { FS = " "; OFS = "\t" }
 FILENAME == ARGV[1] {
@@ -11,25 +10,13 @@ FILENAME == ARGV[1] {
 { lines++; last = $0 }
 /^\(refused [0-9]+\)$/ { refusal = substr($2, 1, length($2) - 1) }
 /^\(mesh [0-9]+ [0-9]+\)$/ { vertices = $2 + 0; triangles = $3 / 3 }
-/^\(v / { point[vertex_lines++] = $3 " " $4 " " $5 }
-/^\(t / {
-  triangle_lines++
-  run(point[$2], point[$3])
-  run(point[$3], point[$4 + 0])
-  run(point[$4 + 0], point[$2])
-}
+/^\(v / { vertex_lines++ }
+/^\(t / { triangle_lines++ }
 /^\(failed / { failed++ }
 /^\((turned|against|split|ok|edges|open|over|closed) [0-9]+\)$/ { count[substr($1, 2)] = $2 + 0 }
 
 # One more thing that is wrong.
 function wrong(text) { words = words (words == "" ? "" : "; ") text }
-
-# A side of a triangle, from one point to another; two points are one if their bits agree, -0.0 taken as 0.0.
-function run(from, to) {
-  gsub(/80000000/, "00000000", from)
-  gsub(/80000000/, "00000000", to)
-  if (from != to && ++sides[from, to] == 2) alike++
-}
 
 # A number of things, in the singular for one.
 function things(number, one, more) { return number " " (number == 1 ? one : more) }
@@ -60,7 +47,6 @@ END {
     if (failed) wrong(things(failed, "face has failed", "faces have failed"))
     if (count["against"]) wrong("the faces contradict each other (against " count["against"] ")")
     if (triangles > 0 && !count["closed"]) wrong(not_closed())
-    else if (alike) wrong(things(alike, "edge runs", "edges run") " the same way in both triangles")
     print words == "" ? "usable" : "unusable", "", count["turned"], count["against"], count["split"], count["ok"], failed, triangles, count["edges"], \
       count["open"], count["over"], count["closed"], words
   }

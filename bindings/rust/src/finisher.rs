@@ -235,9 +235,7 @@ impl Finisher {
         counts
     }
 
-    /// Turns, stitches and assembles a body, which stays as it is. That nothing is against and the mesh is closed doesn't say that every face
-    /// is wound outward: [`report`](Finisher::report) lists the stitched faces that are wound against a neighbour, and turning the stitched
-    /// body again then helps.
+    /// Turns, stitches and assembles a body, which stays as it is.
     pub fn finish(&mut self, body: BodyRef<'_>, sag: f64, setting: &Setting<'_>) -> Result<Finished, Refusal> {
         let mut mesh = Mesh::default();
         let counts = self.finish_into(body, sag, setting, &mut mesh)?;

@@ -1,15 +1,11 @@
 //! Bodies finished through the wrapper: owned, lent, one after another, and from several threads.
 
 use body_finisher::{
-    face_at, face_indices, Aabb, BinId, Body, BodyRef, Entry, FaceFailure, FaceId, FaceRange, Failure, Finisher, MaterialId, Mesh, Page,
-    Part, Setting, WoundFace,
+    face_at, face_indices, Aabb, BinId, Body, BodyRef, Entry, FaceFailure, FaceId, FaceRange, Failure, Finisher, MaterialId, Mesh, Part,
+    Setting,
 };
 
 const WALLS: [[usize; 4]; 6] = [[0, 2, 3, 1], [4, 5, 7, 6], [0, 1, 5, 4], [2, 6, 7, 3], [0, 4, 6, 2], [1, 3, 7, 5]];
-
-/// Which of them is the lid, and the triangles of one with eight vertices around it.
-const LID: usize = 1;
-const FAN: [u32; 18] = [0, 1, 2, 0, 2, 3, 0, 3, 4, 0, 4, 5, 0, 5, 6, 0, 6, 7];
 
 /// A bin of six walls from a corner on, of a size; those of which the bit is set in `inward` are wound inward.
 fn add_bin(body: &mut Body, shell: u32, at: [f32; 3], size: [f32; 3], inward: u32) {
@@ -42,40 +38,6 @@ fn every_choice_of_inward_walls_ends_as_one_bin() {
         assert_eq!(done.mesh.positions, outside.mesh.positions);
         assert_eq!(body, bin(inward), "the body stays as it is");
     }
-}
-
-/// A box with sides of 10 below the origin, its faces rightly wound, the lid, its last row, with a vertex more in the middle of each side.
-fn box_with_finer_lid() -> Body {
-    let (mut plain, mut body) = (Body::default(), Body::default());
-    add_bin(&mut plain, 0, [0.0, 0.0, -20.0], [10.0; 3], 0);
-    for wall in (0..6).filter(|&wall| wall != LID) {
-        let (vertices, indices) = (4 * wall..4 * wall + 4, 6 * wall..6 * wall + 6);
-        let (positions, normals) = (&plain.positions[vertices.clone()], &plain.normals[vertices]);
-        body.push_patch(0, FaceId(wall as u32), BinId(0), positions, normals, &plain.indices[indices]).expect("one normal a vertex");
-    }
-    let sides = [[5.0, 0.0], [10.0, 0.0], [10.0, 5.0], [10.0, 10.0], [5.0, 10.0], [0.0, 10.0], [0.0, 5.0], [0.0, 0.0]];
-    body.push_patch(0, FaceId(LID as u32), BinId(0), &sides.map(|[x, y]| [x, y, -10.0]), &[[0.0, 0.0, 1.0]; 8], &FAN)
-        .expect("one normal a vertex");
-    body
-}
-
-#[test]
-fn a_stitched_body_turned_again_is_wound_rightly() {
-    let (mut finisher, mut faces, mut stitched, mut mesh) = (Finisher::new(), Vec::new(), Body::default(), Mesh::default());
-    let mut body = box_with_finer_lid();
-    let turned = finisher.turn(body.view_mut()).expect("a box");
-    assert_eq!((turned.turned, turned.against), (1, 0), "the lid shares no edge yet and is turned inward");
-    assert_eq!(finisher.stitch(body.view(), 0.25, &mut stitched).expect("a box").splits, 4);
-    assert!(finisher.assemble(stitched.view(), &Setting::default(), &mut mesh).expect("a box").closed);
-    finisher.report(stitched.view(), Aabb::EMPTY, Page::default(), &mut faces).expect("a box");
-    assert_eq!((faces.len(), faces[0]), (5, WoundFace { face: FaceId(LID as u32), count: 8 }));
-
-    let again = finisher.turn(stitched.view_mut()).expect("a box");
-    assert_eq!((again.turned, again.against), (1, 0));
-    let page = finisher.report(stitched.view(), Aabb::EMPTY, Page::default(), &mut Vec::new()).expect("a box");
-    assert_eq!(page.listed, 0);
-    assert!(finisher.assemble(stitched.view(), &Setting::default(), &mut mesh).expect("a box").closed);
-    assert_eq!(stitched.indices[stitched.indices.len() - FAN.len()..], FAN, "the lid is as it was drawn");
 }
 
 #[test]
