@@ -1,4 +1,4 @@
-//! Links the proved library's archive, which `rt staticlib cad_tess` writes.
+//! Links the proved library's archive, which `./build` makes.
 
 use std::path::Path;
 

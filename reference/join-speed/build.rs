@@ -1,4 +1,4 @@
-//! Links the proved joining, which `rt staticlib join_speed` writes.
+//! Links the proved joining, which `tools/prove join-speed lib join_speed` makes.
 
 use std::path::Path;
 
