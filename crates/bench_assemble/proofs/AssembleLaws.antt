@@ -1,4 +1,5 @@
 -- The laws of what is printed of assemble's answer. Assumes nothing.
+use Rattle.std.specs.Prelude.{Result, Ok, Err}
 use mathlib.Core.List.{List, ◌++◌}
 use mathlib.Core.Path.{◌≡◌, refl, sym, ◌∙◌, ap, subst}
 use Prim.Native.Nat.{ℕ}
@@ -10,26 +11,21 @@ use Rattle.sheet_answer_text.specs.declared.Tallies.{Tallies}
 use Rattle.sheet_answer_text.specs.Longest.{answer_length, mesh_bytes}
 use Rattle.sheet_answer_text.specs.Answer.{Written, mesh_text, count_text, refusal_line}
 use Rattle.mesh_definition.specs.declared.MeshCounts.{MeshCounts}
-use Rattle.mesh_definition.specs.declared.Assembled.{Assembled}
-use Rattle.mesh_definition.specs.declared.Assembled.TheVariants as A
 use Rattle.mesh_definition.specs.Assemble.{AfterAssemble, assemble_of}
 use Rattle.patch_geometry.specs.declared.Aabb.{Aabb}
 use Rattle.mesh_definition.specs.Assembled.{LeftMesh, left_mesh, slices_of, assemble_answered, counts_answered}
 use Rattle.turn_definition.specs.declared.TurnCounts.{TurnCounts}
-use Rattle.bench_call_texts.specs.Cases.{Cases, told_done, told_refused}
+use Rattle.bench_call_texts.specs.Cases.{result_cases, told_done, told_refused}
 use Rattle.bench_call_texts.specs.Told.{Told}
 use Rattle.bench_call_texts.specs.Texts.{MeshSaid, assembled_text, bytes_in, mesh_in, mesh_printed, sized_from, tallied_from}
 
-mesh_cases : Cases A.Done A.Refused
-mesh_cases = record { apart = λ c n e. let z : ◌≡◌ {A = ℕ} 0 1 = cc in omega arith; result = λ c d e. cc; number = λ m n e. cc }
-
 -- ---- assemble's answer printed
-module _ (t : TurnCounts) (splits : ℕ) (g : Assembled) (P N : List Float) (I parts ranges failures E W : List ℕ) (r : ℕ) where
+module _ (t : TurnCounts) (splits : ℕ) (g : Result MeshCounts ℕ) (P N : List Float) (I parts ranges failures E W : List ℕ) (r : ℕ) where
   -- how many bytes the lines of the mesh take at the most
   abbrev lines : ℕ
   lines = mesh_bytes (length P) (length I) (length parts) (length ranges) (length failures)
 
-  pub mesh_said : (c : MeshCounts) (z : Sizes) (y : Tallies) → g ≡ A.Done c → z ≡ sized_from c → y ≡ tallied_from t splits c
+  pub mesh_said : (c : MeshCounts) (z : Sizes) (y : Tallies) → g ≡ Ok c → z ≡ sized_from c → y ≡ tallied_from t splits c
       → Written E (mesh_text z P N I parts ranges failures ++ count_text y) W r
       → MeshSaid t splits g P N I parts ranges failures E W r
   unfolding mesh_printed
@@ -45,17 +41,17 @@ module _ (t : TurnCounts) (splits : ℕ) (g : Assembled) (P N : List Float) (I p
           ≡ mesh_text (sized_from (counts_answered a)) a.slices.vertices.positions a.slices.vertices.normals a.slices.indices a.slices.parts a.slices.ranges
           a.slices.failures ++ count_text (tallied_from t splits (counts_answered a)) =
           λ k j. mesh_text (sized_from (k j)) (s j).vertices.positions (s j).vertices.normals (s j).indices (s j).parts (s j).ranges (s j).failures ++ count_text (tallied_from t splits (k j)) in
-          told_done mesh_cases (counts_answered a) a.refusal lines E W r _ c (sym d ∙ ap (λ (l : LeftMesh). l.answer) e)
+          told_done result_cases (counts_answered a) a.refusal lines E W r _ c (sym d ∙ ap (λ (l : LeftMesh). l.answer) e)
           (λ k. subst (λ (x : List ℕ). Told lines E x W r) (one ∙ all k) (record { written = v; few = answer_length z P N I parts ranges failures y }))
 
-  pub mesh_said_refused : (k : ℕ) → g ≡ A.Refused k → Written E (refusal_line k) W r → MeshSaid t splits g P N I parts ranges failures E W r
+  pub mesh_said_refused : (k : ℕ) → g ≡ Err k → Written E (refusal_line k) W r → MeshSaid t splits g P N I parts ranges failures E W r
   unfolding mesh_printed
-  mesh_said_refused k d v = record { says = λ a w e. told_refused mesh_cases (counts_answered a) a.refusal lines E W r _ k (sym d ∙ ap (λ (l : LeftMesh). l.answer) e) v }
+  mesh_said_refused k d v = record { says = λ a w e. told_refused result_cases (counts_answered a) a.refusal lines E W r _ k (sym d ∙ ap (λ (l : LeftMesh). l.answer) e) v }
 
 -- ---- the slices that are lent
 module _ (P₀ N₀ : List Float) (I₀ parts₀ ranges₀ failures₀ w₀ : List ℕ) (P N : List Float) (I parts ranges failures : List ℕ) (p : length P ≡ length P₀) (i : length I ≡ length I₀)
     (s : length parts ≡ length parts₀) (r : length ranges ≡ length ranges₀) (f : length failures ≡ length failures₀) where
-  pub assembled_text_lem : (T : List ℕ) (Q R : List Float) (J : List ℕ) (box : Aabb) (M : List ℕ) (d : ℕ) (t : TurnCounts) (splits : ℕ) (g : Assembled) (w E W : List ℕ) (n : ℕ)
+  pub assembled_text_lem : (T : List ℕ) (Q R : List Float) (J : List ℕ) (box : Aabb) (M : List ℕ) (d : ℕ) (t : TurnCounts) (splits : ℕ) (g : Result MeshCounts ℕ) (w E W : List ℕ) (n : ℕ)
       → MeshSaid t splits g P N I parts ranges failures E W n
       → left_mesh g (slices_of P N I parts ranges failures w) ≡ assemble_answered (assemble_of T Q R J box M d (slices_of P₀ N₀ I₀ parts₀ ranges₀ failures₀ w₀))
       → Told (bytes_in (mesh_in P₀ N₀ I₀ parts₀ ranges₀ failures₀)) E (assembled_text T Q R J box M d t splits (slices_of P₀ N₀ I₀ parts₀ ranges₀ failures₀ w₀)) W n

@@ -2,12 +2,14 @@
 #![tactic(auto)]
 
 ghost use Rattle.std.specs.Prelude.{◌≡◌};
+ghost use Rattle.refusals.specs.Numbers.{numbered};
 ghost use Rattle.bench_call_texts.specs.Told.{Told};
 ghost use Rattle.bench_call_texts.specs.Texts.{MeshSaid, assembled_text, bytes_in, mesh_in, sized_from, tallied_from};
 
 use mesh_assemble::assemble;
-use mesh_definition::{Assembled, MeshCounts};
+use mesh_definition::MeshCounts;
 use patch_geometry::Aabb;
+use refusals::Refusal;
 use sheet_answer::{write_answer, write_refusal};
 use sheet_answer_text::{Sizes, Tallies};
 use turn_definition::TurnCounts;
@@ -30,10 +32,10 @@ fn tallies_of(t: TurnCounts, splits: u64, c: MeshCounts) -> Tallies
     ensures { result ≡ tallied_from t splits c }
 {
     Tallies {
-        turned: t.turned as u64,
+        turned: u64::from(t.turned),
         against: t.against,
         split: splits,
-        ok: c.ranges as u64,
+        ok: u64::from(c.ranges),
         edges: c.edges,
         opens: c.opens,
         overs: c.overs,
@@ -43,7 +45,7 @@ fn tallies_of(t: TurnCounts, splits: u64, c: MeshCounts) -> Tallies
 
 // What is printed of assemble's answer.
 fn print_mesh(
-    given: Assembled,
+    given: Result<MeshCounts, Refusal>,
     t: TurnCounts,
     splits: u64,
     positions: &[f32],
@@ -54,11 +56,11 @@ fn print_mesh(
     failures: &[u64],
     out: &mut [u8],
 ) -> usize
-    ensures { MeshSaid t splits given positions.now normals.now indices.now parts.now ranges.now
+    ensures { MeshSaid t splits (numbered given) positions.now normals.now indices.now parts.now ranges.now
         failures.now out.old out.new result }
 {
     match given {
-        Assembled::Done(c) => write_answer(
+        Ok(c) => write_answer(
             out,
             sizes_of(c),
             tallies_of(t, splits, c),
@@ -69,7 +71,7 @@ fn print_mesh(
             ranges,
             failures,
         ),
-        Assembled::Refused(n) => write_refusal(out, n),
+        Err(refusal) => write_refusal(out, refusal.number()),
     }
 }
 

@@ -1,6 +1,6 @@
 -- What is printed of a call's answer, whichever call it is: of a result its text, of a refusal its line. Assumes nothing.
-use Rattle.std.specs.Prelude.{Bool, true, false, List, ◌≡◌, refl, ℕ, eqb}
-use Rattle.std.proofs.Common.{sym, ◌∙◌, ap, subst}
+use Rattle.std.specs.Prelude.{Bool, true, false, List, ◌≡◌, refl, ℕ, eqb, Result, Ok, Err}
+use Rattle.std.proofs.Common.{sym, ◌∙◌, ap, subst, arith}
 use Rattle.sheet_answer_text.specs.Answer.{Written, refusal_line}
 use Rattle.bench_call_texts.specs.Told.{Told, told_refusal}
 
@@ -9,6 +9,10 @@ pub record Cases {X C : Type 0} (done : C → X) (refuse : ℕ → X) : Type 0 w
   pub apart : (c : C) (n : ℕ) → done c ≡ refuse n → ⊥
   pub result : (c d : C) → done c ≡ done d → c ≡ d
   pub number : (m n : ℕ) → refuse m ≡ refuse n → m ≡ n
+
+-- those of a Result
+pub result_cases : {C : Type 0} → Cases {X = Result C ℕ} {C = C} Ok Err
+result_cases = record { apart = λ c n e. let z : ◌≡◌ {A = ℕ} 0 1 = cc in omega arith; result = λ c d e. cc; number = λ m n e. cc }
 
 module _ {X C : Type 0} {done : C → X} {refuse : ℕ → X} (v : Cases done refuse) (m : C) (n lines : ℕ) (E W : List ℕ) (r : ℕ) (text : List ℕ) where
   -- what the call answers, n being its refusal or 0

@@ -1,21 +1,19 @@
 -- What the program prints of the three calls on a body's floats. Assumes nothing.
-use Rattle.std.specs.Prelude.{true, false, List, [], ◌++◌, ◌≡◌, ℕ, ◌*◌, length, take, eqb, Float}
+use Rattle.std.specs.Prelude.{true, false, List, [], ◌++◌, ◌≡◌, ℕ, ◌*◌, length, take, eqb, Float, Result}
+use Rattle.stitch_definition.specs.declared.Sizes as Stitching
 use Rattle.sheet_answer_text.specs.declared.Sizes.{Sizes}
 use Rattle.sheet_answer_text.specs.declared.Tallies.{Tallies}
 use Rattle.sheet_answer_text.specs.Answer.{mesh_text, count_text, refusal_line}
 use Rattle.point_rules.specs.Points.{key}
 use Rattle.patch_geometry.specs.declared.Aabb.{Aabb}
 use Rattle.turn_definition.specs.declared.TurnCounts.{TurnCounts}
-use Rattle.turn_definition.specs.declared.Turned.{Turned}
 use Rattle.turn_definition.specs.Orient.{AfterTurn, turn_of}
 use Rattle.turn_definition.specs.Answers.{left, answered}
-use Rattle.stitch_definition.specs.declared.Stitched.{Stitched}
 use Rattle.stitch_definition.specs.Slices.{AfterStitch, StitchSlices}
 use Rattle.stitch_definition.specs.Stitch.{stitch_of}
 use Rattle.stitch_definition.specs.Answers as S
 use Rattle.mesh_definition.specs.declared.MeshCounts.{MeshCounts}
 use Rattle.mesh_definition.specs.Assemble.{AfterAssemble, assemble_of}
-use Rattle.mesh_definition.specs.declared.Assembled.{Assembled}
 use Rattle.mesh_definition.specs.Assembled.{counts_answered, left_mesh, slices_of, assemble_answered}
 use Rattle.bench_call_texts.specs.Told.{Told}
 use Rattle.mesh_room.specs.Slices.{MeshSlices}
@@ -41,7 +39,7 @@ mesh_printed t splits a =
     ]
 
 -- an answer of assemble and what it left are printed
-pub record MeshSaid (t : TurnCounts) (splits : ℕ) (g : Assembled) (P N : List Float) (I parts ranges failures E W : List ℕ) (r : ℕ) : Type 0 where
+pub record MeshSaid (t : TurnCounts) (splits : ℕ) (g : Result MeshCounts ℕ) (P N : List Float) (I parts ranges failures E W : List ℕ) (r : ℕ) : Type 0 where
   pub says : (a : AfterAssemble) (w : List ℕ) → left_mesh g (slices_of P N I parts ranges failures w) ≡ assemble_answered a
       → Told (mesh_bytes (length P) (length I) (length parts) (length ranges) (length failures)) E (mesh_printed t splits a) W r
 
@@ -74,7 +72,7 @@ stitch_printed T box M d t room s =
     ]
 
 -- an answer of stitch and what it left are assembled and printed
-pub record StitchSaid (T : List ℕ) (box : Aabb) (M : List ℕ) (d : ℕ) (t : TurnCounts) (g : Stitched) (R : List ℕ) (P N : List Float) (I w : List ℕ) (out : MeshRoom)
+pub record StitchSaid (T : List ℕ) (box : Aabb) (M : List ℕ) (d : ℕ) (t : TurnCounts) (g : Result Stitching.Sizes ℕ) (R : List ℕ) (P N : List Float) (I w : List ℕ) (out : MeshRoom)
     (E W : List ℕ) (r : ℕ) : Type 0 where
   pub says : (s : AfterStitch) → S.left_stitch g (S.slices_of R P N I w) ≡ S.stitch_answered s → Told (bytes_in out) E (stitch_printed T box M d t out s) W r
 
@@ -98,7 +96,7 @@ turn_printed T P sag box M d into out t = elim (eqb t.refusal 0) [
 ]
 
 -- an answer of turn and what it left are stitched, assembled and printed
-pub record TurnSaid (T : List ℕ) (P : List Float) (sag : Float) (box : Aabb) (M : List ℕ) (d : ℕ) (g : Turned) (N : List Float) (I w : List ℕ) (into : StitchRoom) (out : MeshRoom) (E W : List ℕ)
+pub record TurnSaid (T : List ℕ) (P : List Float) (sag : Float) (box : Aabb) (M : List ℕ) (d : ℕ) (g : Result TurnCounts ℕ) (N : List Float) (I w : List ℕ) (into : StitchRoom) (out : MeshRoom) (E W : List ℕ)
     (r : ℕ) : Type 0 where
   pub says : (t : AfterTurn) → left g N I w ≡ answered t → Told (bytes_in out) E (turn_printed T P sag box M d into out t) W r
 

@@ -1,18 +1,20 @@
 // The three calls in a row, in lent slices and one work area, and what is printed of them.
 #![tactic(auto)]
 
+ghost use Rattle.refusals.specs.Numbers.{numbered};
 ghost use Rattle.bench_call_texts.specs.Told.{Told};
 ghost use Rattle.bench_call_texts.specs.Texts.{TurnSaid, bytes_in, finished_text, mesh_in, stitch_in};
 
 use bench_stitch::stitch_next;
 use patch_geometry::Aabb;
+use refusals::Refusal;
 use sheet_answer::write_refusal;
 use turn::turn;
-use turn_definition::Turned;
+use turn_definition::TurnCounts;
 
 // What is printed of turn's answer: the other two calls, on the turned body.
 fn print_turned(
-    given: Turned,
+    given: Result<TurnCounts, Refusal>,
     rows: &[u32],
     positions: &[f32],
     normals: &[f32],
@@ -34,14 +36,14 @@ fn print_turned(
     work: &mut [u64],
     out: &mut [u8],
 ) -> usize
-    ensures { TurnSaid rows.now positions.now sag reference materials.now default given normals.now
+    ensures { TurnSaid rows.now positions.now sag reference materials.now default (numbered given) normals.now
         indices.now work.old
         (stitch_in out_rows.old out_positions.old out_normals.old out_indices.old)
         (mesh_in mesh_positions.old mesh_normals.old mesh_indices.old parts.old ranges.old
         failures.old) out.old out.new result }
 {
     match given {
-        Turned::Done(t) => stitch_next(
+        Ok(t) => stitch_next(
             rows,
             positions,
             normals,
@@ -64,7 +66,7 @@ fn print_turned(
             work,
             out,
         ),
-        Turned::Refused(n) => write_refusal(out, n),
+        Err(refusal) => write_refusal(out, refusal.number()),
     }
 }
 

@@ -8,7 +8,7 @@ use sheet_digit_writing::put_byte;
 use sheet_ends::end_sheet;
 use sheet_reader::read_line;
 use sheet_reader_state::Reader;
-use slice_front::front_bytes;
+use slice_front::front;
 
 // The reader, and how many bytes of the line at hand stand in its buffer; a line that fills the buffer keeps only what has room.
 #[derive(Clone, Copy)]
@@ -33,7 +33,7 @@ fn take_byte(
         materials.new }
 {
     let s = f.reader;
-    let kept = front_bytes(line, f.length);
+    let kept = front(line, f.length);
     if c == 10 {
         let t = read_line(s, kept, table, positions, normals, indices, materials);
         return Fed {
@@ -65,11 +65,8 @@ pub fn feed(
         indices.new materials.new }
 {
     let mut g = f;
-    let mut i: usize = 0;
-    while i < part.len() {
-        let c = part[i];
-        i += 1;
-        g = take_byte(g, c, line, table, positions, normals, indices, materials);
+    for c in part {
+        g = take_byte(g, *c, line, table, positions, normals, indices, materials);
     }
     g
 }
@@ -78,6 +75,5 @@ pub fn feed(
 pub fn end_text(f: Fed, line: &[u8]) -> Reader
     ensures { Ended f line.now result }
 {
-    let s = f.reader;
-    end_sheet(s, front_bytes(line, f.length))
+    end_sheet(f.reader, front(line, f.length))
 }

@@ -17,7 +17,7 @@ use sheet_answer::write_refusal;
 use sheet_meaning::{box_of, floats_of, sag_of};
 use sheet_reader_state::Reader;
 use sheet_room::in_limits;
-use slice_front::{copy, front, front_floats, front_long};
+use slice_front::{copy, front};
 
 // A body in the first n coordinates and m indices of slices, finished; 52 where these are fewer.
 fn finish_fronts(
@@ -58,7 +58,7 @@ fn finish_fronts(
     }
     finish_body(
         rows,
-        front_floats(positions, n),
+        front(positions, n),
         &mut normals[..n],
         &mut indices[..m],
         sag,
@@ -88,7 +88,7 @@ fn materials_to(s: &[u64], face: u64) -> &[u64]
     if s.len() <= n {
         return s;
     }
-    front_long(s, n + 1)
+    front(s, n + 1)
 }
 
 // The floats made, the indices copied, and the body finished.

@@ -2,16 +2,11 @@
 #![tactic(auto)]
 
 ghost use Rattle.bench_feed.specs.Feeding.{FedOn, FedSome, failed_read};
+ghost use Rattle.bench_input.specs.Turn.{fed_by};
 
 use bench_feed::{Fed, feed};
 use std::io::{ErrorKind, Read};
-
-// What has been fed, and whether the input may go on.
-#[derive(Clone, Copy)]
-struct Step {
-    fed: Fed,
-    more: bool,
-}
+use std::ops::ControlFlow;
 
 // The read that follows what was fed failed: an empty line, which is no form, stands for the rest of the input, so that the sheet is refused.
 fn fail_read(
@@ -32,7 +27,7 @@ fn fail_read(
     )
 }
 
-// Reads a stretch of the input. A read that a signal interrupted feeds nothing, and the input goes on.
+// Reads a stretch of the input; breaks off at its end and at a read that fails. A read that a signal interrupted feeds nothing, and the input goes on.
 fn read_some<R: Read>(
     input: &mut R,
     f: Fed,
@@ -42,20 +37,15 @@ fn read_some<R: Read>(
     normals: &mut [u32],
     indices: &mut [u32],
     materials: &mut [u64],
-) -> Step
+) -> ControlFlow<Fed, Fed>
     ensures { FedSome f line.old table.old positions.old normals.old indices.old
-        materials.old result.fed line.new table.new positions.new normals.new indices.new
+        materials.old (fed_by result) line.new table.new positions.new normals.new indices.new
         materials.new }
 {
     let mut buf = [0u8; 4096];
     match input.read(&mut buf) {
+        Ok(0) => ControlFlow::Break(f),
         Ok(count) => {
-            if count == 0 {
-                return Step {
-                    fed: f,
-                    more: false,
-                };
-            }
             let g = feed(
                 f,
                 &buf[..count],
@@ -66,22 +56,17 @@ fn read_some<R: Read>(
                 indices,
                 materials,
             );
-            Step { fed: g, more: true }
+            ControlFlow::Continue(g)
         }
-        Err(e) => {
-            if e.kind() == ErrorKind::Interrupted {
-                return Step { fed: f, more: true };
-            }
+        Err(e) if e.kind() == ErrorKind::Interrupted => ControlFlow::Continue(f),
+        Err(_) => {
             let g = fail_read(f, line, table, positions, normals, indices, materials);
-            Step {
-                fed: g,
-                more: false,
-            }
+            ControlFlow::Break(g)
         }
     }
 }
 
-// Reads to the end of the input. The loop counts its turns down, from a number that no run uses up, since nothing says that the input ends.
+// Reads to the end of the input. The loop has a number of turns that no run uses up, since nothing says that the input ends.
 pub fn read_all<R: Read>(
     input: &mut R,
     f: Fed,
@@ -97,15 +82,13 @@ pub fn read_all<R: Read>(
         materials.new }
 {
     let mut g = f;
-    let mut turns = u64::MAX;
-    while turns > 0 {
-        turns -= 1;
-        let step = read_some(
+    for _turn in 0..u64::MAX {
+        let turn = read_some(
             input, g, line, table, positions, normals, indices, materials,
         );
-        g = step.fed;
-        if !step.more {
-            return g;
+        match turn {
+            ControlFlow::Continue(h) => g = h,
+            ControlFlow::Break(h) => return h,
         }
     }
     g

@@ -22,9 +22,7 @@ pub const REFUSAL_BYTES: usize = 13;
 pub fn with_limits(s: Reader, limits: Limits) -> Reader
     ensures { result ≡ reader_in limits s }
 {
-    let mut t = s;
-    t.limits = limits;
-    t
+    Reader { limits, ..s }
 }
 
 // Reads the text of an input to its end.

@@ -1,20 +1,22 @@
 // The second call, in lent slices, then the last, and what is printed of them.
 #![tactic(auto)]
 
+ghost use Rattle.refusals.specs.Numbers.{numbered};
 ghost use Rattle.bench_call_texts.specs.Told.{Told};
 ghost use Rattle.bench_call_texts.specs.Texts.{StitchSaid, bytes_in, mesh_in, stitch_in, stitched_text};
 
 use bench_assemble::assemble_next;
 use patch_geometry::Aabb;
+use refusals::Refusal;
 use sheet_answer::write_refusal;
-use slice_front::{front, front_floats};
+use slice_front::front;
 use stitch::stitch;
-use stitch_definition::Stitched;
+use stitch_definition::Sizes;
 use turn_definition::TurnCounts;
 
 // What is printed of stitch's answer: the last call, on the stitched body of as many rows.
 fn print_stitched(
-    given: Stitched,
+    given: Result<Sizes, Refusal>,
     rows: &[u32],
     out_rows: &[u32],
     out_positions: &[f32],
@@ -33,16 +35,16 @@ fn print_stitched(
     work: &mut [u64],
     out: &mut [u8],
 ) -> usize
-    ensures { StitchSaid rows.now reference materials.now default t given out_rows.now out_positions.now
+    ensures { StitchSaid rows.now reference materials.now default t (numbered given) out_rows.now out_positions.now
         out_normals.now out_indices.now work.old
         (mesh_in mesh_positions.old mesh_normals.old mesh_indices.old parts.old ranges.old
         failures.old) out.old out.new result }
 {
     match given {
-        Stitched::Done(z) => assemble_next(
+        Ok(z) => assemble_next(
             front(out_rows, rows.len()),
-            front_floats(out_positions, 3 * z.vertices as usize),
-            front_floats(out_normals, 3 * z.vertices as usize),
+            front(out_positions, 3 * z.vertices as usize),
+            front(out_normals, 3 * z.vertices as usize),
             front(out_indices, z.indices as usize),
             reference,
             materials,
@@ -58,7 +60,7 @@ fn print_stitched(
             work,
             out,
         ),
-        Stitched::Refused(n) => write_refusal(out, n),
+        Err(refusal) => write_refusal(out, refusal.number()),
     }
 }
 

@@ -3,38 +3,39 @@
 ghost use Rattle.std.specs.Prelude.{◌≡◌};
 ghost use Rattle.body_refusals.specs.BodyChecks.{before_work, body_checks};
 ghost use Rattle.body_rows.specs.Body.{first_failing};
+ghost use Rattle.refusals.specs.Numbers.{failing};
 
 use body_patch_checks::patch_failing;
 use body_rows::work_needed;
 use body_table_checks::table_failing;
+use refusals::Refusal;
 
-// The number of the first of the checks 11 to 24 that fails, or 0.
-pub fn failing_before_work(rows: &[u32], positions: &[f32], normals: &[f32], indices: &[u32]) -> u32
-    ensures { result ≡ first_failing (before_work rows.now positions.now normals.now indices.now) }
+// The first of the checks 11 to 24 that fails, as a refusal.
+pub fn failing_before_work(
+    rows: &[u32],
+    positions: &[f32],
+    normals: &[f32],
+    indices: &[u32],
+) -> Result<(), Refusal>
+    ensures { failing result ≡ first_failing (before_work rows.now positions.now normals.now indices.now) }
 {
-    let t = table_failing(rows, positions, normals, indices);
-    if t != 0 {
-        return t;
-    }
+    table_failing(rows, positions, normals, indices)?;
     patch_failing(rows, positions, normals, indices)
 }
 
-// The number of the first of the checks 11 to 24 and 31 that fails for a work area of so many words, or 0.
+// The first of the checks 11 to 24 and 31 that fails for a work area of so many words, as a refusal.
 pub fn first_failing(
     rows: &[u32],
     positions: &[f32],
     normals: &[f32],
     indices: &[u32],
     words: usize,
-) -> u32
-    ensures { result ≡ first_failing (body_checks rows.now positions.now normals.now indices.now words) }
+) -> Result<(), Refusal>
+    ensures { failing result ≡ first_failing (body_checks rows.now positions.now normals.now indices.now words) }
 {
-    let n = failing_before_work(rows, positions, normals, indices);
-    if n != 0 {
-        return n;
-    }
+    failing_before_work(rows, positions, normals, indices)?;
     if words < work_needed(rows) {
-        return 31;
+        return Err(Refusal::WorkArea);
     }
-    0
+    Ok(())
 }

@@ -6,58 +6,57 @@ ghost use Rattle.body_rows.specs.Body.{first_failing, patches_of, rows_of};
 ghost use Rattle.body_refusals.specs.BodyChecks.{lone_checks, lone_table};
 ghost use Rattle.body_refusals.specs.PatchChecks.{patch_checks};
 ghost use Rattle.body_refusals.specs.TableChecks.{table_checks};
+ghost use Rattle.refusals.specs.Numbers.{failing};
 
 use body_patch_checks::{any_at_least, any_clamps, any_number_not_finite};
 use body_table_checks::too_many;
+use refusals::Refusal;
 
-// The number of the first of the checks 11 to 15 that fails, or 0: the table is one row of a patch, of bin 0.
-fn lone_table_failing(positions: &[f32], normals: &[f32], indices: &[u32]) -> u32
-    ensures { result ≡ first_failing (table_checks (lone_table positions.now indices.now)
+// The first of the checks 11 to 15 that fails, as a refusal: the table is one row of a patch, of bin 0.
+fn lone_table_failing(positions: &[f32], normals: &[f32], indices: &[u32]) -> Result<(), Refusal>
+    ensures { failing result ≡ first_failing (table_checks (lone_table positions.now indices.now)
         (rows_of (lone_table positions.now indices.now))
         positions.now normals.now indices.now) }
 {
     let v = positions.len() / 3;
     if too_many(v, indices.len()) {
-        return 13;
+        return Err(Refusal::Limit);
     }
     if positions.len() != 3 * v {
-        return 14;
+        return Err(Refusal::Lengths);
     }
     if normals.len() != 3 * v {
-        return 14;
+        return Err(Refusal::Lengths);
     }
-    0
+    Ok(())
 }
 
-// The number of the first of the checks 21 to 24 that fails, or 0.
-fn lone_patch_failing(positions: &[f32], normals: &[f32], indices: &[u32]) -> u32
+// The first of the checks 21 to 24 that fails, as a refusal.
+fn lone_patch_failing(positions: &[f32], normals: &[f32], indices: &[u32]) -> Result<(), Refusal>
     requires { Tabled (lone_table positions.now indices.now) positions.now normals.now indices.now }
-    ensures { result ≡ first_failing (patch_checks (patches_of (rows_of (lone_table positions.now indices.now)) positions.now
+    ensures { failing result ≡ first_failing (patch_checks (patches_of (rows_of (lone_table positions.now indices.now)) positions.now
         normals.now indices.now)) }
 {
     if indices.len() % 3 != 0 {
-        return 21;
+        return Err(Refusal::Triangles);
     }
     let v = positions.len() / 3;
     if any_at_least(indices, v as u32) {
-        return 22;
+        return Err(Refusal::Index);
     }
     if any_number_not_finite(positions, normals) {
-        return 23;
+        return Err(Refusal::NotFinite);
     }
     if any_clamps(positions) {
-        return 24;
+        return Err(Refusal::Clamped);
     }
-    0
+    Ok(())
 }
 
-// The number of the first of the checks 11 to 24 that fails for a patch alone, or 0.
-pub fn lone_failing(positions: &[f32], normals: &[f32], indices: &[u32]) -> u32
-    ensures { result ≡ first_failing (lone_checks positions.now normals.now indices.now) }
+// The first of the checks 11 to 24 that fails for a patch alone, as a refusal.
+pub fn lone_failing(positions: &[f32], normals: &[f32], indices: &[u32]) -> Result<(), Refusal>
+    ensures { failing result ≡ first_failing (lone_checks positions.now normals.now indices.now) }
 {
-    let t = lone_table_failing(positions, normals, indices);
-    if t != 0 {
-        return t;
-    }
+    lone_table_failing(positions, normals, indices)?;
     lone_patch_failing(positions, normals, indices)
 }

@@ -9,20 +9,20 @@ ghost use Rattle.body_rows.specs.Body.{first_failing, patches_of, rows_of};
 ghost use Rattle.body_patch_checks.specs.PatchTests.{not_finite, part_triangle};
 ghost use Rattle.body_rows.specs.Patches.{IndicesFit, IndicesOfRow};
 ghost use Rattle.body_rows.specs.Rows.{row_at};
+ghost use Rattle.refusals.specs.Numbers.{failing};
 
 use body_rows::{indices, row_count, vertices};
+use refusals::Refusal;
 
 // 21: whether a row's index count isn't a multiple of 3.
 fn any_part_triangle(table: &[u32]) -> bool
     ensures { result ≡ any part_triangle (rows_of table.now) }
 {
     let n = row_count(table);
-    let mut k = 0usize;
-    while k < n {
+    for k in 0..n {
         if indices(table, k) % 3 != 0 {
             return true;
         }
-        k += 1;
     }
     false
 }
@@ -31,12 +31,10 @@ fn any_part_triangle(table: &[u32]) -> bool
 pub fn any_at_least(s: &[u32], n: u32) -> bool
     ensures { result ≡ any (λ i. leb n i) s.now }
 {
-    let mut k = 0usize;
-    while k < s.len() {
-        if n <= s[k] {
+    for i in s {
+        if n <= *i {
             return true;
         }
-        k += 1;
     }
     false
 }
@@ -58,13 +56,11 @@ fn any_bad_index(table: &[u32], all: &[u32]) -> bool
 {
     let n = row_count(table);
     let mut base = 0usize;
-    let mut k = 0usize;
-    while k < n {
+    for k in 0..n {
         if bad_indices(table, all, k, base) {
             return true;
         }
         base += indices(table, k) as usize;
-        k += 1;
     }
     false
 }
@@ -74,10 +70,8 @@ fn any_not_finite(s: &[f32]) -> bool
     ensures { result ≡ any not_finite s.now }
 {
     let mut found = false;
-    let mut k = 0usize;
-    while k < s.len() {
-        found = found | !float_steps::is_finite_f32(s[k]);
-        k += 1;
+    for x in s {
+        found = found | !float_steps::is_finite_f32(*x);
     }
     found
 }
@@ -97,31 +91,34 @@ pub fn any_clamps(positions: &[f32]) -> bool
     ensures { result ≡ any clamps positions.now }
 {
     let mut found = false;
-    let mut k = 0usize;
-    while k < positions.len() {
-        found = found | point_cell::clamps(positions[k]);
-        k += 1;
+    for v in positions {
+        found = found | point_cell::clamps(*v);
     }
     found
 }
 
-// The number of the first of the checks 21 to 24 that fails, or 0.
-pub fn patch_failing(table: &[u32], positions: &[f32], normals: &[f32], indices: &[u32]) -> u32
+// The first of the checks 21 to 24 that fails, as a refusal.
+pub fn patch_failing(
+    table: &[u32],
+    positions: &[f32],
+    normals: &[f32],
+    indices: &[u32],
+) -> Result<(), Refusal>
     requires { Tabled table.now positions.now normals.now indices.now }
-    ensures { result ≡ first_failing (patch_checks (patches_of (rows_of table.now) positions.now normals.now
+    ensures { failing result ≡ first_failing (patch_checks (patches_of (rows_of table.now) positions.now normals.now
         indices.now)) }
 {
     if any_part_triangle(table) {
-        return 21;
+        return Err(Refusal::Triangles);
     }
     if any_bad_index(table, indices) {
-        return 22;
+        return Err(Refusal::Index);
     }
     if any_number_not_finite(positions, normals) {
-        return 23;
+        return Err(Refusal::NotFinite);
     }
     if any_clamps(positions) {
-        return 24;
+        return Err(Refusal::Clamped);
     }
-    0
+    Ok(())
 }

@@ -4,7 +4,7 @@ use Rattle.std.proofs.Common.{ap}
 use Rattle.body_rows.specs.Body as Body
 use Rattle.body_rows.specs.Rows as Flat
 use Rattle.body_row_structs.specs.declared.Row.{Row}
-use Rattle.body_row_structs.specs.FaceRows.{row_at, face_at, flat, flat_row}
+use Rattle.body_row_structs.specs.FaceRows.{face_at, flat, flat_row}
 
 -- So the face read from the slice has the number that the flat table has.
 pub flat_face : (rows : List Row) (k : ℕ) → (Flat.row_at (flat rows) k).face ≡ (face_at rows k).0

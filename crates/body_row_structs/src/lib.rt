@@ -29,17 +29,14 @@ pub fn row_count(rows: &[Row]) -> usize
 pub fn row_at(rows: &[Row], k: usize) -> Row
     ensures { result ≡ row_at rows.now k }
 {
-    if k < rows.len() {
-        return rows[k];
-    }
-    Row {
+    rows.get(k).copied().unwrap_or(Row {
         shell: 0,
         face: 0,
         outcome: 0,
         vertices: 0,
         indices: 0,
         bin: 0,
-    }
+    })
 }
 
 // The face of row k, or face 0 past the end.

@@ -11,11 +11,9 @@ fn bases(rows: &[u32], w: &mut [u64], j: usize)
 {
     let n = row_count(rows);
     let mut base = 0u64;
-    let mut k = 0usize;
-    while k < n {
+    for k in 0..n {
         w[k] = base;
         base += number(rows, k, j) as u64;
-        k += 1;
     }
 }
 

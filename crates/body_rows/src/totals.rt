@@ -14,10 +14,8 @@ fn total(rows: &[u32], j: usize) -> usize
 {
     let n = row_count(rows);
     let mut sum = 0usize;
-    let mut k = 0usize;
-    while k < n {
+    for k in 0..n {
         sum += number(rows, k, j) as usize;
-        k += 1;
     }
     sum
 }

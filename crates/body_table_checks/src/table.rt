@@ -6,11 +6,13 @@ ghost use Rattle.body_rows.specs.Body.{all_indices, all_vertices, first_failing,
 ghost use Rattle.body_refusals.specs.TableChecks.{bad_bin, bad_row, table_checks, too_large};
 ghost use Rattle.body_table_checks.specs.TableTests.{not_whole, wrong_lengths};
 ghost use Rattle.body_rows.specs.Rows.{WholeRows, row_at};
+ghost use Rattle.refusals.specs.Numbers.{failing};
 
 use crate::limits::{MOST_BIN, MOST_OUTCOME, MOST_ROWS, too_many};
 use body_rows::{
     ROW_WIDTH, bin, indices, outcome, row_count, total_indices, total_vertices, vertices,
 };
+use refusals::Refusal;
 
 // 11: whether the table isn't whole rows, or has too many.
 fn not_whole(table: &[u32]) -> bool
@@ -42,12 +44,10 @@ fn any_bad_row(table: &[u32]) -> bool
     ensures { result ≡ any bad_row (rows_of table.now) }
 {
     let n = row_count(table);
-    let mut k = 0usize;
-    while k < n {
+    for k in 0..n {
         if bad_row(table, k) {
             return true;
         }
-        k += 1;
     }
     false
 }
@@ -88,35 +88,38 @@ fn any_bad_bin(table: &[u32]) -> bool
     ensures { result ≡ any bad_bin (rows_of table.now) }
 {
     let n = row_count(table);
-    let mut k = 0usize;
-    while k < n {
+    for k in 0..n {
         if bad_bin(table, k) {
             return true;
         }
-        k += 1;
     }
     false
 }
 
-// The number of the first of the checks 11 to 15 that fails, or 0.
-pub fn table_failing(table: &[u32], positions: &[f32], normals: &[f32], indices: &[u32]) -> u32
-    ensures { result ≡ first_failing (table_checks table.now (rows_of table.now) positions.now normals.now
+// The first of the checks 11 to 15 that fails, as a refusal.
+pub fn table_failing(
+    table: &[u32],
+    positions: &[f32],
+    normals: &[f32],
+    indices: &[u32],
+) -> Result<(), Refusal>
+    ensures { failing result ≡ first_failing (table_checks table.now (rows_of table.now) positions.now normals.now
         indices.now) }
 {
     if not_whole(table) {
-        return 11;
+        return Err(Refusal::Table);
     }
     if any_bad_row(table) {
-        return 12;
+        return Err(Refusal::Outcome);
     }
     if too_large(table) {
-        return 13;
+        return Err(Refusal::Limit);
     }
     if wrong_lengths(table, positions, normals, indices) {
-        return 14;
+        return Err(Refusal::Lengths);
     }
     if any_bad_bin(table) {
-        return 15;
+        return Err(Refusal::Bin);
     }
-    0
+    Ok(())
 }

@@ -1,14 +1,13 @@
 -- What cad_assemble answers and leaves. Assumes nothing.
-use Rattle.std.specs.Prelude.{cond}
-use Rattle.mesh_definition.specs.declared.Assembled.{Assembled}
-use Rattle.mesh_definition.specs.declared.Assembled.TheVariants.{Done, Refused}
+use Rattle.mesh_definition.specs.declared.MeshCounts.{MeshCounts}
+use Rattle.std.specs.Prelude.{cond, ℕ, Result, Ok, Err}
 use Rattle.mesh_room.specs.Slices.{MeshSlices}
 use Rattle.mesh_definition.specs.Assemble.{AfterAssemble}
 use Rattle.cad_answers.specs.declared.assembling.CadAssembled.{CadAssembled}
 
 -- 01's number and values for each answer
-abbrev pub cad_assembled : Assembled → CadAssembled
-cad_assembled (Done c) =
+abbrev pub cad_assembled : Result MeshCounts ℕ → CadAssembled
+cad_assembled (Ok c) =
     record {
       refusal = 0;
       vertices = c.vertices;
@@ -21,7 +20,7 @@ cad_assembled (Done c) =
       overs = c.overs;
       closed = cond c.closed 1 0;
     }
-cad_assembled (Refused n) = record { refusal = n; vertices = 0; indices = 0; parts = 0; ranges = 0; failures = 0; edges = 0; opens = 0; overs = 0; closed = 0 }
+cad_assembled (Err n) = record { refusal = n; vertices = 0; indices = 0; parts = 0; ranges = 0; failures = 0; edges = 0; opens = 0; overs = 0; closed = 0 }
 
 -- cad_assemble's answer, and what the lent slices hold
 pub record CadLeftMesh : Type 0 where

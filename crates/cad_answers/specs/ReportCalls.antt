@@ -1,5 +1,5 @@
 -- The calls of cad_report in a row, each handed the sums that the one before answered and no share, and the theorem of request N7 for them. Assumes nothing.
-use Rattle.std.specs.Prelude.{◌≡◌, refl, Bool, true, false, List, [], ◌∷◌, ◌++◌, ℕ, ◌+◌, ◌*◌, ◌≤◌, length, take, eqb}
+use Rattle.std.specs.Prelude.{◌≡◌, refl, Bool, true, false, List, [], ◌∷◌, ◌++◌, ℕ, ◌+◌, ◌*◌, ◌≤◌, length, take, eqb, Result, Ok, Err}
 use Rattle.std.proofs.Common.{sym, ap, ◌∙◌, subst}
 use Rattle.std.proofs.Math.Path.{transport}
 use Rattle.lists.specs.Each.{Each}
@@ -7,8 +7,6 @@ use Rattle.point_rules.specs.Points.{key}
 use Rattle.body_rows.specs.Body.{rows_of, first_failing, cleared}
 use Rattle.body_refusals.specs.BodyChecks.{body_checks}
 use Rattle.report_definition.specs.declared.Page.{Page}
-use Rattle.report_definition.specs.declared.Reported.{Reported}
-use Rattle.report_definition.specs.declared.Reported.TheVariants.{Done, Refused}
 use Rattle.report_definition.specs.Page.{Sums, plus, empty_page, Share, share_of}
 use Rattle.report_definition.specs.Report.{Body, faces_of_body, entry_width, room_of, most_bodies, report_checks, AfterReport, left_report, add_or_refuse, report_of}
 use Rattle.report_definition.specs.Share.{share_unread}
@@ -30,7 +28,7 @@ cad_report r b list work =
 
 -- what the first call is handed: sums of 0
 abbrev pub cad_nothing : CadReported
-cad_nothing = cad_reported (Done empty_page)
+cad_nothing = cad_reported (Ok empty_page)
 
 -- a call for each body in turn, with the face list and the work area as the call before left them; a refusal ends them
 unfoldable pub cad_calls : CadReported → List Body → List ℕ → List ℕ → CadLeftReport
@@ -42,9 +40,9 @@ cad_calls r (b ∷ bs) list work =
 -- ---- they are the calls of the definition
 
 -- a refusal has a number that isn't 0
-abbrev Numbered : Reported → Type 0
-Numbered (Done p) = Unit {0}
-Numbered (Refused n) = eqb n 0 ≡ false
+abbrev Numbered : Result Page ℕ → Type 0
+Numbered (Ok p) = Unit {0}
+Numbered (Err n) = eqb n 0 ≡ false
 
 -- so has that of a call
 abbrev CallNumbered : AfterReport → Type 0
@@ -56,20 +54,20 @@ numbered page b list work =
     first (first_failing (body_checks b.table b.positions b.normals b.indices (length work)))
     (eqb (first_failing (body_checks b.table b.positions b.normals b.indices (length work))) 0) refl
   where
-    second : (n : ℕ) (c : Bool) (p : Page) (l w : List ℕ) → eqb n 0 ≡ c → CallNumbered (elim c [ true ↦ left_report (Done p) l w | false ↦ left_report (Refused n) list w ])
+    second : (n : ℕ) (c : Bool) (p : Page) (l w : List ℕ) → eqb n 0 ≡ c → CallNumbered (elim c [ true ↦ left_report (Ok p) l w | false ↦ left_report (Err n) list w ])
     second n true p l w e = tt
     second n false p l w e = e
 
     zeros : List ℕ
     zeros = cleared (rows_of b.table) work
 
-    first : (n : ℕ) (c : Bool) → eqb n 0 ≡ c → CallNumbered (elim c [ true ↦ add_or_refuse key page b list zeros | false ↦ left_report (Refused n) list work ])
+    first : (n : ℕ) (c : Bool) → eqb n 0 ≡ c → CallNumbered (elim c [ true ↦ add_or_refuse key page b list zeros | false ↦ left_report (Err n) list work ])
     first n true e =
         second (first_failing (report_checks page (length (faces_of_body key b)) (room_of list))) (eqb (first_failing (report_checks page (length (faces_of_body key b)) (room_of list))) 0) _ _ _ refl
     first n false e = e
 
 -- The share is not read, so handing on the sums alone is handing on the page.
-pub cad_calls_lem : (page : Page) (bs : List Body) (list work : List ℕ) → cad_calls (cad_reported (Done page)) bs list work ≡ cad_report_answered (calls key page bs list work)
+pub cad_calls_lem : (page : Page) (bs : List Body) (list work : List ℕ) → cad_calls (cad_reported (Ok page)) bs list work ≡ cad_report_answered (calls key page bs list work)
 unfolding cad_calls calls onward
 cad_calls_lem page [] list work = refl
 cad_calls_lem page (b ∷ bs) list work =
@@ -81,11 +79,11 @@ cad_calls_lem page (b ∷ bs) list work =
     step : CadLeftReport → CadLeftReport
     step c = elim (eqb c.answer.refusal 0) [ true ↦ cad_calls c.answer bs c.list c.work | false ↦ c ]
 
-    go : (a : Reported) (l w : List ℕ) → Numbered a
-        → ((p : Page) (l w : List ℕ) → cad_calls (cad_reported (Done p)) bs l w ≡ cad_report_answered (calls key p bs l w))
+    go : (a : Result Page ℕ) (l w : List ℕ) → Numbered a
+        → ((p : Page) (l w : List ℕ) → cad_calls (cad_reported (Ok p)) bs l w ≡ cad_report_answered (calls key p bs l w))
         → step (cad_report_answered (left_report a l w)) ≡ cad_report_answered (onward (λ p l w. calls key p bs l w) (left_report a l w))
-    go (Done p) l w n rest = rest p l w
-    go (Refused k) l w n rest = ap (λ (c : Bool). elim c [ true ↦ cad_calls (cad_reported (Refused k)) bs l w | false ↦ cad_left_report (cad_reported (Refused k)) l w ]) n
+    go (Ok p) l w n rest = rest p l w
+    go (Err k) l w n rest = ap (λ (c : Bool). elim c [ true ↦ cad_calls (cad_reported (Err k)) bs l w | false ↦ cad_left_report (cad_reported (Err k)) l w ]) n
 
 -- ---- two lists
 
@@ -126,15 +124,15 @@ module _ {p q : Page} {first second both : AfterReport} (e : EndToEnd key p q fi
   -- what the definition says of the calls, with the answers as cad_report gives them
   cad_end : CadEndToEnd (cad_report_answered first) (cad_report_answered second) (cad_report_answered both)
   cad_end = record {
-    first_done = ap (λ (a : Reported). (cad_reported a).refusal) e.first_page;
-    second_done = ap (λ (a : Reported). (cad_reported a).refusal) e.second_page;
-    both_done = ap (λ (a : Reported). (cad_reported a).refusal) e.page;
+    first_done = ap (λ (a : Result Page ℕ). (cad_reported a).refusal) e.first_page;
+    second_done = ap (λ (a : Result Page ℕ). (cad_reported a).refusal) e.second_page;
+    both_done = ap (λ (a : Result Page ℕ). (cad_reported a).refusal) e.page;
     sums =
-        ap (λ (a : Reported). cad_sums (cad_reported a)) e.page
+        ap (λ (a : Result Page ℕ). cad_sums (cad_reported a)) e.page
         ∙ (λ j. plus (cad_sums (cad_reported (sym e.first_page j))) (cad_sums (cad_reported (sym e.second_page j))));
-    share = subst (λ (a : Reported). cad_share (cad_reported a) ≡ share_of (cad_reported a).accepted ((cad_reported a).accepted + (cad_reported a).failed)) (sym e.page) refl;
+    share = subst (λ (a : Result Page ℕ). cad_share (cad_reported a) ≡ share_of (cad_reported a).accepted ((cad_reported a).accepted + (cad_reported a).failed)) (sym e.page) refl;
     faces =
-        ap (λ (a : Reported). take (entry_width * (cad_reported a).listed) both.list) e.page
+        ap (λ (a : Result Page ℕ). take (entry_width * (cad_reported a).listed) both.list) e.page
         ∙ e.faces
         ∙ (λ j.
         take (entry_width * (cad_reported (sym e.first_page j)).listed) first.list

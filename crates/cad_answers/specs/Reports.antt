@@ -1,14 +1,12 @@
 -- What cad_report answers and leaves. Assumes nothing.
-use Rattle.std.specs.Prelude.{List, ℕ}
+use Rattle.std.specs.Prelude.{List, ℕ, Result, Ok, Err}
 use Rattle.report_definition.specs.declared.Page.{Page}
-use Rattle.report_definition.specs.declared.Reported.{Reported}
-use Rattle.report_definition.specs.declared.Reported.TheVariants.{Done, Refused}
 use Rattle.report_definition.specs.Report.{AfterReport}
 use Rattle.cad_answers.specs.declared.reports.CadReported.{CadReported}
 
 -- the page, or the refusal's number and zeros
-abbrev pub cad_reported : Reported → CadReported
-cad_reported (Done p) =
+abbrev pub cad_reported : Result Page ℕ → CadReported
+cad_reported (Ok p) =
     record {
       refusal = 0;
       bodies = p.bodies;
@@ -23,7 +21,7 @@ cad_reported (Done p) =
       share_accepted = p.share_accepted;
       share_faces = p.share_faces;
     }
-cad_reported (Refused n) =
+cad_reported (Err n) =
     record {
       refusal = n;
       bodies = 0;

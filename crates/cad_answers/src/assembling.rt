@@ -1,14 +1,16 @@
 // assemble's answer as its struct.
 
 ghost use Rattle.std.specs.Prelude.{◌≡◌, cond};
+ghost use Rattle.refusals.specs.Numbers.{numbered};
 ghost use Rattle.cad_answers.specs.Assembling.{cad_assembled};
 
-use mesh_definition::Assembled;
+use mesh_definition::MeshCounts;
+use refusals::Refusal;
 
 // 0 for the refusal, how many vertices, indices, parts, ranges and failures were written, the mesh's edges, those used once and those used more than twice,
 // and 1 if it is closed; or the refusal's number and zeros.
 #[repr(C)]
-#[derive(Clone, Copy)]
+#[derive(Clone, Copy, Default)]
 pub struct CadAssembled {
     pub refusal: u32,
     pub vertices: u32,
@@ -26,37 +28,30 @@ pub struct CadAssembled {
 pub fn flag(b: bool) -> u32
     ensures { result ≡ cond b 1 0 }
 {
-    if b { 1 } else { 0 }
+    b as u32
 }
 
-// assemble's answer as the struct.
-pub fn assembled_answer(t: Assembled) -> CadAssembled
-    ensures { result ≡ cad_assembled t }
-{
-    match t {
-        Assembled::Done(c) => CadAssembled {
-            refusal: 0,
-            vertices: c.vertices,
-            indices: c.indices,
-            parts: c.parts,
-            ranges: c.ranges,
-            failures: c.failures,
-            edges: c.edges,
-            opens: c.opens,
-            overs: c.overs,
-            closed: flag(c.closed),
-        },
-        Assembled::Refused(n) => CadAssembled {
-            refusal: n,
-            vertices: 0,
-            indices: 0,
-            parts: 0,
-            ranges: 0,
-            failures: 0,
-            edges: 0,
-            opens: 0,
-            overs: 0,
-            closed: 0,
-        },
+impl From<Result<MeshCounts, Refusal>> for CadAssembled {
+    ghost from_gives = { λ t r. r ≡ cad_assembled (numbered t) };
+
+    fn from(t: Result<MeshCounts, Refusal>) -> CadAssembled {
+        match t {
+            Ok(c) => CadAssembled {
+                refusal: 0,
+                vertices: c.vertices,
+                indices: c.indices,
+                parts: c.parts,
+                ranges: c.ranges,
+                failures: c.failures,
+                edges: c.edges,
+                opens: c.opens,
+                overs: c.overs,
+                closed: flag(c.closed),
+            },
+            Err(refusal) => CadAssembled {
+                refusal: refusal.number(),
+                ..CadAssembled::default()
+            },
+        }
     }
 }

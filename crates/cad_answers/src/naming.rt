@@ -23,22 +23,24 @@ pub struct CadKey {
     pub clamped: u32,
 }
 
-// A cell as the struct.
-pub fn cell_answer(c: CellAnswer) -> CadCell
-    ensures { result ≡ cad_cell c }
-{
-    CadCell {
-        value: c.value,
-        clamped: flag(c.clamped),
+impl From<CellAnswer> for CadCell {
+    ghost from_gives = { λ c r. r ≡ cad_cell c };
+
+    fn from(c: CellAnswer) -> CadCell {
+        CadCell {
+            value: c.value,
+            clamped: flag(c.clamped),
+        }
     }
 }
 
-// A key as the struct.
-pub fn key_answer(k: KeyAnswer) -> CadKey
-    ensures { result ≡ cad_key k }
-{
-    CadKey {
-        value: k.value,
-        clamped: flag(k.clamped),
+impl From<KeyAnswer> for CadKey {
+    ghost from_gives = { λ k r. r ≡ cad_key k };
+
+    fn from(k: KeyAnswer) -> CadKey {
+        CadKey {
+            value: k.value,
+            clamped: flag(k.clamped),
+        }
     }
 }

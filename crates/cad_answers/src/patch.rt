@@ -1,15 +1,18 @@
 // The answers about a patch alone as their structs, and the box of six numbers, minimum first.
 
-ghost use Rattle.std.specs.Prelude.{◌≡◌};
-ghost use Rattle.patch_alone.specs.Answers.{measured_as, judged_as};
+ghost use Rattle.std.specs.Prelude.{◌≡◌, false};
+ghost use Rattle.refusals.specs.Numbers.{numbered};
+ghost use Rattle.patch_geometry.specs.Geometry.{zero64};
+ghost use Rattle.patch_alone.specs.Answers.{answer_as};
 ghost use Rattle.cad_answers.specs.Answers.{box_of, cad_measured, cad_judged};
 
-use patch_alone::{Judged, Measured};
+use crate::assembling::flag;
 use patch_geometry::{Aabb, Vec3};
+use refusals::Refusal;
 
 // A number: 0 for the refusal, or the refusal's number and 0.
 #[repr(C)]
-#[derive(Clone, Copy)]
+#[derive(Clone, Copy, Default)]
 pub struct CadMeasured {
     pub refusal: u32,
     pub value: f64,
@@ -17,7 +20,7 @@ pub struct CadMeasured {
 
 // A verdict, 1 or 0: 0 for the refusal, or the refusal's number and 0.
 #[repr(C)]
-#[derive(Clone, Copy)]
+#[derive(Clone, Copy, Default)]
 pub struct CadJudged {
     pub refusal: u32,
     pub verdict: u32,
@@ -41,42 +44,36 @@ pub fn box_of(x0: f64, y0: f64, z0: f64, x1: f64, y1: f64, z1: f64) -> Aabb
     }
 }
 
-// A measured answer as the struct.
-pub fn measured_answer(m: Measured) -> CadMeasured
-    ensures { result ≡ cad_measured (measured_as m) }
-{
-    match m {
-        Measured::Value(x) => CadMeasured {
-            refusal: 0,
-            value: x,
-        },
-        Measured::Refused(n) => CadMeasured {
-            refusal: n,
-            value: 0.0,
-        },
+impl From<Result<f64, Refusal>> for CadMeasured {
+    ghost from_gives = { λ m r. r ≡ cad_measured (answer_as zero64 (numbered m)) };
+
+    fn from(m: Result<f64, Refusal>) -> CadMeasured {
+        match m {
+            Ok(x) => CadMeasured {
+                refusal: 0,
+                value: x,
+            },
+            Err(refusal) => CadMeasured {
+                refusal: refusal.number(),
+                ..CadMeasured::default()
+            },
+        }
     }
 }
 
-// A judged answer as the struct.
-pub fn judged_answer(j: Judged) -> CadJudged
-    ensures { result ≡ cad_judged (judged_as j) }
-{
-    match j {
-        Judged::Verdict(b) => {
-            if b {
-                return CadJudged {
-                    refusal: 0,
-                    verdict: 1,
-                };
-            }
-            CadJudged {
+impl From<Result<bool, Refusal>> for CadJudged {
+    ghost from_gives = { λ j r. r ≡ cad_judged (answer_as false (numbered j)) };
+
+    fn from(j: Result<bool, Refusal>) -> CadJudged {
+        match j {
+            Ok(b) => CadJudged {
                 refusal: 0,
-                verdict: 0,
-            }
+                verdict: flag(b),
+            },
+            Err(refusal) => CadJudged {
+                refusal: refusal.number(),
+                ..CadJudged::default()
+            },
         }
-        Judged::Refused(n) => CadJudged {
-            refusal: n,
-            verdict: 0,
-        },
     }
 }

@@ -1,13 +1,15 @@
 // The report's answer as its struct.
 
 ghost use Rattle.std.specs.Prelude.{◌≡◌};
+ghost use Rattle.refusals.specs.Numbers.{numbered};
 ghost use Rattle.cad_answers.specs.Reports.{cad_reported, page_given};
 
-use report_definition::{Page, Reported};
+use refusals::Refusal;
+use report_definition::Page;
 
 // 0 for the refusal and the page with the body added; or the refusal's number and zeros.
 #[repr(C)]
-#[derive(Clone, Copy)]
+#[derive(Clone, Copy, Default)]
 pub struct CadReported {
     pub refusal: u32,
     pub bodies: u64,
@@ -38,52 +40,43 @@ pub fn page_of(
     ensures { result ≡ page_given bodies accepted failed triangles vertices empty upstream escaped listed }
 {
     Page {
-        bodies: bodies,
-        accepted: accepted,
-        failed: failed,
-        triangles: triangles,
-        vertices: vertices,
-        empty: empty,
-        upstream: upstream,
-        escaped: escaped,
-        listed: listed,
+        bodies,
+        accepted,
+        failed,
+        triangles,
+        vertices,
+        empty,
+        upstream,
+        escaped,
+        listed,
         share_accepted: 1,
         share_faces: 1,
     }
 }
 
-// The report's answer as the struct.
-pub fn reported_answer(t: Reported) -> CadReported
-    ensures { result ≡ cad_reported t }
-{
-    match t {
-        Reported::Done(p) => CadReported {
-            refusal: 0,
-            bodies: p.bodies,
-            accepted: p.accepted,
-            failed: p.failed,
-            triangles: p.triangles,
-            vertices: p.vertices,
-            empty: p.empty,
-            upstream: p.upstream,
-            escaped: p.escaped,
-            listed: p.listed,
-            share_accepted: p.share_accepted,
-            share_faces: p.share_faces,
-        },
-        Reported::Refused(n) => CadReported {
-            refusal: n,
-            bodies: 0,
-            accepted: 0,
-            failed: 0,
-            triangles: 0,
-            vertices: 0,
-            empty: 0,
-            upstream: 0,
-            escaped: 0,
-            listed: 0,
-            share_accepted: 0,
-            share_faces: 0,
-        },
+impl From<Result<Page, Refusal>> for CadReported {
+    ghost from_gives = { λ t r. r ≡ cad_reported (numbered t) };
+
+    fn from(t: Result<Page, Refusal>) -> CadReported {
+        match t {
+            Ok(p) => CadReported {
+                refusal: 0,
+                bodies: p.bodies,
+                accepted: p.accepted,
+                failed: p.failed,
+                triangles: p.triangles,
+                vertices: p.vertices,
+                empty: p.empty,
+                upstream: p.upstream,
+                escaped: p.escaped,
+                listed: p.listed,
+                share_accepted: p.share_accepted,
+                share_faces: p.share_faces,
+            },
+            Err(refusal) => CadReported {
+                refusal: refusal.number(),
+                ..CadReported::default()
+            },
+        }
     }
 }

@@ -1,13 +1,15 @@
 // stitch's answer as its struct.
 
 ghost use Rattle.std.specs.Prelude.{◌≡◌};
+ghost use Rattle.refusals.specs.Numbers.{numbered};
 ghost use Rattle.cad_answers.specs.Stitching.{cad_stitched};
 
-use stitch_definition::Stitched;
+use refusals::Refusal;
+use stitch_definition::Sizes;
 
 // 0 for the refusal, the vertices and indices of the stitched body and the points that split a triangle; or the refusal's number and zeros.
 #[repr(C)]
-#[derive(Clone, Copy)]
+#[derive(Clone, Copy, Default)]
 pub struct CadStitched {
     pub refusal: u32,
     pub vertices: u32,
@@ -15,22 +17,21 @@ pub struct CadStitched {
     pub splits: u64,
 }
 
-// stitch's answer as the struct.
-pub fn stitched_answer(t: Stitched) -> CadStitched
-    ensures { result ≡ cad_stitched t }
-{
-    match t {
-        Stitched::Done(s) => CadStitched {
-            refusal: 0,
-            vertices: s.vertices,
-            indices: s.indices,
-            splits: s.splits,
-        },
-        Stitched::Refused(n) => CadStitched {
-            refusal: n,
-            vertices: 0,
-            indices: 0,
-            splits: 0,
-        },
+impl From<Result<Sizes, Refusal>> for CadStitched {
+    ghost from_gives = { λ t r. r ≡ cad_stitched (numbered t) };
+
+    fn from(t: Result<Sizes, Refusal>) -> CadStitched {
+        match t {
+            Ok(s) => CadStitched {
+                refusal: 0,
+                vertices: s.vertices,
+                indices: s.indices,
+                splits: s.splits,
+            },
+            Err(refusal) => CadStitched {
+                refusal: refusal.number(),
+                ..CadStitched::default()
+            },
+        }
     }
 }

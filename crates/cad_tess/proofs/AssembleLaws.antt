@@ -1,4 +1,5 @@
 -- Laws of cad_assemble. Assumes nothing.
+use Rattle.std.specs.Prelude.{Result, Ok, Err}
 use mathlib.Core.Path.{◌≡◌, refl, ap, ◌∙◌}
 use mathlib.Core.Bool.{Bool, true, false}
 use mathlib.Core.List.{List}
@@ -6,12 +7,11 @@ use Prim.Native.Nat.{ℕ}
 use lib.Dec.{eqb}
 use lib.ListN.{length}
 use lib.Ieee.{Float}
+use Rattle.mesh_definition.specs.declared.MeshCounts.{MeshCounts}
 use Rattle.body_rows.specs.Body.{Row, rows_of, patches_of, first_failing}
 use Rattle.body_refusals.specs.BodyChecks.{body_checks}
 use Rattle.patch_geometry.specs.declared.Aabb.{Aabb}
 use Rattle.mesh_acceptance.specs.Acceptance.{Acceptance, acceptance}
-use Rattle.mesh_definition.specs.declared.Assembled.{Assembled}
-use Rattle.mesh_definition.specs.declared.Assembled.TheVariants.{Done, Refused}
 use Rattle.mesh_room.specs.Slices.{MeshSlices, mesh_checks}
 use Rattle.mesh_definition.specs.Assemble.{AfterAssemble, write_mesh, refuse_mesh, cleared_mesh, assemble_or_refuse, assemble_of}
 use Rattle.mesh_definition.specs.Assembled.{LeftMesh, left_mesh, counts_answered, assemble_answered}
@@ -32,7 +32,7 @@ Told t = flat (assemble_answered t) ≡ cad_mesh_answered t
 refused_told : (n : ℕ) (out : MeshSlices) → eqb n 0 ≡ false → Told (refuse_mesh n out)
 unfolding refuse_mesh
 refused_told n out e =
-    ap (λ (b : Bool). cad_left_mesh (cad_assembled (elim b [ true ↦ Done (counts_answered (refuse_mesh n out)) | false ↦ Refused n ])) out) e
+    ap (λ (b : Bool). cad_left_mesh (cad_assembled (elim b [ true ↦ Ok (counts_answered (refuse_mesh n out)) | false ↦ Err n ])) out) e
 
 -- the checks of the result decide
 result_told : (rows : List Row) (materials : List ℕ) (default : ℕ) (v : Acceptance) (out : MeshSlices) → Told (assemble_or_refuse rows materials default v out)
@@ -52,7 +52,7 @@ module _ (table : List ℕ) (ps ns : List Float) (is : List ℕ) (box : Aabb) (m
       either Told (eqb n 0) (assemble_or_refuse (rows_of table) materials default v o) (refuse_mesh n out) (result_told (rows_of table) materials default v o) (refused_told n out)
 
   -- what the call leaves
-  pub call_left : {b : Aabb} {t : Assembled} {r : CadAssembled} {s : MeshSlices} → b ≡ box
+  pub call_left : {b : Aabb} {t : Result MeshCounts ℕ} {r : CadAssembled} {s : MeshSlices} → b ≡ box
       → left_mesh t s ≡ assemble_answered (assemble_of table ps ns is b materials default out) → r ≡ cad_assembled t
       → cad_left_mesh r s ≡ cad_mesh_answered (assemble_of table ps ns is box materials default out)
   call_left {b} {t} {r} {s} h e f =

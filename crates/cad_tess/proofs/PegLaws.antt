@@ -9,15 +9,15 @@ use mir.Syntax.{w64}
 use mir.Val.{SFits}
 use mir.ValLaws.{to_z-of_z}
 use Rattle.signed_numbers.specs.Bits.{read}
+use Rattle.std.specs.Prelude.{Result}
 use Rattle.plan_definition.specs.Places.{Place}
-use Rattle.peg_definition.specs.declared.PegAnswer.{PegAnswer}
 use Rattle.peg_definition.specs.Answers.{peg_answer}
 use Rattle.peg_definition.specs.Peg.{bins_after, lookup_of}
 use Rattle.peg.specs.Answer.{PegFound, at}
 use Rattle.cad_answers.specs.declared.pegs.CadNearestBins.{CadNearestBins}
 use Rattle.cad_answers.specs.Pegs.{cad_nearest_bins}
 
-module _ (table : List ℕ) (ps ns : List Float) (is : List ℕ) (list : List ℤ) (x y z : ℤ) (fx : SFits w64 x) (fy : SFits w64 y) (fz : SFits w64 z) (E W : List ℕ) (a : PegAnswer)
+module _ (table : List ℕ) (ps ns : List Float) (is : List ℕ) (list : List ℤ) (x y z : ℤ) (fx : SFits w64 x) (fy : SFits w64 y) (fz : SFits w64 z) (E W : List ℕ) (a : Result ℕ ℕ)
     (v : PegFound table ps ns is list (read x) (read y) (read z) E W a) where
   -- the peg as the machine reads it
   same : at (read x) (read y) (read z) ≡ at x y z

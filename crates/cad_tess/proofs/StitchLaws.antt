@@ -1,4 +1,5 @@
 -- Laws of cad_stitch. Assumes nothing.
+use Rattle.std.specs.Prelude.{Result, Ok, Err}
 use mathlib.Core.Path.{◌≡◌, refl, ap, ◌∙◌}
 use mathlib.Core.Bool.{Bool, true, false}
 use mathlib.Core.List.{List, map}
@@ -6,11 +7,10 @@ use Prim.Native.Nat.{ℕ}
 use lib.Dec.{eqb}
 use lib.ListN.{length}
 use lib.Ieee.{Float}
+use Rattle.stitch_definition.specs.declared.Sizes.{Sizes}
 use Rattle.point_rules.specs.Rule.{Rule, names}
 use Rattle.body_rows.specs.Body.{rows_of, patches_of, first_failing}
 use Rattle.body_refusals.specs.BodyChecks.{body_checks}
-use Rattle.stitch_definition.specs.declared.Stitched.{Stitched}
-use Rattle.stitch_definition.specs.declared.Stitched.TheVariants.{Done, Refused}
 use Rattle.stitch_definition.specs.Slices.{StitchSlices, AfterStitch, stitch_checks, write_body, refuse_stitch, cleared_slices, stitch_or_refuse}
 use Rattle.stitch_definition.specs.StitchedBody.{StitchedBody}
 use Rattle.stitch_definition.specs.Stitch.{stitch_body, stitch_of}
@@ -27,7 +27,7 @@ flat l = left_after_stitch (cad_stitched l.answer) l.slices
 refused_told : (n : ℕ) (out : StitchSlices) → eqb n 0 ≡ false → flat (stitch_answered (refuse_stitch n out)) ≡ refuse_stitch n out
 unfolding refuse_stitch
 refused_told n out e =
-    ap (λ (b : Bool). left_after_stitch (cad_stitched (elim b [ true ↦ Done (record { vertices = 0; indices = 0; splits = 0 }) | false ↦ Refused n ])) out) e
+    ap (λ (b : Bool). left_after_stitch (cad_stitched (elim b [ true ↦ Ok (record { vertices = 0; indices = 0; splits = 0 }) | false ↦ Err n ])) out) e
 
 -- the checks of the result decide
 result_told : (s : StitchedBody) (out : StitchSlices) → flat (stitch_answered (stitch_or_refuse s out)) ≡ stitch_or_refuse s out
@@ -48,6 +48,6 @@ module _ (rule : Rule) (table : List ℕ) (ps ns : List Float) (is : List ℕ) (
       (result_told s (cleared_slices (rows_of table) out)) (refused_told n out)
 
   -- what the call leaves
-  pub call_left : {t : Stitched} {r : CadStitched} {s : StitchSlices} → left_stitch t s ≡ stitch_answered (stitch_of rule table ps ns is sag out) → r ≡ cad_stitched t
+  pub call_left : {t : Result Sizes ℕ} {r : CadStitched} {s : StitchSlices} → left_stitch t s ≡ stitch_answered (stitch_of rule table ps ns is sag out) → r ≡ cad_stitched t
       → left_after_stitch r s ≡ stitch_of rule table ps ns is sag out
   call_left {t} {r} {s} e f = ap (λ (c : CadStitched). left_after_stitch c s) f ∙ ap flat e ∙ all_told

@@ -6,7 +6,7 @@ ghost use Rattle.mesh_definition.specs.Assembled.{slices_of};
 ghost use Rattle.cad_answers.specs.Answers.{box_of};
 ghost use Rattle.cad_answers.specs.Assembling.{cad_left_mesh, cad_mesh_answered};
 
-use cad_answers::{CadAssembled, assembled_answer, box_of};
+use cad_answers::{CadAssembled, box_of};
 
 // The mesh goes to the mesh slices, parts go to a table of three numbers a row, ranges to one of four, failures to one of five words a row.
 // An entry of materials is 0 for none or 1 + the material of the face; the work area needs 16 words an index and a row and 4 a vertex, which come back zero.
@@ -40,7 +40,7 @@ pub extern "C" fn cad_assemble(
         failures.old work.old)) }
 {
     let reference = box_of(x0, y0, z0, x1, y1, z1);
-    assembled_answer(mesh_assemble::assemble(
+    mesh_assemble::assemble(
         rows,
         positions,
         normals,
@@ -55,5 +55,6 @@ pub extern "C" fn cad_assemble(
         ranges,
         failures,
         work,
-    ))
+    )
+    .into()
 }

@@ -4,7 +4,7 @@ ghost use Rattle.std.specs.Prelude.{◌≡◌};
 ghost use Rattle.patch_alone.specs.Alone.{volume_alone, farthest_alone, escapes_alone};
 ghost use Rattle.cad_answers.specs.Answers.{box_of, cad_measured, cad_judged};
 
-use cad_answers::{CadJudged, CadMeasured, box_of, judged_answer, measured_answer};
+use cad_answers::{CadJudged, CadMeasured, box_of};
 
 // The volume of a patch, reversed where flip says so; its stretches are read through their view.
 #[unsafe(no_mangle)]
@@ -16,7 +16,7 @@ pub extern "C" fn cad_patch_volume<'a>(
 ) -> CadMeasured
     ensures { result ≡ cad_measured (volume_alone positions.now normals.now indices.now flip) }
 {
-    measured_answer(patch_view::volume_of(positions, normals, indices, flip))
+    patch_view::volume_of(positions, normals, indices, flip).into()
 }
 
 // How far a patch's farthest vertex is from the box's centre.
@@ -35,7 +35,7 @@ pub extern "C" fn cad_farthest(
     ensures { result ≡ cad_measured (farthest_alone positions.now normals.now indices.now (box_of x0 y0 z0 x1 y1 z1)) }
 {
     let reference = box_of(x0, y0, z0, x1, y1, z1);
-    measured_answer(patch_alone::farthest_alone(positions, normals, indices, reference))
+    patch_alone::farthest_alone(positions, normals, indices, reference).into()
 }
 
 // Whether a patch reaches beyond the box's diagonal.
@@ -54,5 +54,5 @@ pub extern "C" fn cad_escapes_body(
     ensures { result ≡ cad_judged (escapes_alone positions.now normals.now indices.now (box_of x0 y0 z0 x1 y1 z1)) }
 {
     let reference = box_of(x0, y0, z0, x1, y1, z1);
-    judged_answer(patch_alone::escapes_alone(positions, normals, indices, reference))
+    patch_alone::escapes_alone(positions, normals, indices, reference).into()
 }

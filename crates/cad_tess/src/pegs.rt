@@ -6,8 +6,7 @@ ghost use Rattle.peg_definition.specs.Peg.{bins_after, lookup_of};
 ghost use Rattle.peg.specs.Answer.{at};
 ghost use Rattle.cad_answers.specs.Pegs.{cad_nearest_bins};
 
-use cad_answers::{CadNearestBins, nearest_answer};
-use peg_definition::PegAnswer;
+use cad_answers::CadNearestBins;
 
 // The bins nearest a peg at x, y, z go into the front of a list, ascending, each once; a refusal leaves the list as it was.
 #[unsafe(no_mangle)]
@@ -27,6 +26,5 @@ pub extern "C" fn cad_nearest_bins(
     ensures bins_after { bins.new ≡ bins_after (lookup_of rows.now positions.now normals.now indices.now
         places.now (at x y z) (length bins.old)) bins.old }
 {
-    let a: PegAnswer = peg::nearest_bins(rows, positions, normals, indices, places, x, y, z, bins);
-    nearest_answer(a)
+    peg::nearest_bins(rows, positions, normals, indices, places, x, y, z, bins).into()
 }

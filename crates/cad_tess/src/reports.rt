@@ -7,7 +7,7 @@ ghost use Rattle.report.specs.Bodies.{body_of};
 ghost use Rattle.cad_answers.specs.Answers.{box_of};
 ghost use Rattle.cad_answers.specs.Reports.{cad_left_report, cad_report_answered, page_given};
 
-use cad_answers::{CadReported, box_of, page_of, reported_answer};
+use cad_answers::{CadReported, box_of, page_of};
 
 // The page so far is given by its numbers, without the share, which is made anew. The body's faces that are wound against a neighbour go to the face list
 // behind its first `listed` entries, two numbers each; the work area needs 16 words an index and a row and 4 a vertex, which come back zero.
@@ -44,7 +44,8 @@ pub extern "C" fn cad_report(
     let page = page_of(
         bodies, accepted, failed, triangles, vertices, empty, upstream, escaped, listed,
     );
-    reported_answer(report::report(
+    report::report(
         rows, positions, normals, indices, reference, page, faces, work,
-    ))
+    )
+    .into()
 }

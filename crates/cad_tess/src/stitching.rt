@@ -6,7 +6,7 @@ ghost use Rattle.stitch_definition.specs.Stitch.{stitch_of};
 ghost use Rattle.stitch_definition.specs.Answers.{slices_of};
 ghost use Rattle.cad_answers.specs.Stitching.{left_after_stitch};
 
-use cad_answers::{CadStitched, stitched_answer};
+use cad_answers::CadStitched;
 
 // The stitched body goes to the second slices; the work area needs 16 words an index and a row and 4 a vertex, which come back zero.
 #[unsafe(no_mangle)]
@@ -27,7 +27,7 @@ pub extern "C" fn cad_stitch(
         ≡ stitch_of Points.key rows.now positions.now normals.now indices.now sag
         (slices_of out_rows.old out_positions.old out_normals.old out_indices.old work.old) }
 {
-    stitched_answer(stitch::stitch(
+    stitch::stitch(
         rows,
         positions,
         normals,
@@ -38,5 +38,6 @@ pub extern "C" fn cad_stitch(
         out_normals,
         out_indices,
         work,
-    ))
+    )
+    .into()
 }

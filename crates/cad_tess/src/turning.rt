@@ -6,7 +6,7 @@ ghost use Rattle.turn_definition.specs.Orient.{turn_of};
 ghost use Rattle.turn_volume_rule.specs.VolumeRule.{KeepsVolume};
 ghost use Rattle.cad_answers.specs.Turning.{left_after_turn};
 
-use cad_answers::{CadTurned, turned_answer};
+use cad_answers::CadTurned;
 
 // The rows of a body are turned to agree where they stand; the work area needs 16 words an index and a row and 4 a vertex, which come back zero.
 // Every group of a body that is not refused keeps the volume rule.
@@ -23,5 +23,5 @@ pub extern "C" fn cad_turn(
     ensures keeps_volume { result.refusal ≡ 0 → KeepsVolume Points.key rows.now positions.now normals.old
         indices.old normals.new indices.new }
 {
-    turned_answer(turn::turn(rows, positions, normals, indices, work))
+    turn::turn(rows, positions, normals, indices, work).into()
 }

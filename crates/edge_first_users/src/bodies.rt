@@ -22,17 +22,15 @@ pub fn name_uses(
         (map use_name (row_uses (drop shells w.old) 0 (drop points w.old) (rows_of rows.now) indices.now)) }
 {
     let n = body_rows::row_count(rows);
-    let mut k = 0;
     let mut v = points;
     let mut i = 0;
-    while k < n {
+    for k in 0..n {
         let vertices = body_rows::vertices(rows, k) as usize;
         let end = i + body_rows::indices(rows, k) as usize;
         let shell = w[shells + k];
         name_row(indices, w, v, vertices, i, end, at, shell);
         v += vertices;
         i = end;
-        k += 1;
     }
 }
 
@@ -44,16 +42,14 @@ pub fn list_runs(rows: &[u32], indices: &[u32], w: &mut [u64], points: usize, at
         indices.now)) }
 {
     let n = body_rows::row_count(rows);
-    let mut k = 0;
     let mut v = points;
     let mut i = 0;
-    while k < n {
+    for k in 0..n {
         let vertices = body_rows::vertices(rows, k) as usize;
         let end = i + body_rows::indices(rows, k) as usize;
         run_row(indices, w, v, vertices, i, end, at);
         v += vertices;
         i = end;
-        k += 1;
     }
 }
 
@@ -63,12 +59,10 @@ pub fn list_rows(rows: &[u32], w: &mut [u64], at: usize)
     ensures { w.new ≡ sets w.old at (row_numbers 0 (rows_of rows.now)) }
 {
     let n = body_rows::row_count(rows);
-    let mut k = 0;
     let mut i = at;
-    while k < n {
+    for k in 0..n {
         let end = i + body_rows::indices(rows, k) as usize;
         fill(w, i, end, k as u64);
         i = end;
-        k += 1;
     }
 }

@@ -22,9 +22,7 @@ pub fn count_uses(w: &mut [u64], firsts: usize, counts: usize, n: usize)
 {
     let end = counts + n;
     fill(w, counts, end, 0);
-    let mut i = 0;
-    while i < n {
+    for i in 0..n {
         count_one(w, firsts, counts, i);
-        i += 1;
     }
 }

@@ -3,9 +3,9 @@ use mathlib.Core.Path.{◌≡◌, refl, sym, ap, ◌∙◌, subst}
 use mathlib.Core.List.{List, [], ◌∷◌, ◌++◌, map, append_assoc, append-nil, map-append}
 use Prim.Native.Nat.{ℕ, suc, ◌+◌, ◌-◌, ◌%◌, ◌≤◌, ◌<◌}
 use native.Mathlib.Omega.{arith}
-use lib.ListN.{length, get_or, set, take, drop, length-append}
+use lib.ListN.{length, get_or, take, drop, length-append}
 use lib.Seq.{sets, length-sets, drop-cons, get_or-drop}
-use Rattle.lists.specs.Sets.{get_d_sets_below, sets_append, three_stored}
+use Rattle.lists.specs.Sets.{get_d_sets_below, sets_append}
 use Rattle.body_rows.specs.Body.{triangles_of}
 use Rattle.edge_uses.specs.Edges.{Use, triangle_uses}
 use Rattle.edge_uses.specs.Named.{PointReady, Low, RowReady}
@@ -14,10 +14,6 @@ use Rattle.edge_uses.proofs.UseLaws.{length_named}
 -- the uses of the triangles whose indices stand from k up to `to`
 abbrev pub uses_between : List ℕ → List ℕ → ℕ → ℕ → ℕ → List Use
 uses_between is P shell k to = triangle_uses shell 0 P (triangles_of (take (to - k) (drop k is)))
-
--- three stores in turn of what equals three words are a run of these
-pub three_written : (W : List ℕ) (at : ℕ) {x y z x' y' z' : ℕ} → x ≡ x' → y ≡ y' → z ≡ z' → set (set (set W at x) (at + 1) y) (at + 2) z ≡ sets W at (x' ∷ y' ∷ z' ∷ [])
-three_written W at {x} {y} {z} ex ey ez = three_stored W at x y z ∙ (λ j. sets W at (ex j ∷ ey j ∷ ez j ∷ []))
 
 -- with the words of the triangles before index k written: W became w
 pub record Writing (word : Use → ℕ) (is W : List ℕ) (points from to at shell k : ℕ) (w : List ℕ) : Type 0 where

@@ -53,12 +53,6 @@ pub record Low (a b c : ℕ) : Type 0 where
   pub b_low : b < 262144
   pub c_low : c < 262144
 
--- what `name_triangle` asks: three names have room at `at`
-pub record TriangleReady (W : List ℕ) (at shell a b c : ℕ) : Type 0 where
-  pub room : at + 3 ≤ length W
-  pub shell_low : shell < 4096
-  pub low : Low a b c
-
 -- what a pass over one row asks: the indices from `from` up to `to` are whole triangles over the row's vertices, the points of these stand
 -- from `points` on in the work area W, in front of the words at `at`, and a word for each index has room
 pub record RowReady (is W : List ℕ) (points vertices from to at : ℕ) : Type 0 where

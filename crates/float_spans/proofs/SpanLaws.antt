@@ -27,11 +27,6 @@ higher_no a b h = rw h
 abbrev made : Float → Float → Span
 made a b = record { low = a; high = b }
 
--- a product, by its ends
-pub times_is : (X : Span) (c : Float) {a b : Float} → a ≡ lower (mul binary64 X.low c) (mul binary64 X.high c)
-    → b ≡ higher (mul binary64 X.low c) (mul binary64 X.high c) → made a b ≡ times binary64 X c
-times_is X c {a} {b} h k = ap (λ (z : Float). made z b) h ∙ ap (made (lower (mul binary64 X.low c) (mul binary64 X.high c))) k
-
 -- 0.0
 zero_is : of_bits binary64 0 ≡ nought
 unfolding of_bits

@@ -6,6 +6,8 @@ ghost use Rattle.std.specs.Float.{binary64};
 ghost use Rattle.float_spans.specs.Spans.{less, plus, minus, over, lower, higher, times, least_square, nearest_to_zero};
 ghost use Rattle.float_spans.specs.Hulls.{empty, one, hull};
 
+use std::ops::{Add, Div, Mul, Sub};
+
 // The values from low up to high.
 #[derive(Clone, Copy)]
 pub struct Span {
@@ -62,58 +64,6 @@ impl Span {
         }
     }
 
-    // x - c for x in the span.
-    pub fn less(self, c: f64) -> Span
-        ensures { result ≡ less binary64 self c }
-    {
-        Span {
-            low: self.low - c,
-            high: self.high - c,
-        }
-    }
-
-    // x + y for x in the span and y in the other.
-    pub fn plus(self, o: Span) -> Span
-        ensures { result ≡ plus binary64 self o }
-    {
-        Span {
-            low: self.low + o.low,
-            high: self.high + o.high,
-        }
-    }
-
-    // x - y for x in the span and y in the other.
-    pub fn minus(self, o: Span) -> Span
-        ensures { result ≡ minus binary64 self o }
-    {
-        Span {
-            low: self.low - o.high,
-            high: self.high - o.low,
-        }
-    }
-
-    // x / c for x in the span.
-    pub fn over(self, c: f64) -> Span
-        ensures { result ≡ over binary64 self c }
-    {
-        Span {
-            low: self.low / c,
-            high: self.high / c,
-        }
-    }
-
-    // x * c for x in the span.
-    pub fn times(self, c: f64) -> Span
-        ensures { result ≡ times binary64 self c }
-    {
-        let a = self.low * c;
-        let b = self.high * c;
-        Span {
-            low: lower_of(a, b),
-            high: higher_of(a, b),
-        }
-    }
-
     // The float of the span that is nearest to 0.
     fn nearest_to_zero(self) -> f64
         ensures { result ≡ nearest_to_zero self }
@@ -133,5 +83,77 @@ impl Span {
     {
         let x = self.nearest_to_zero();
         x * x
+    }
+}
+
+// x - c for x in the span.
+impl Sub<f64> for Span {
+    type Output = Span;
+
+    ghost sub_gives = { λ x c r. r ≡ less binary64 x c };
+
+    fn sub(self, c: f64) -> Span {
+        Span {
+            low: self.low - c,
+            high: self.high - c,
+        }
+    }
+}
+
+// x + y for x in the span and y in the other.
+impl Add for Span {
+    type Output = Span;
+
+    ghost add_gives = { λ x y r. r ≡ plus binary64 x y };
+
+    fn add(self, o: Span) -> Span {
+        Span {
+            low: self.low + o.low,
+            high: self.high + o.high,
+        }
+    }
+}
+
+// x - y for x in the span and y in the other.
+impl Sub for Span {
+    type Output = Span;
+
+    ghost sub_gives = { λ x y r. r ≡ minus binary64 x y };
+
+    fn sub(self, o: Span) -> Span {
+        Span {
+            low: self.low - o.high,
+            high: self.high - o.low,
+        }
+    }
+}
+
+// x / c for x in the span.
+impl Div<f64> for Span {
+    type Output = Span;
+
+    ghost div_gives = { λ x c r. r ≡ over binary64 x c };
+
+    fn div(self, c: f64) -> Span {
+        Span {
+            low: self.low / c,
+            high: self.high / c,
+        }
+    }
+}
+
+// x * c for x in the span.
+impl Mul<f64> for Span {
+    type Output = Span;
+
+    ghost mul_gives = { λ x c r. r ≡ times binary64 x c };
+
+    fn mul(self, c: f64) -> Span {
+        let a = self.low * c;
+        let b = self.high * c;
+        Span {
+            low: lower_of(a, b),
+            high: higher_of(a, b),
+        }
     }
 }

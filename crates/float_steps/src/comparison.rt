@@ -39,19 +39,12 @@ pub fn larger(a: u64, b: u64) -> u64
 pub fn absolute_f64(x: f64) -> f64
     ensures { result ≡ absolute x }
 {
-    if x != x {
-        return x;
-    }
-    if f64::to_bits(x) < 0x8000_0000_0000_0000 {
-        x
-    } else {
-        -x
-    }
+    x.abs()
 }
 
-// Whether x is a number and no infinity: an infinity or a NaN less itself is a NaN.
+// Whether x is a number and no infinity.
 pub fn is_finite_f32(x: f32) -> bool
     ensures { result ≡ finite x }
 {
-    x - x == 0.0
+    x.is_finite()
 }

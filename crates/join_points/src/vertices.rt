@@ -45,10 +45,8 @@ fn write_words(rule: Rule, positions: &[f32], w: &mut [u64], n: usize)
     requires { Fit n positions.now w.old }
     ensures { w.new ≡ words_of rule positions.now ++ drop n w.old }
 {
-    let mut i = 0;
-    while i < n {
+    for i in 0..n {
         w[i] = word_at(rule, positions, i);
-        i += 1;
     }
 }
 

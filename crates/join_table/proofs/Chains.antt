@@ -2,13 +2,13 @@
 use mathlib.Core.Path.{◌≡◌, refl, sym, ap, subst, ◌∙◌}
 use mathlib.Core.Bool.{Bool, true, false}
 use mathlib.Core.Logic.{◌≢◌}
-use mathlib.Core.List.{List, ◌++◌}
+use mathlib.Core.List.{List}
 use Prim.Native.Nat.{ℕ, ◌+◌, ◌-◌, ◌*◌, ◌<◌, ◌≤◌}
 use native.Mathlib.Omega.{arith}
 use native.Mathlib.Nat.{not-suc-le-zero}
 use native.Mathlib.Decide.{ℕ_discrete}
 use lib.Dec.{eqb}
-use lib.ListN.{length, get_or, take, drop, set, replicate, length-set, length-drop, length-replicate, get_or-replicate, get_or-append}
+use lib.ListN.{length, get_or, take, drop, set, replicate, length-set, length-drop, get_or-replicate, get_or-append}
 use lib.Seq.{get_or-take, get_or-drop, get_or-append-add, length-take-le, take-take, get_or-set_same, get_or-set_other, take-set-le, drop-set-lt, ext_get_or}
 use borrow.Author.Count.{below_more}
 use borrow.Author.Tests.{eqb-true, eqb-false}
@@ -265,7 +265,7 @@ module _ {ns W : List ℕ} {n i : ℕ} (u : Turn ns n i W) where
         }
 
 -- ---- `start`: the part from 3 * n to 4 * n came back cleared
-module _ (W ys : List ℕ) (n : ℕ) (room : 4 * n ≤ length W) (e : ys ≡ replicate n 0 ++ drop n (mid_of (3 * n) (4 * n - 3 * n) W)) (l : length ys ≡ length (mid_of (3 * n) (4 * n - 3 * n) W)) where
+module _ (W ys : List ℕ) (n : ℕ) (room : 4 * n ≤ length W) (e : ys ≡ replicate (4 * n - 3 * n) 0) (l : length ys ≡ length (mid_of (3 * n) (4 * n - 3 * n) W)) where
   -- the words after that
   abbrev Out : List ℕ
   Out = put_mid (3 * n) (4 * n - 3 * n) W ys
@@ -283,8 +283,7 @@ module _ (W ys : List ℕ) (n : ℕ) (room : 4 * n ≤ length W) (e : ys ≡ rep
             ∙ get_or-append-add (take (3 * n) W) _ h 0
             ∙ get_or-append ys _ 0 h (omega (arith, l, mid_len (3 * n) (4 * n) W room))
             ∙ ap (λ x. get_or x h 0) e
-            ∙ get_or-append (replicate n 0) _ 0 h (simp length-replicate m)
-            ∙ get_or-replicate n h 0 0 m;
+            ∙ get_or-replicate (4 * n - 3 * n) h 0 0 (omega arith);
         words =
             sym (take-take n (3 * n) Out (omega arith)) ∙ ap (take n) (take_put (3 * n) (4 * n - 3 * n) W ys (omega arith)) ∙ take-take n (3 * n) W (omega arith);
         rest = drop_put (3 * n) (4 * n) W ys (omega arith) room (l ∙ mid_len (3 * n) (4 * n) W room);

@@ -10,7 +10,6 @@ ghost use Rattle.join_definition.specs.Join.{Joined};
 use join_definition::{HEADS, JOIN_WORDS, LINKS};
 use point_key::multiply::wrapping_mul;
 use point_key::vertex::same_bits;
-use slice_fill::clear;
 
 // Odd numbers by which a digest is multiplied to find its chain, and 2^32.
 const FIRST: u64 = 11400714819323198485;
@@ -94,9 +93,7 @@ fn start(w: &mut [u64], n: usize)
     requires { 4 * n ≤ length w.old }
     ensures { Begun n w.old w.new }
 {
-    let a = HEADS * n;
-    let e = JOIN_WORDS * n;
-    clear(&mut w[a..e], n);
+    w[HEADS * n..JOIN_WORDS * n].fill(0);
 }
 
 // For each of the n items whose digests are the first words of w, the first item of the same name, in the next n words.
@@ -105,9 +102,7 @@ pub fn join_table(source: Source, positions: &[f32], w: &mut [u64], n: usize)
     ensures { Joined (names_of source positions.now (take n w.old)) n w.old w.new }
 {
     start(w, n);
-    let mut i = 0;
-    while i < n {
+    for i in 0..n {
         join_one(source, positions, w, n, i);
-        i += 1;
     }
 }

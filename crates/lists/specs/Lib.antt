@@ -5,6 +5,7 @@ pub mod Each
 pub mod Sets
 pub mod Stretches
 pub mod Copied
+pub mod Chunks
 pub mod Table
 pub mod Evaluation
 pub mod Both

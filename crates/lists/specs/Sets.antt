@@ -1,8 +1,9 @@
 -- A run of stores, `sets l i vs`: what is read after it, and runs that follow one another. Assumes nothing.
 use Rattle.std.specs.Prelude.{◌≡◌, refl, List, [], ◌∷◌, ◌++◌, ℕ, zero, suc, ◌+◌, ◌≤◌, ◌<◌, length, get_or, set, take, drop}
-use Rattle.std.proofs.Common.{sym, ap, ◌∙◌, add-zero, add-suc, suc-add, arith, length-set, get_or-set_same, get_or-set_other, take-take, drop-set-lt}
-use Rattle.std.proofs.lemmas.List.Edits.{sets}
+use Rattle.std.proofs.Common.{sym, ap, ◌∙◌, append_assoc, add-zero, add-suc, suc-add, arith, length-set, get_or-set_same, get_or-set_other, take-take, drop-drop, drop-set-lt}
+use Rattle.std.proofs.lemmas.List.Edits.{sets, sets-eq}
 use Rattle.std.proofs.lemmas.List.{take-set-le}
+use borrow.Rule.Slice.PartMut.{put_mid}
 
 module _ {A : Type 0} where
   -- below the run nothing changed
@@ -59,3 +60,10 @@ module _ {A : Type 0} where
   -- and five
   pub five_stored : (l : List A) (i : ℕ) (a b c d e : A) → set (set (set (set (set l i a) (i + 1) b) (i + 2) c) (i + 3) d) (i + 4) e ≡ sets l i (a ∷ b ∷ c ∷ d ∷ e ∷ [])
   five_stored l i a b c d e = ap (λ (m : List A). set m (i + 4) e) (four_stored l i a b c d) ∙ stored_more l i (a ∷ b ∷ c ∷ d ∷ []) e
+
+  -- a part that was lent and came back with ys is a run of stores
+  pub part_sets : (l : List A) (i n : ℕ) (ys : List A) → length ys ≡ n → i + n ≤ length l → put_mid i n l ys ≡ sets l i ys
+  part_sets l i n ys e h =
+      ap (λ (zs : List A). take i l ++ (ys ++ zs)) (drop-drop n i l ∙ ap (λ (m : ℕ). drop (i + m) l) (sym e))
+      ∙ sym (append_assoc (take i l) ys (drop (i + length ys) l))
+      ∙ sym (sets-eq ys l i (omega arith))

@@ -8,7 +8,6 @@ use Rattle.body_rows.specs.Rows.{WholeRows, row_at}
 use Rattle.body_rows.specs.Patches.{no_patch, patch_from, shapes}
 use Rattle.slice_append.specs.Appended.{Appended}
 use Rattle.patch_geometry.specs.declared.Aabb.{Aabb}
-use Rattle.patch_geometry.specs.Geometry.{diagonal}
 use Rattle.mesh_verdicts.specs.declared.Failure.{Failure}
 use Rattle.mesh_verdicts.specs.Failures.{failure_of}
 use Rattle.mesh_materials.specs.Materials.{material_of}
@@ -26,16 +25,15 @@ decision_by (some f) m = 0
 unfoldable pub decision_of : Aabb → List ℕ → ℕ → Patch → ℕ
 decision_of box materials default p = decision_by (failure_of box p) (material_of materials default p.row.face)
 
--- what a verdict on row k asks: its vertices from `base` on and its indices from i on are there, and the span is the box's
-pub record RowJudgeable (table : List ℕ) (ps : List Float) (is : List ℕ) (box : Aabb) (span : Float) (k base i : ℕ) : Type 0 where
-  pub span_is : span ≡ diagonal box
+-- what a verdict on row k asks: its vertices from `base` on and its indices from i on are there
+pub record RowJudgeable (table : List ℕ) (ps : List Float) (is : List ℕ) (k base i : ℕ) : Type 0 where
   pub row : k < length (rows_of table)
   pub positions_in : 3 * (base + (row_at table k).vertices) ≤ length ps
   pub indices_in : i + (row_at table k).indices ≤ length is
 
 -- what the decision on row k asks
-pub record DecisionReady (table : List ℕ) (ps : List Float) (is : List ℕ) (box : Aabb) (span : Float) (materials : List ℕ) (default k base i : ℕ) : Type 0 where
-  pub judgeable : RowJudgeable table ps is box span k base i
+pub record DecisionReady (table : List ℕ) (ps : List Float) (is materials : List ℕ) (default k base i : ℕ) : Type 0 where
+  pub judgeable : RowJudgeable table ps is k base i
   pub small : SmallMaterials materials default
 
 -- what the decisions on all rows ask: a body whose slices are as long as its rows say, and a word for each row
@@ -76,8 +74,8 @@ unfoldable pub failed_of : Aabb → Patch → List Failed
 failed_of box p = failed_by (failure_of box p) p.row.face p.row.bin
 
 -- what writing row k's failure asks: what its verdict asks, a decision d that is 0 if the row fails, and room for row j of the table
-pub record FailureReady (table : List ℕ) (ps : List Float) (is : List ℕ) (box : Aabb) (span : Float) (k base i d : ℕ) (F : List ℕ) (j : ℕ) : Type 0 where
-  pub judgeable : RowJudgeable table ps is box span k base i
+pub record FailureReady (table : List ℕ) (ps : List Float) (is : List ℕ) (box : Aabb) (k base i d : ℕ) (F : List ℕ) (j : ℕ) : Type 0 where
+  pub judgeable : RowJudgeable table ps is k base i
   pub other : (d ≡ 0 → ⊥) → failure_of box (patch_from (row_at table k) ps [] is base i) ≡ none
   pub room : failure_width * j + failure_width ≤ length F
 

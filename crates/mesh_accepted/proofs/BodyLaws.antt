@@ -1,4 +1,5 @@
 -- Laws of an accepted body: its decisions and totals, its mesh or refusal. Assumes nothing.
+use Rattle.std.specs.Prelude.{Ok, Err}
 use mathlib.Core.Path.{◌≡◌, refl, sym, ap, ◌∙◌, subst}
 use mathlib.Core.Bool.{Bool, true, false}
 use mathlib.Core.List.{List, [], ◌∷◌, map, flat_map}
@@ -42,7 +43,6 @@ use Rattle.mesh_layout.specs.LaidLaws.{laid_by_lem, positions_by, normals_by}
 use Rattle.mesh_layout.specs.Parts.{laid_in}
 use Rattle.mesh_counts.specs.Counts.{counts_of, closed_mesh}
 use Rattle.mesh_definition.specs.declared.MeshCounts.{MeshCounts}
-use Rattle.mesh_definition.specs.declared.Assembled.TheVariants.{Done, Refused}
 use Rattle.mesh_room.specs.Slices.{MeshSlices, mesh_too_short, mesh_checks}
 use Rattle.mesh_definition.specs.Assemble.{AfterAssemble, mesh_of, refuse_mesh, write_mesh, assemble_or_refuse}
 use Rattle.mesh_room.specs.Room.{RoomAsked, short_by, short_is, fails_42, fails_41, fails_none, fits}
@@ -69,13 +69,13 @@ module _ (rows : List Row) (materials : List ℕ) (default : ℕ) (v : Acceptanc
   by_number_lem = refl
 
   -- refused with 42
-  pub refused_42 : bad_materials materials default ≡ true → left_mesh (Refused 42) out ≡ assemble_answered (assemble_or_refuse rows materials default v out)
+  pub refused_42 : bad_materials materials default ≡ true → left_mesh (Err 42) out ≡ assemble_answered (assemble_or_refuse rows materials default v out)
   unfolding by_number refuse_mesh
   refused_42 e = sym (ap assemble_answered (by_number_lem ∙ ap by_number (fails_42 (length rows) materials default v.accepted out e)))
 
   -- refused with 41
   pub refused_41 : bad_materials materials default ≡ false → mesh_too_short (length rows) v.accepted out ≡ true
-      → left_mesh (Refused 41) out ≡ assemble_answered (assemble_or_refuse rows materials default v out)
+      → left_mesh (Err 41) out ≡ assemble_answered (assemble_or_refuse rows materials default v out)
   unfolding by_number refuse_mesh
   refused_41 e f = sym (ap assemble_answered (by_number_lem ∙ ap by_number (fails_41 (length rows) materials default v.accepted out e f)))
 
@@ -110,7 +110,7 @@ module _ {table : List ℕ} {ps ns : List Float} {is W : List ℕ} {m : ℕ} (g 
 
   -- 42
   pub body_42 : (P N : List Float) (I parts ranges failures : List ℕ) {b : Bool} → b ≡ bad_materials materials default → b ≡ true
-      → BodyAssembled table ps ns is box materials default P P N N I I parts parts ranges ranges failures failures W W (Refused 42)
+      → BodyAssembled table ps ns is box materials default P P N N I I parts parts ranges ranges failures failures W W (Err 42)
   body_42 P N I parts ranges failures e t = record { same = λ work. refused_42 (rows_of table) materials default v (slices_of P N I parts ranges failures work) (sym e ∙ t); rest = refl }
 
   module _ {b : Bool} (eb : b ≡ bad_materials materials default) (fb : b ≡ false) where
@@ -197,7 +197,7 @@ module _ {table : List ℕ} {ps ns : List Float} {is W : List ℕ} {m : ℕ} (g 
               ∙ sym (short_is (length (rows_of table)) v.accepted (slices_of P N I parts ranges failures work))
 
           -- 41
-          pub body_41 : c ≡ true → BodyAssembled table ps ns is box materials default P P N N I I parts parts ranges ranges failures failures W E (Refused 41)
+          pub body_41 : c ≡ true → BodyAssembled table ps ns is box materials default P P N N I I parts parts ranges ranges failures failures W E (Err 41)
           body_41 h =
               record {
                 same = λ work. refused_41 (rows_of table) materials default v (slices_of P N I parts ranges failures work) (sym eb ∙ fb) (sym (short work) ∙ h);
@@ -222,7 +222,7 @@ module _ {table : List ℕ} {ps ns : List Float} {is W : List ℕ} {m : ℕ} (g 
           -- the mesh is the definition's
           pub body_done : {X : List ℕ} {P' N' : List Float} {I' parts' ranges' failures' : List ℕ} {r : MeshCounts} → c ≡ false
               → MeshWritten table ps ns is box E X m t P P' N N' I I' parts parts' ranges ranges' failures failures' r
-              → BodyAssembled table ps ns is box materials default P P' N N' I I' parts parts' ranges ranges' failures failures' W X (Done r)
+              → BodyAssembled table ps ns is box materials default P P' N N' I I' parts parts' ranges ranges' failures failures' W X (Ok r)
           unfolding write_mesh mesh_of vertices_of written_vertices
           body_done {X} {P'} {N'} {I'} {parts'} {ranges'} {failures'} {r} h w =
               let ce = w.counts_are ∙ (λ j. counts_of bits (positions_are j) (runs_of (laid_are j))) in
@@ -240,7 +240,7 @@ module _ {table : List ℕ} {ps ns : List Float} {is W : List ℕ} {m : ℕ} (g 
               let eF = w.failures_are ∙ ap (λ (fs : List Failed). written (flat_map failure_numbers fs) failures) failed_are in
               record {
                 same = λ work.
-                    (λ j. left_mesh (Done (record {
+                    (λ j. left_mesh (Ok (record {
                       vertices = ev j;
                       indices = ei j;
                       parts = ep j;

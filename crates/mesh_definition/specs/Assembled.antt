@@ -1,17 +1,15 @@
 -- Assemble's answer as an enum, and what the call leaves. Assumes nothing.
-use Rattle.std.specs.Prelude.{true, false, List, ℕ, eqb, Float}
+use Rattle.std.specs.Prelude.{true, false, List, ℕ, eqb, Float, Result, Ok, Err}
 use Rattle.body_rows.specs.Body.{rows_of, patches_of}
 use Rattle.patch_geometry.specs.declared.Aabb.{Aabb}
 use Rattle.mesh_acceptance.specs.Acceptance.{acceptance}
 use Rattle.mesh_definition.specs.declared.MeshCounts.{MeshCounts}
-use Rattle.mesh_definition.specs.declared.Assembled.{Assembled}
-use Rattle.mesh_definition.specs.declared.Assembled.TheVariants.{Done, Refused}
 use Rattle.mesh_room.specs.Slices.{MeshSlices}
 use Rattle.mesh_definition.specs.Assemble.{AfterAssemble, cleared_mesh, assemble_or_refuse}
 
 -- assemble's answer, and what the lent slices hold
 pub record LeftMesh : Type 0 where
-  pub answer : Assembled
+  pub answer : Result MeshCounts ℕ
   pub slices : MeshSlices
 
 -- the slices
@@ -19,7 +17,7 @@ abbrev pub slices_of : List Float → List Float → List ℕ → List ℕ → L
 slices_of ps ns is parts ranges failures work = record { vertices = record { positions = ps; normals = ns }; indices = is; parts = parts; ranges = ranges; failures = failures; work = work }
 
 -- the answer with the slices
-abbrev pub left_mesh : Assembled → MeshSlices → LeftMesh
+abbrev pub left_mesh : Result MeshCounts ℕ → MeshSlices → LeftMesh
 left_mesh a s = record { answer = a; slices = s }
 
 -- the counts of an answer that isn't a refusal
@@ -38,8 +36,8 @@ counts_answered t =
     }
 
 -- 01's number and values for each answer
-abbrev pub assemble_answer : AfterAssemble → Assembled
-assemble_answer t = elim (eqb t.refusal 0) [ true ↦ Done (counts_answered t) | false ↦ Refused t.refusal ]
+abbrev pub assemble_answer : AfterAssemble → Result MeshCounts ℕ
+assemble_answer t = elim (eqb t.refusal 0) [ true ↦ Ok (counts_answered t) | false ↦ Err t.refusal ]
 
 -- what the definition says of the call, with the answer as assemble gives it
 abbrev pub assemble_answered : AfterAssemble → LeftMesh

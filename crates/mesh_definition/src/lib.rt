@@ -14,10 +14,3 @@ pub struct MeshCounts {
     pub overs: u64,
     pub closed: bool,
 }
-
-// What assemble answers: the counts, or the number of the first check that fails.
-#[derive(Clone, Copy)]
-pub enum Assembled {
-    Done(MeshCounts),
-    Refused(u32),
-}

@@ -1,30 +1,24 @@
 -- Laws of whether a mesh is closed: a look for −0.0, and the counts by which it is told. Assumes nothing.
 use mathlib.Core.Path.{◌≡◌, refl, sym, ap, ◌∙◌}
 use mathlib.Core.Bool.{Bool, true, false, not, ◌&&◌, ◌||◌}
-use mathlib.Core.List.{List, [], ◌∷◌}
-use Prim.Native.Nat.{ℕ, ◌+◌, ◌*◌, ◌^◌, ◌≤◌, ◌<◌}
+use mathlib.Core.List.{List}
+use Prim.Native.Nat.{ℕ, ◌+◌, ◌^◌, ◌<◌}
 use native.Mathlib.Omega.{arith}
-use borrow.Author.Tests.{eq-eqb, ne_eqb, not-true, not-false}
+use borrow.Author.Tests.{not-true}
 use lib.Dec.{eqb}
-use native.Mathlib.Numerals.{add-one}
-use lib.ListN.{length, get_or, take, drop}
-use lib.Seq.{take_all, take-suc}
+use lib.ListN.{length, get_or}
 use lib.Ieee.{Float, nan}
 use Rattle.lists.specs.Lists.{any}
 use Rattle.lists.specs.Any.{Looked, looked_more}
-use Rattle.lists.specs.Stretches.{rest_less}
 use Rattle.float_steps.specs.Floats.{bits32}
-use Rattle.point_rules.specs.Rule.{names}
 use Rattle.point_rules.specs.Points.{bits, zeros}
 use Rattle.point_rules.specs.Zeros.{minus_zero, zeros_bits}
 use Rattle.join_points.specs.declared.vertices.Rule.TheVariants as Rule
 use Rattle.join_points.specs.Rules.{rule_of}
-use Rattle.join_definition.specs.Join.{joined}
-use Rattle.mesh_counts.specs.Counts.{Counts, closed_by, closed_mesh, counts_of}
+use Rattle.mesh_counts.specs.Counts.{closed_by, closed_mesh, counts_of}
 use Rattle.mesh_tally.specs.declared.EdgeCounts.{EdgeCounts}
 use Rattle.mesh_tally.specs.Tally.{counts_in}
 use Rattle.mesh_edges.specs.Mesh.{ClosedTold, EdgesCounted, MeshCounted, MeshReady}
-use Rattle.mesh_edges.specs.declared.mesh.MeshEdges.{MeshEdges}
 
 -- ---- a look for −0.0
 
@@ -59,7 +53,7 @@ module _ (ps : List Float) (is : List ℕ) (v : ℕ) (W : List ℕ) where
     unfolding rule_of
     bits_counts = m.counts
 
-    pub edges_counted : {r : Bool} {E : List ℕ} → ClosedTold ps is v X r E → EdgesCounted ps is v W (record { edges = c.edges; opens = c.opens; overs = c.overs; closed = r }) E
+    pub edges_counted : {r : Bool} {E : List ℕ} → ClosedTold ps is v X r E → EdgesCounted ps is v W (record { counts = c; closed = r }) E
     edges_counted t = record { counts = bits_counts; closed = t.closed; rest = t.rest ∙ m.rest }
 
   -- the work area is as long as it was

@@ -11,7 +11,6 @@ use Rattle.lists.specs.Lists.{count_if}
 use Rattle.lists.specs.Sets.{take_sets, drop_sets}
 use Rattle.lists.specs.Stretches.{front_at, front_less, rest_less, stretch_at, stretch_kept, stretch_sets}
 use Rattle.point_rules.specs.Rule.{names}
-use Rattle.point_rules.specs.Points.{bits}
 use Rattle.point_rules.specs.Names.{names_length}
 use Rattle.body_rows.specs.Body.{triangles_of}
 use Rattle.join_points.specs.declared.vertices.Rule.{Rule}

@@ -35,7 +35,7 @@ pub record ClosedTold (ps : List Float) (is : List ℕ) (v : ℕ) (W : List ℕ)
 
 -- the counts of a mesh's edges and whether it is closed
 pub record EdgesCounted (ps : List Float) (is : List ℕ) (v : ℕ) (W : List ℕ) (r : MeshEdges) (E : List ℕ) : Type 0 where
-  pub counts : record { edges = r.edges; opens = r.opens; overs = r.overs } ≡ counts_of bits ps is
+  pub counts : counts_in r.counts ≡ counts_of bits ps is
   pub closed : r.closed ≡ closed_mesh ps is
   pub rest : drop (4 * v + 4 * length is) E ≡ drop (4 * v + 4 * length is) W
 

@@ -18,12 +18,10 @@ use mesh_tally::{EdgeCounts, tally};
 // The bits of -0.0.
 const MINUS_ZERO: u32 = 2147483648;
 
-// How many edges there are, how many of them are open (one use), how many are over (more than two), and whether the mesh is closed.
+// The counts of a mesh's edges, and whether the mesh is closed.
 #[derive(Clone, Copy)]
 pub struct MeshEdges {
-    pub edges: u64,
-    pub opens: u64,
-    pub overs: u64,
+    pub counts: EdgeCounts,
     pub closed: bool,
 }
 
@@ -32,10 +30,8 @@ fn any_minus_zero(positions: &[f32]) -> bool
     ensures { result ≡ any minus_zero positions.now }
 {
     let mut found = false;
-    let mut k = 0usize;
-    while k < positions.len() {
-        found = found | (bits_of_f32(positions[k]) == MINUS_ZERO);
-        k += 1;
+    for position in positions {
+        found |= bits_of_f32(*position) == MINUS_ZERO;
     }
     found
 }
@@ -107,9 +103,7 @@ pub fn count_mesh(positions: &[f32], indices: &[u32], w: &mut [u64], v: usize) -
     let c = count_edges(Rule::Bits, positions, indices, w, v);
     let closed = closed_mesh(positions, indices, w, v, c);
     MeshEdges {
-        edges: c.edges,
-        opens: c.opens,
-        overs: c.overs,
+        counts: c,
         closed: closed,
     }
 }

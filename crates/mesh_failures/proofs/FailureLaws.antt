@@ -13,7 +13,6 @@ use Rattle.body_rows.specs.Rows.{row_at}
 use Rattle.body_rows.specs.Patches.{patch_from, patch_at_lem, shapes}
 use Rattle.slice_append.specs.Appended.{Appended, appended_none, appended_written, appended_long, behind}
 use Rattle.patch_geometry.specs.declared.Aabb.{Aabb}
-use Rattle.patch_geometry.specs.Geometry.{diagonal}
 use Rattle.mesh_verdicts.specs.declared.Failure.{Failure}
 use Rattle.mesh_verdicts.specs.declared.Failure.TheVariants.{Empty, Upstream, Escape}
 use Rattle.mesh_verdicts.specs.Failures.{failure_of}
@@ -107,12 +106,11 @@ module _ {table : List ℕ} {ps : List Float} {is : List ℕ} {box : Aabb} {F : 
 
   module _ {W : List ℕ} {at : ℕ} (g : FailuresReady table ps is box W at F) {j base i k : ℕ} {G : List ℕ} (c : Failing table ps is box F j base i k G) (l : k < length (rows_of table)) where
     -- what writing row k's failure asks
-    pub failing_ready : {span : Float} {d : ℕ} → span ≡ diagonal box → d ≡ get_or W (at + k) 0 → FailureReady table ps is box span k base i d G j
+    pub failing_ready : {d : ℕ} → d ≡ get_or W (at + k) 0 → FailureReady table ps is box k base i d G j
     unfolding row_at
-    failing_ready {span} {d} s e =
+    failing_ready {d} e =
         record {
           judgeable = record {
-            span_is = s;
             row = l;
             positions_in = omega (arith, g.all_positions, vertices_in c.here l);
             indices_in = omega (arith, g.all_indices_lem, indices_in c.here l);

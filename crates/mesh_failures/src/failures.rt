@@ -10,8 +10,9 @@ ghost use Rattle.mesh_acceptance.specs.Judged.{FailureReady, FailureWritten, Fai
 use mesh_acceptance::FAILURE_WIDTH;
 use mesh_judge::row_verdict;
 use mesh_materials::{BinId, FaceId};
-use mesh_verdicts::{Failure, Verdict};
+use mesh_verdicts::{Failure, Reference};
 use patch_geometry::Aabb;
+use slice_append::put;
 
 // A failure is written as row j of the table: face; bin; case, 0 for empty, 1 to 255 for upstream, 256 for an escape; the bits of reach and span, else 0.
 fn put_failure(failures: &mut [u64], j: usize, face: FaceId, bin: BinId, failure: Failure)
@@ -23,16 +24,18 @@ fn put_failure(failures: &mut [u64], j: usize, face: FaceId, bin: BinId, failure
     let b = bin.0 as u64;
     let o = FAILURE_WIDTH * j;
     match failure {
-        Failure::Empty => slice_append::put_five(failures, o, f, b, 0, 0, 0),
-        Failure::Upstream(n) => slice_append::put_five(failures, o, f, b, n as u64, 0, 0),
-        Failure::Escape(reach, span) => slice_append::put_five(
+        Failure::Empty => put(failures, o, &[f, b, 0, 0, 0]),
+        Failure::Upstream(n) => put(failures, o, &[f, b, n as u64, 0, 0]),
+        Failure::Escape(reach, span) => put(
             failures,
             o,
-            f,
-            b,
-            256,
-            float_steps::bits_of_f64(reach),
-            float_steps::bits_of_f64(span),
+            &[
+                f,
+                b,
+                256,
+                float_steps::bits_of_f64(reach),
+                float_steps::bits_of_f64(span),
+            ],
         ),
     }
 }
@@ -42,8 +45,7 @@ fn append_failure(
     rows: &[u32],
     positions: &[f32],
     indices: &[u32],
-    reference: Aabb,
-    span: f64,
+    reference: Reference,
     k: usize,
     base: usize,
     i: usize,
@@ -51,17 +53,17 @@ fn append_failure(
     failures: &mut [u64],
     j: usize,
 ) -> usize
-    requires { FailureReady rows.now positions.now indices.now reference span k base i d failures.old j }
-    ensures { FailureWritten reference (patch_from (row_at rows.now k) positions.now [] indices.now base i) j
+    requires { FailureReady rows.now positions.now indices.now reference.aabb k base i d failures.old j }
+    ensures { FailureWritten reference.aabb (patch_from (row_at rows.now k) positions.now [] indices.now base i) j
         failures.old failures.new result }
 {
     if d != 0 {
         return j;
     }
-    let verdict = row_verdict(rows, positions, indices, reference, span, k, base, i);
+    let verdict = row_verdict(rows, positions, indices, reference, k, base, i);
     match verdict {
-        Verdict::Accepted => j,
-        Verdict::Failed(failure) => {
+        Ok(()) => j,
+        Err(failure) => {
             put_failure(
                 failures,
                 j,
@@ -88,20 +90,18 @@ pub fn write_failures(
     ensures { FailuresWritten rows.now positions.now indices.now reference failures.old
         failures.new result }
 {
-    let span = reference.diagonal();
+    let reference = Reference::new(reference);
     let m = body_rows::row_count(rows);
     let mut j = 0usize;
     let mut base = 0usize;
     let mut i = 0usize;
-    let mut k = 0usize;
-    while k < m {
+    for k in 0..m {
         let d = w[at + k];
         j = append_failure(
-            rows, positions, indices, reference, span, k, base, i, d, failures, j,
+            rows, positions, indices, reference, k, base, i, d, failures, j,
         );
         base += body_rows::vertices(rows, k) as usize;
         i += body_rows::indices(rows, k) as usize;
-        k += 1;
     }
     j
 }

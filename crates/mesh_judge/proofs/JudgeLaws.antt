@@ -2,9 +2,9 @@
 use mathlib.Core.Path.{◌≡◌, refl, sym, ap, ◌∙◌}
 use mathlib.Core.List.{List, [], ◌∷◌, ◌++◌, map, append_assoc, append-nil}
 use mathlib.Core.Option.{Option, none, some}
-use Prim.Native.Nat.{ℕ, suc, ◌+◌, ◌-◌, ◌*◌, ◌≤◌, ◌<◌}
+use Prim.Native.Nat.{ℕ, suc, ◌+◌, ◌*◌, ◌≤◌, ◌<◌}
 use native.Mathlib.Omega.{arith}
-use lib.ListN.{length, take, drop, set, length-set, length-append, drop_of_length-le}
+use lib.ListN.{length, drop, set, length-set, length-append, drop_of_length-le}
 use lib.Seq.{sets}
 use lib.Ieee.{Float}
 use Rattle.lists.specs.Sets.{sets_append}
@@ -12,22 +12,12 @@ use Rattle.body_rows.specs.Body.{Row, Patch, rows_of, patches_of}
 use Rattle.body_rows.specs.Rows.{row_at}
 use Rattle.body_rows.specs.Patches.{patch_from, shapes}
 use Rattle.patch_geometry.specs.declared.Aabb.{Aabb}
-use Rattle.patch_geometry.specs.Geometry.{diagonal}
 use Rattle.mesh_verdicts.specs.declared.Failure.{Failure}
-use Rattle.mesh_verdicts.specs.Failures.{failure_of, failure_by}
+use Rattle.mesh_verdicts.specs.Failures.{failure_of}
 use Rattle.mesh_materials.specs.Materials.{material_of}
-use Rattle.mesh_acceptance.specs.Judged.{decision_by, decision_of, RowJudgeable, DecisionReady, Judgeable}
+use Rattle.mesh_acceptance.specs.Judged.{decision_by, decision_of, DecisionReady, Judgeable}
 use Rattle.mesh_acceptance.specs.RestLaws.{rest_of, rest_here}
 use Rattle.mesh_acceptance.specs.RowStarts.{AtRow, at_first, at_next, vertices_in, indices_in}
-
--- the verdict on a row's stretches is the one on its patch
-pub row_fails : {table : List ℕ} {ps : List Float} {is : List ℕ} {box : Aabb} {span : Float} {k base i outcome first last end : ℕ} {f : Option Failure} → RowJudgeable table ps is box span k base i
-    → outcome ≡ (row_at table k).outcome → first ≡ 3 * base → last ≡ 3 * (base + (row_at table k).vertices) → end ≡ i + (row_at table k).indices
-    → f ≡ failure_by box outcome (take (last - first) (drop first ps)) (take (end - i) (drop i is)) → f ≡ failure_of box (patch_from (row_at table k) ps [] is base i)
-row_fails {table} {ps} {is} {box} {span} {k} {base} {i} {outcome} {first} {last} {end} g o a b e h =
-    let n : last - first ≡ 3 * (row_at table k).vertices = omega arith in
-    let m : end - i ≡ (row_at table k).indices = omega arith in
-    h ∙ (λ j. failure_by box (o j) (take (n j) (drop (a j) ps)) (take (m j) (drop i is)))
 
 module _ (box : Aabb) (materials : List ℕ) (default : ℕ) (p : Patch) where
   -- the decision on an accepted patch
@@ -55,13 +45,11 @@ module _ {table : List ℕ} {ps : List Float} {is : List ℕ} {box : Aabb} {mate
   judging_none = record { here = at_first table; done = []; are = refl; many = refl; put = refl; long = refl }
 
   -- what the decision on row k asks
-  pub judging_ready : {base i k : ℕ} {E : List ℕ} {span : Float} → Judgeable table ps is materials default W → Judging table ps is box materials default W base i k E → k < length (rows_of table)
-      → span ≡ diagonal box
-      → DecisionReady table ps is box span materials default k base i
-  judging_ready g c l s =
+  pub judging_ready : {base i k : ℕ} {E : List ℕ} → Judgeable table ps is materials default W → Judging table ps is box materials default W base i k E → k < length (rows_of table)
+      → DecisionReady table ps is materials default k base i
+  judging_ready g c l =
       record {
         judgeable = record {
-          span_is = s;
           row = l;
           positions_in = omega (arith, g.all_positions, vertices_in c.here l);
           indices_in = omega (arith, g.all_indices_lem, indices_in c.here l);

@@ -2,7 +2,6 @@
 use mathlib.Core.Path.{◌≡◌, refl, sym, ap, ◌∙◌}
 use mathlib.Core.List.{List, [], ◌∷◌}
 use Prim.Native.Nat.{ℕ, zero, suc, ◌+◌, ◌≤◌, ◌<◌}
-use native.Mathlib.Nat.{zero-add}
 use native.Mathlib.Omega.{arith}
 use lib.ListN.{length, get_or, drop, drop_of_length-le}
 use Rattle.lists.specs.Lists.{sum_of}
@@ -39,8 +38,9 @@ pub record Totalling (table W : List ℕ) (at k : ℕ) (t : Totals) : Type 0 whe
   pub indices_are : t.indices + all_indices (left table W at k) ≡ all_indices (accepted_rows (decisions_in table W at) (rows_of table))
 
 -- none is yet
-pub totalling_none : (table W : List ℕ) (at : ℕ) → Totalling table W at 0 (record { rows = 0; vertices = 0; indices = 0 })
-totalling_none table W at = record { low = omega arith; rows_are = zero-add _; vertices_are = zero-add _; indices_are = zero-add _ }
+pub totalling_none : (table W : List ℕ) (at : ℕ) {t : Totals} → (t.rows ≡ 0) × ((t.vertices ≡ 0) × (t.indices ≡ 0)) → Totalling table W at 0 t
+totalling_none table W at e =
+    record { low = omega arith; rows_are = omega (arith, e.0); vertices_are = omega (arith, e.1.0); indices_are = omega (arith, e.1.1) }
 
 module _ {table W : List ℕ} {at : ℕ} (g : TotalsReady table W at) {k : ℕ} {t : Totals} (c : Totalling table W at k t) where
   -- what adding row k asks

@@ -10,22 +10,21 @@ ghost use Rattle.mesh_verdicts.specs.Verdicts.{failure_in};
 ghost use Rattle.mesh_acceptance.specs.Judged.{decision_of, RowJudgeable, DecisionReady, Judgeable};
 
 use mesh_materials::{FaceId, material_of};
-use mesh_verdicts::{Verdict, verdict_of};
+use mesh_verdicts::{Failure, Reference, verdict_of};
 use patch_geometry::Aabb;
 
-// The verdict on row k, whose vertices start at `base` and whose indices at i.
+// Whether row k is accepted, whose vertices start at `base` and whose indices at i.
 pub fn row_verdict(
     rows: &[u32],
     positions: &[f32],
     indices: &[u32],
-    reference: Aabb,
-    span: f64,
+    reference: Reference,
     k: usize,
     base: usize,
     i: usize,
-) -> Verdict
-    requires { RowJudgeable rows.now positions.now indices.now reference span k base i }
-    ensures { failure_in result ≡ failure_of reference (patch_from (row_at rows.now k) positions.now [] indices.now base i) }
+) -> Result<(), Failure>
+    requires { RowJudgeable rows.now positions.now indices.now k base i }
+    ensures { failure_in result ≡ failure_of reference.aabb (patch_from (row_at rows.now k) positions.now [] indices.now base i) }
 {
     let first = 3 * base;
     let last = 3 * (base + body_rows::vertices(rows, k) as usize);
@@ -36,7 +35,6 @@ pub fn row_verdict(
         &positions[first..last],
         &indices[i..end],
         reference,
-        span,
     )
 }
 
@@ -45,25 +43,24 @@ fn decision(
     rows: &[u32],
     positions: &[f32],
     indices: &[u32],
-    reference: Aabb,
-    span: f64,
+    reference: Reference,
     materials: &[u64],
     default: u64,
     k: usize,
     base: usize,
     i: usize,
 ) -> u64
-    requires { DecisionReady rows.now positions.now indices.now reference span materials.now default k base i }
-    ensures { result ≡ decision_of reference materials.now default
+    requires { DecisionReady rows.now positions.now indices.now materials.now default k base i }
+    ensures { result ≡ decision_of reference.aabb materials.now default
         (patch_from (row_at rows.now k) positions.now [] indices.now base i) }
 {
-    let verdict = row_verdict(rows, positions, indices, reference, span, k, base, i);
+    let verdict = row_verdict(rows, positions, indices, reference, k, base, i);
     match verdict {
-        Verdict::Accepted => {
+        Ok(()) => {
             let material = material_of(materials, default, FaceId(body_rows::face(rows, k)));
             material.0 as u64 + 1
         }
-        Verdict::Failed(_) => 0,
+        Err(_) => 0,
     }
 }
 
@@ -82,17 +79,15 @@ pub fn judge_rows(
         (map (decision_of reference materials.now default)
         (patches_of (rows_of rows.now) positions.now [] indices.now)) }
 {
-    let span = reference.diagonal();
+    let reference = Reference::new(reference);
     let m = body_rows::row_count(rows);
     let mut base = 0usize;
     let mut i = 0usize;
-    let mut k = 0usize;
-    while k < m {
+    for k in 0..m {
         w[k] = decision(
-            rows, positions, indices, reference, span, materials, default, k, base, i,
+            rows, positions, indices, reference, materials, default, k, base, i,
         );
         base += body_rows::vertices(rows, k) as usize;
         i += body_rows::indices(rows, k) as usize;
-        k += 1;
     }
 }

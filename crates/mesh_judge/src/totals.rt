@@ -5,7 +5,7 @@ ghost use Rattle.body_rows.specs.Rows.{row_at};
 ghost use Rattle.mesh_judge.specs.Totals.{RowAddable, totals_with, Totalled, TotalsReady};
 
 // How many rows are accepted, and how many vertices and indices they have.
-#[derive(Clone, Copy)]
+#[derive(Clone, Copy, Default)]
 pub struct Totals {
     pub rows: usize,
     pub vertices: usize,
@@ -33,15 +33,9 @@ pub fn accepted_totals(rows: &[u32], w: &[u64], at: usize) -> Totals
     ensures { Totalled rows.now w.now at result }
 {
     let m = body_rows::row_count(rows);
-    let mut t = Totals {
-        rows: 0,
-        vertices: 0,
-        indices: 0,
-    };
-    let mut k = 0usize;
-    while k < m {
+    let mut t = Totals::default();
+    for k in 0..m {
         t = add_row(rows, w, at, k, t);
-        k += 1;
     }
     t
 }

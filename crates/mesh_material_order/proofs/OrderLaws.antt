@@ -1,12 +1,17 @@
 -- Laws of the words of rows: each row's words kept, and sorted. Assumes nothing.
 use mathlib.Core.Path.{◌≡◌, refl, sym, ap, ◌∙◌, subst}
 use mathlib.Core.List.{List}
-use Prim.Native.Nat.{ℕ, zero, suc, ◌+◌, ◌*◌, ◌≤◌, ◌<◌}
+use Prim.Native.Nat.{ℕ, zero, suc, ◌+◌, ◌-◌, ◌*◌, ◌≤◌, ◌<◌}
 use native.Mathlib.Omega.{arith}
 use native.Mathlib.Decide.{ℕ_discrete}
 use borrow.Author.Count.{below_more}
+use borrow.Author.Tests.{ltb-true, ltb-false}
+use borrow.Rule.Slice.PartMut.{mid_of, mid_len}
+use lib.Dec.{ltb}
+use mathlib.Core.Bool.{true, false}
+use Rattle.std.specs.List.Sorted.{IsPartitionPoint}
 use lib.ListN.{length, get_or, take, drop, set, length-set}
-use lib.Seq.{get_or-set_same, get_or-set_other, take-set-le, drop-set-lt}
+use lib.Seq.{get_or-take, get_or-drop, get_or-set_same, get_or-set_other, take-set-le, drop-set-lt}
 use Rattle.lists.specs.Lists.{sum_of}
 use Rattle.lists.specs.Stretches.{front_at, front_less, rest_less}
 use Rattle.slice_sort.specs.Sorting.{Sortable, Stands, Sorted}
@@ -166,32 +171,36 @@ module _ {table W : List ℕ} {at starts order m : ℕ} (g : Orderable table W a
 
 -- ---- the first accepted row
 
--- the words before place p are of failed rows
-pub record Failing (W : List ℕ) (order m p : ℕ) : Type 0 where
-  pub low : p ≤ m
-  pub failed : (i : ℕ) → i < p → get_or W (order + i) 0 < 4096
+-- the words of all rows
+module _ {W : List ℕ} {order m : ℕ} (g : OrderRoom W order m) where
+  abbrev words : List ℕ
+  words = mid_of order (order + m - order) W
 
-module _ {W : List ℕ} {order m : ℕ} where
-  pub failing_none : Failing W order m 0
-  failing_none = record { low = omega arith; failed = λ i h. absurd (omega arith) }
+  words_long : length words ≡ m
+  words_long = let e : order + m - order ≡ m = omega arith in mid_len order (order + m) W g.room ∙ e
 
-  module _ {p : ℕ} (c : Failing W order m p) where
-    pub failing_more : p < m → get_or W (order + p) 0 < 4096 → Failing W order m (p + 1)
-    failing_more l h = record { low = omega arith; failed = below_more (λ (i : ℕ). get_or W (order + i) 0 < 4096) p c.failed h }
+  word_at : (i : ℕ) → i < m → get_or words i 0 ≡ get_or W (order + i) 0
+  word_at i h = get_or-take (order + m - order) (drop order W) i 0 (omega arith) ∙ get_or-drop order W i 0
 
-    -- the word at place p is not
-    pub failing_hit : OrderRoom W order m → p < m → 4096 ≤ get_or W (order + p) 0 → FirstAccepted W order m p
-    failing_hit g l h =
-        record {
-          low = c.low;
-          failed = c.failed;
-          accepted = λ i a b. go i a b (ℕ_discrete i p);
-        }
-      where
-        go : (i : ℕ) → p ≤ i → i < m → Dec (i ≡ p) → 4096 ≤ get_or W (order + i) 0
-        go i a b (yes e) = subst (λ (q : ℕ). 4096 ≤ get_or W (order + q) 0) (sym e) h
-        go i a b (no d) = let r = g.rising p i (omega arith) b in omega arith
+  -- they rise
+  pub words_rise : (i j : ℕ) → i ≤ j → j < length words → get_or words i 0 ≤ get_or words j 0
+  words_rise i j h l = go (ℕ_discrete i j)
+    where
+      go : Dec (i ≡ j) → get_or words i 0 ≤ get_or words j 0
+      go (yes e) = subst (λ (k : ℕ). get_or words i 0 ≤ get_or words k 0) e (omega arith)
+      go (no d) =
+          let r = g.rising i j (omega arith) (omega (arith, words_long)) in
+          omega (arith, r, word_at i (omega (arith, words_long)), word_at j (omega (arith, words_long)))
 
-    -- all are
-    pub failing_all : m ≤ p → FirstAccepted W order m p
-    failing_all h = record { low = c.low; failed = c.failed; accepted = λ i a b. absurd (omega arith) }
+  -- those of failed rows stand before place p
+  pub first_is : {p : ℕ} → p ≤ length words → IsPartitionPoint (λ y. ltb y 4096 ≡ true) (λ y. ltb y 4096 ≡ false) words p → FirstAccepted W order m p
+  first_is {p} l e =
+      record {
+        low = omega (arith, words_long);
+        failed = λ i h.
+            let t : get_or words i 0 < 4096 = ltb-true _ _ (e.0 i 0 (omega arith) h) in
+            omega (arith, word_at i (omega (arith, words_long)));
+        accepted = λ i h b.
+            let t : 4096 ≤ get_or words i 0 = ltb-false _ _ (e.1 i 0 h (omega (arith, words_long))) in
+            omega (arith, word_at i b);
+      }

@@ -40,14 +40,12 @@ fn keep_rows(rows: &[u32], w: &mut [u64], at: usize, starts: usize, order: usize
 {
     let mut base = 0u64;
     let mut i = 0u64;
-    let mut k = 0usize;
-    while k < m {
+    for k in 0..m {
         let d = w[at + k];
         w[starts + k] = base * INDICES + i;
         w[order + k] = order_word(d, k as u64);
         base = base_after(base, body_rows::vertices(rows, k) as u64, d);
         i += body_rows::indices(rows, k) as u64;
-        k += 1;
     }
 }
 
@@ -60,17 +58,10 @@ pub fn order_rows(rows: &[u32], w: &mut [u64], at: usize, starts: usize, order: 
     slice_sort::sort_words(w, order, m, ROW_BITS);
 }
 
-// The place of the first word of an accepted row.
+// The place of the first word of an accepted row: the words rise, and a failed row's decision is 0.
 pub fn first_accepted(w: &[u64], order: usize, m: usize) -> usize
     requires { OrderRoom w.now order m }
     ensures { FirstAccepted w.now order m result }
 {
-    let mut p = 0usize;
-    while p < m {
-        if ROWS <= w[order + p] {
-            return p;
-        }
-        p += 1;
-    }
-    p
+    w[order..order + m].partition_point(|word| *word < ROWS)
 }

@@ -3,14 +3,15 @@ use mathlib.Core.Path.{◌≡◌, refl, sym, ap, ◌∙◌}
 use mathlib.Core.Bool.{Bool, true, false}
 use mathlib.Core.List.{List, [], ◌∷◌}
 use mathlib.Core.Option.{Option, none, some}
-use Prim.Native.Nat.{ℕ, zero, suc, ◌+◌, ◌-◌, ◌≤◌, ◌<◌}
+use Prim.Native.Nat.{ℕ, zero, suc, ◌-◌, ◌≤◌, ◌<◌}
 use native.Mathlib.Nat.{not-suc-le-zero}
 use native.Mathlib.Omega.{arith}
 use borrow.Author.Tests.{lt-ltb, le-ltb}
 use lib.ListN.{length, get_or, get_or-eq_default}
 use lib.Dec.{ltb}
 use Rattle.lists.specs.Lists.{any, item_at}
-use Rattle.lists.specs.Any.{Searched, searched_more, searched_hit}
+use Rattle.std.specs.Prelude.{◌||◌}
+use Rattle.std.specs.List.{list_any}
 use Rattle.mesh_materials.specs.Materials.{entry, entry_of, material_of, bad_materials}
 use Rattle.mesh_materials.specs.Small.{SmallMaterials}
 
@@ -18,14 +19,15 @@ use Rattle.mesh_materials.specs.Small.{SmallMaterials}
 abbrev pub high : ℕ → Bool
 high m = ltb 4294967296 m
 
-module _ {xs : List ℕ} {k : ℕ} (s : Searched high xs k) (h : k < length xs) where
-  -- entry k is above 2 ^ 32
-  pub high_hit : 4294967296 < get_or xs k 0 → true ≡ any high xs
-  high_hit l = searched_hit 0 s h (lt-ltb 4294967296 (get_or xs k 0) l)
-
-  -- it isn't
-  pub high_more : get_or xs k 0 ≤ 4294967296 → Searched high xs (k + 1)
-  high_more l = searched_more 0 s h (le-ltb 4294967296 (get_or xs k 0) l)
+-- `any` of this project as the library has it
+pub any_list : (xs : List ℕ) → list_any high xs ≡ any high xs
+unfolding any
+any_list [] = refl
+any_list (x ∷ xs) = go (high x) (any_list xs)
+  where
+    go : (b : Bool) {r s : Bool} → r ≡ s → (b || r) ≡ elim b [ true ↦ true | false ↦ s ]
+    go true e = refl
+    go false e = e
 
 -- the default is above 2 ^ 32
 pub bad_default : (xs : List ℕ) (d : ℕ) → 4294967296 < d → true ≡ bad_materials xs d

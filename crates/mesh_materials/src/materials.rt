@@ -7,28 +7,21 @@ ghost use Rattle.mesh_materials.specs.Small.{SmallMaterials};
 
 use crate::{FaceId, MaterialId};
 
+// An entry is at most one above the highest material number, 2^32 - 1.
+const MOST_ENTRY: u64 = 4294967296;
+
 // Whether an entry is above 2^32.
 fn any_above(materials: &[u64]) -> bool
     ensures { result ≡ any (λ m. ltb 4294967296 m) materials.now }
 {
-    let mut k = 0usize;
-    while k < materials.len() {
-        if materials[k] > 4294967296 {
-            return true;
-        }
-        k += 1;
-    }
-    false
+    materials.iter().any(|entry| *entry > MOST_ENTRY)
 }
 
 // 42: whether an entry or the default is above 2^32.
 pub fn bad_materials(materials: &[u64], default: u64) -> bool
     ensures { result ≡ bad_materials materials.now default }
 {
-    if default > 4294967296 {
-        return true;
-    }
-    any_above(materials)
+    default > MOST_ENTRY || any_above(materials)
 }
 
 // The entry of a face, 0 if it is missing.

@@ -7,6 +7,7 @@ use mesh_acceptance::FAILURE_WIDTH;
 use mesh_layout::{PART_WIDTH, RANGE_WIDTH};
 
 // 41: whether a slice is shorter than the accepted rows need, or a table has fewer than m rows.
+#[tactic(auto, unfolding(crate::specs::Room::short_by))]
 pub fn too_short(
     vertices: usize,
     indices: usize,
@@ -23,20 +24,10 @@ pub fn too_short(
         (length mesh_indices.now)
         (length parts.now) (length ranges.now) (length failures.now) }
 {
-    if mesh_positions.len() < 3 * vertices {
-        return true;
-    }
-    if mesh_normals.len() < 3 * vertices {
-        return true;
-    }
-    if mesh_indices.len() < indices {
-        return true;
-    }
-    if parts.len() < PART_WIDTH * m {
-        return true;
-    }
-    if ranges.len() < RANGE_WIDTH * m {
-        return true;
-    }
-    failures.len() < FAILURE_WIDTH * m
+    mesh_positions.len() < 3 * vertices
+        || mesh_normals.len() < 3 * vertices
+        || mesh_indices.len() < indices
+        || parts.len() < PART_WIDTH * m
+        || ranges.len() < RANGE_WIDTH * m
+        || failures.len() < FAILURE_WIDTH * m
 }

@@ -11,7 +11,6 @@ use Rattle.body_rows.specs.Body.{Row, rows_of, all_vertices}
 use Rattle.body_rows.specs.Rows.{row_at, vertices_before}
 use Rattle.body_rows.specs.Patches.{vertices_next, vertices_room}
 use Rattle.slice_append.specs.Appended.{Appended, appended_none, appended_written, appended_long, behind, part_low}
-use Rattle.slice_append.specs.Ready.{StretchReady}
 use Rattle.mesh_layout.specs.JudgedRows.{JudgedRow, judged_in, base_after, kept_if, numbers_by}
 use Rattle.mesh_layout.specs.RowLaws.{judged_here, judged_long}
 use Rattle.mesh_layout.specs.Written.{RowCopyable, RowCopied, VerticesWritable, VerticesWritten}
@@ -37,9 +36,9 @@ copied_no xs base vertices zero out o e = record { numbers = appended_none (3 * 
 copied_no xs base vertices (suc m) out o e = absurd (omega arith)
 
 module _ {xs : List Float} {base vertices d : ℕ} {out : List Float} {o : ℕ} (g : RowCopyable xs base vertices d out o) (n : d ≡ 0 → ⊥) where
-  -- what copying asks
-  pub copy_ready : StretchReady xs (3 * base) (3 * (base + vertices)) out (3 * o)
-  copy_ready = record { order = omega arith; inside = g.inside; room = omega (arith, g.room n) }
+  -- there is room for its numbers
+  pub copy_room : 3 * o + length (take (3 * (base + vertices) - 3 * base) (drop (3 * base) xs)) ≤ length out
+  copy_room = omega (arith, g.inside, g.room n, length-take-le (3 * (base + vertices) - 3 * base) (drop (3 * base) xs) (omega (arith, g.inside, length-drop (3 * base) xs)))
 
   -- an accepted row adds its numbers
   pub copied_yes : {new : List Float} → Appended (3 * o) (take (3 * (base + vertices) - 3 * base) (drop (3 * base) xs)) out new → RowCopied xs base vertices d out o new (o + vertices)

@@ -13,7 +13,7 @@ fn put_range(ranges: &mut [u32], r: usize, face: FaceId, bin: BinId, first: u32,
     requires { range_width * r + range_width ≤ length ranges.old }
     ensures { Appended (range_width * r) (face.0 ∷ bin.0 ∷ first ∷ end ∷ []) ranges.old ranges.new }
 {
-    slice_append::put_four(ranges, RANGE_WIDTH * r, face.0, bin.0, first, end);
+    slice_append::put(ranges, RANGE_WIDTH * r, &[face.0, bin.0, first, end]);
 }
 
 // Row k's range, if its decision isn't 0, is written as range r of the table; the answer is how many there are then.
@@ -52,10 +52,8 @@ pub fn write_ranges(rows: &[u32], w: &[u64], at: usize, starts: usize, ranges: &
 {
     let m = body_rows::row_count(rows);
     let mut r = 0usize;
-    let mut k = 0usize;
-    while k < m {
+    for k in 0..m {
         r = append_range(rows, w, at, starts, k, ranges, r);
-        k += 1;
     }
     r
 }

@@ -18,7 +18,7 @@ fn append_row(
     if d == 0 {
         return o;
     }
-    slice_append::append_stretch(numbers, 3 * base, 3 * (base + vertices), out, 3 * o);
+    slice_append::put(out, 3 * o, &numbers[3 * base..3 * (base + vertices)]);
     o + vertices
 }
 
@@ -30,11 +30,9 @@ pub fn write_vertices(rows: &[u32], numbers: &[f32], w: &[u64], at: usize, out: 
     let m = body_rows::row_count(rows);
     let mut o = 0usize;
     let mut base = 0usize;
-    let mut k = 0usize;
-    while k < m {
+    for k in 0..m {
         let vertices = body_rows::vertices(rows, k) as usize;
         o = append_row(numbers, base, vertices, w[at + k], out, o);
         base += vertices;
-        k += 1;
     }
 }

@@ -83,6 +83,12 @@ module _ {table is W : List ℕ} {at starts order m first wanted : ℕ} {out : L
           long = all.long;
         }
 
+    -- no word is left: it is written
+    pub walking_all : p ≡ m → RunWritten table is W E at starts order m wanted out new start (record { place = m; end = o })
+    walking_all e =
+        subst (λ (x : ℕ). RunWritten table is W E at starts order m wanted out new start (record { place = x; end = o })) e
+        (walking_done (λ i a b. absurd (omega arith)))
+
     module _ (l : p < m) where
       abbrev here : RowAt W at order m p
       here = g.ordered.rows p l

@@ -15,7 +15,7 @@ fn put_part(parts: &mut [u32], p: usize, material: MaterialId, start: u32, count
     requires { part_width * p + part_width ≤ length parts.old }
     ensures { Appended (part_width * p) (material.0 ∷ start ∷ count ∷ []) parts.old parts.new }
 {
-    slice_append::put_three(parts, PART_WIDTH * p, material.0, start, count);
+    slice_append::put(parts, PART_WIDTH * p, &[material.0, start, count]);
 }
 
 // The runs of all materials are written to the front of `out`, their parts to the front of the table, and where each row's indices begin from `starts` on.

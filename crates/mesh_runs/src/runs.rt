@@ -50,8 +50,7 @@ pub fn write_run(
         out.new start result }
 {
     let mut o = start;
-    let mut p = first;
-    while p < m {
+    for p in first..m {
         let k = (w[order + p] % ROWS) as usize;
         if w[at + k] != wanted {
             return RunEnd { place: p, end: o };
@@ -69,7 +68,6 @@ pub fn write_run(
             out,
             o,
         );
-        p += 1;
     }
-    RunEnd { place: p, end: o }
+    RunEnd { place: m, end: o }
 }

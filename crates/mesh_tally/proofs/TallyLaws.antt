@@ -78,18 +78,18 @@ pub record Tallying (W : List ℕ) (at n i : ℕ) (c : EdgeCounts) : Type 0 wher
   pub rest : (us : List Use) → UseWords us W at n → Counting us i c
 
 -- none is counted yet
-pub tallying_none : (W : List ℕ) (at n : ℕ) → Tallying W at n 0 (record { edges = 0; opens = 0; overs = 0 })
-tallying_none W at n =
+pub tallying_none : (W : List ℕ) (at n : ℕ) {c : EdgeCounts} → (c.edges ≡ 0) × ((c.opens ≡ 0) × (c.overs ≡ 0)) → Tallying W at n 0 c
+tallying_none W at n e =
     record {
       low = omega arith;
-      few_edges = omega arith;
-      few_opens = omega arith;
-      few_overs = omega arith;
+      few_edges = omega (arith, e.0);
+      few_opens = omega (arith, e.1.0);
+      few_overs = omega (arith, e.1.1);
       rest = λ us w.
           record {
-            edges = omega (arith, ap length (firsts_all us));
-            opens = omega (arith, ap (count_if (λ u. is_one us u)) (firsts_all us));
-            overs = omega (arith, ap (count_if (λ u. is_over us u)) (firsts_all us));
+            edges = omega (arith, e.0, ap length (firsts_all us));
+            opens = omega (arith, e.1.0, ap (count_if (λ u. is_one us u)) (firsts_all us));
+            overs = omega (arith, e.1.1, ap (count_if (λ u. is_over us u)) (firsts_all us));
           };
     }
 

@@ -7,7 +7,7 @@ ghost use Rattle.mesh_tally.specs.Tally.{Few, UseReady, TallyReady, Tallied, cou
 use edge_uses::{EQUAL_ENDS, RUNS_AFTER_FIRSTS};
 
 // How many edges there are, how many of them are open (one use), and how many are over (more than two).
-#[derive(Clone, Copy)]
+#[derive(Clone, Copy, Default)]
 pub struct EdgeCounts {
     pub edges: u64,
     pub opens: u64,
@@ -23,20 +23,19 @@ fn with_edge(c: EdgeCounts, uses: u64) -> EdgeCounts
         return EdgeCounts {
             edges: c.edges + 1,
             opens: c.opens + 1,
-            overs: c.overs,
+            ..c
         };
     }
     if uses > 2 {
         return EdgeCounts {
             edges: c.edges + 1,
-            opens: c.opens,
             overs: c.overs + 1,
+            ..c
         };
     }
     EdgeCounts {
         edges: c.edges + 1,
-        opens: c.opens,
-        overs: c.overs,
+        ..c
     }
 }
 
@@ -59,15 +58,9 @@ pub fn tally(w: &[u64], at: usize, n: usize) -> EdgeCounts
     requires { TallyReady w.now at n }
     ensures { Tallied w.now at n result }
 {
-    let mut c = EdgeCounts {
-        edges: 0,
-        opens: 0,
-        overs: 0,
-    };
-    let mut i = 0usize;
-    while i < n {
+    let mut c = EdgeCounts::default();
+    for i in 0..n {
         c = with_use(w, at, n, i, c);
-        i += 1;
     }
     c
 }

@@ -1,10 +1,9 @@
--- The failure that a verdict tells of. Assumes nothing.
+-- The failure that an answer tells of. Assumes nothing.
+use Rattle.std.specs.Prelude.{Result, Ok, Err}
 use Rattle.std.proofs.Math.Option.{Option, none, some}
 use Rattle.mesh_verdicts.specs.declared.Failure.{Failure}
-use Rattle.mesh_verdicts.specs.declared.verdict.Verdict.{Verdict}
-use Rattle.mesh_verdicts.specs.declared.verdict.Verdict.TheVariants as verdict
 
--- the failure that a verdict tells of
-abbrev pub failure_in : Verdict → Option Failure
-failure_in verdict.Accepted = none
-failure_in (verdict.Failed f) = some f
+-- the failure that an answer tells of
+abbrev pub failure_in : {A : Type 0} → Result A Failure → Option Failure
+failure_in (Ok a) = none
+failure_in (Err f) = some f

@@ -161,9 +161,9 @@ module _ {table : List ℕ} {ps ns : List Float} {is : List ℕ} {box : Aabb} {W
           parts = b.parts;
           ranges = b.ranges;
           failures = b.failures;
-          edges = c.edges;
-          opens = c.opens;
-          overs = c.overs;
+          edges = c.counts.edges;
+          opens = c.counts.opens;
+          overs = c.counts.overs;
           closed = c.closed;
         })
     mesh_written {X} k =

@@ -27,7 +27,7 @@ pub record CountReady (P : List Float) (I W : List ℕ) (vertices indices : ℕ)
 
 -- what it leaves
 pub record Counted (P : List Float) (I W E : List ℕ) (vertices indices : ℕ) (r : MeshEdges) : Type 0 where
-  pub counts : record { edges = r.edges; opens = r.opens; overs = r.overs } ≡ counts_of bits (take (3 * vertices) P) (take indices I)
+  pub counts : record { edges = r.counts.edges; opens = r.counts.opens; overs = r.counts.overs } ≡ counts_of bits (take (3 * vertices) P) (take indices I)
   pub closed : r.closed ≡ closed_mesh (take (3 * vertices) P) (take indices I)
   pub rest : drop (4 * vertices + 4 * indices) E ≡ drop (4 * vertices + 4 * indices) W
 

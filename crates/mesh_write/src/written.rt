@@ -72,9 +72,9 @@ pub fn write_mesh(
         parts: b.parts as u32,
         ranges: b.ranges as u32,
         failures: b.failures as u32,
-        edges: c.edges,
-        opens: c.opens,
-        overs: c.overs,
+        edges: c.counts.edges,
+        opens: c.counts.opens,
+        overs: c.counts.overs,
         closed: c.closed,
     }
 }

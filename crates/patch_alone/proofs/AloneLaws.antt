@@ -9,9 +9,8 @@ use Rattle.body_rows.specs.Body.{first_failing}
 use Rattle.body_refusals.specs.BodyChecks.{lone_checks}
 use Rattle.body_checks.specs.Accepted.{passed_alone}
 use Rattle.patch_geometry.specs.declared.Aabb.{Aabb}
-use Rattle.patch_alone.specs.declared.alone.Measured.TheVariants as Measure
-use Rattle.patch_alone.specs.declared.alone.Judged.TheVariants as Judge
-use Rattle.patch_alone.specs.Answers.{answer_or, measured_of, judged_of}
+use Rattle.std.proofs.Common.{Result, Ok, Err}
+use Rattle.patch_alone.specs.Answers.{answer_of}
 use Rattle.patch_measures.specs.Volume.{CornersInside, patch_volume}
 use Rattle.patch_geometry.specs.Geometry.{zero64}
 use Rattle.patch_alone.specs.Alone.{alone, volume_alone, farthest_alone, escapes_alone}
@@ -23,41 +22,41 @@ module _ (ps ns : List Float) (is : List ℕ) {n : ℕ} (e : n ≡ first_failing
   within_alone z = (passed_alone ps ns is (sym e ∙ z)).inside
 
   -- a check fails
-  refused : {A B : Type 0} (value : A → B) (refuse : ℕ → B) (none answer : A) → (n ≡ 0 → ⊥) → refuse n ≡ answer_or value refuse (alone ps ns is none answer)
+  pub refused : {A : Type 0} (none answer : A) → (n ≡ 0 → ⊥) → Err n ≡ answer_of (alone ps ns is none answer)
   unfolding alone
-  refused value refuse none answer h = rw (sym e, ne_eqb n 0 h)
+  refused none answer h = rw (sym e, ne_eqb n 0 h)
 
   -- none does
-  answered : {A B : Type 0} (value : A → B) (refuse : ℕ → B) (none answer : A) {r : A} → n ≡ 0 → r ≡ answer → value r ≡ answer_or value refuse (alone ps ns is none answer)
+  pub answered : {A : Type 0} (none answer : A) {r : A} → n ≡ 0 → r ≡ answer → Ok r ≡ answer_of (alone ps ns is none answer)
   unfolding alone
-  answered value refuse none answer z f = rw (sym e, z, f)
+  answered none answer z f = rw (sym e, z, f)
 
   -- the volume is refused
-  pub volume_refused : (flip : Bool) → (n ≡ 0 → ⊥) → Measure.Refused n ≡ measured_of (volume_alone ps ns is flip)
+  pub volume_refused : (flip : Bool) → (n ≡ 0 → ⊥) → Err n ≡ answer_of (volume_alone ps ns is flip)
   unfolding volume_alone
-  volume_refused flip h = refused Measure.Value Measure.Refused zero64 (patch_volume ps is flip) h
+  volume_refused flip h = refused zero64 (patch_volume ps is flip) h
 
   -- the volume is answered
-  pub volume_answered : (flip : Bool) {r : Float} → n ≡ 0 → r ≡ patch_volume ps is flip → Measure.Value r ≡ measured_of (volume_alone ps ns is flip)
+  pub volume_answered : (flip : Bool) {r : Float} → n ≡ 0 → r ≡ patch_volume ps is flip → Ok r ≡ answer_of (volume_alone ps ns is flip)
   unfolding volume_alone
-  volume_answered flip z f = answered Measure.Value Measure.Refused zero64 (patch_volume ps is flip) z f
+  volume_answered flip z f = answered zero64 (patch_volume ps is flip) z f
 
   -- the reach is refused
-  pub farthest_refused : (box : Aabb) → (n ≡ 0 → ⊥) → Measure.Refused n ≡ measured_of (farthest_alone ps ns is box)
+  pub farthest_refused : (box : Aabb) → (n ≡ 0 → ⊥) → Err n ≡ answer_of (farthest_alone ps ns is box)
   unfolding farthest_alone
-  farthest_refused box h = refused Measure.Value Measure.Refused zero64 (farthest ps box) h
+  farthest_refused box h = refused zero64 (farthest ps box) h
 
   -- the reach is answered
-  pub farthest_answered : (box : Aabb) {r : Float} → n ≡ 0 → r ≡ farthest ps box → Measure.Value r ≡ measured_of (farthest_alone ps ns is box)
+  pub farthest_answered : (box : Aabb) {r : Float} → n ≡ 0 → r ≡ farthest ps box → Ok r ≡ answer_of (farthest_alone ps ns is box)
   unfolding farthest_alone
-  farthest_answered box z f = answered Measure.Value Measure.Refused zero64 (farthest ps box) z f
+  farthest_answered box z f = answered zero64 (farthest ps box) z f
 
   -- the escape is refused
-  pub escapes_refused : (box : Aabb) → (n ≡ 0 → ⊥) → Judge.Refused n ≡ judged_of (escapes_alone ps ns is box)
+  pub escapes_refused : (box : Aabb) → (n ≡ 0 → ⊥) → Err n ≡ answer_of (escapes_alone ps ns is box)
   unfolding escapes_alone
-  escapes_refused box h = refused Judge.Verdict Judge.Refused false (escapes_body ps box) h
+  escapes_refused box h = refused false (escapes_body ps box) h
 
   -- the escape is answered
-  pub escapes_answered : (box : Aabb) {r : Bool} → n ≡ 0 → r ≡ escapes_body ps box → Judge.Verdict r ≡ judged_of (escapes_alone ps ns is box)
+  pub escapes_answered : (box : Aabb) {r : Bool} → n ≡ 0 → r ≡ escapes_body ps box → Ok r ≡ answer_of (escapes_alone ps ns is box)
   unfolding escapes_alone
-  escapes_answered box z f = answered Judge.Verdict Judge.Refused false (escapes_body ps box) z f
+  escapes_answered box z f = answered false (escapes_body ps box) z f

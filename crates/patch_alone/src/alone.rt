@@ -1,26 +1,15 @@
-// A patch asked about alone: its checks, and then its volume, its reach or its escape.
+// A patch asked about alone: its checks, and then its volume or its reach.
 
 ghost use Rattle.std.specs.Prelude.{◌≡◌};
-ghost use Rattle.patch_alone.specs.Answers.{judged_of, measured_of};
-ghost use Rattle.patch_alone.specs.Alone.{escapes_alone, farthest_alone, volume_alone};
+ghost use Rattle.refusals.specs.Numbers.{numbered};
+ghost use Rattle.patch_alone.specs.Answers.{answer_of};
+ghost use Rattle.patch_alone.specs.Alone.{farthest_alone, volume_alone};
 
+use body_checks::lone_failing;
 use patch_geometry::Aabb;
-use patch_reach::{escapes_body, farthest};
+use patch_reach::farthest;
 use patch_volume::patch_volume;
-
-// A number, or the refusal's number.
-#[derive(Clone, Copy)]
-pub enum Measured {
-    Value(f64),
-    Refused(u32),
-}
-
-// A verdict, or the refusal's number.
-#[derive(Clone, Copy)]
-pub enum Judged {
-    Verdict(bool),
-    Refused(u32),
-}
+use refusals::Refusal;
 
 // The volume of a patch alone.
 pub fn patch_volume_alone(
@@ -28,14 +17,11 @@ pub fn patch_volume_alone(
     normals: &[f32],
     indices: &[u32],
     flip: bool,
-) -> Measured
-    ensures { result ≡ measured_of (volume_alone positions.now normals.now indices.now flip) }
+) -> Result<f64, Refusal>
+    ensures { numbered result ≡ answer_of (volume_alone positions.now normals.now indices.now flip) }
 {
-    let n = body_checks::lone_failing(positions, normals, indices);
-    if n != 0 {
-        return Measured::Refused(n);
-    }
-    Measured::Value(patch_volume(positions, indices, flip))
+    lone_failing(positions, normals, indices)?;
+    Ok(patch_volume(positions, indices, flip))
 }
 
 // The reach of a patch alone.
@@ -44,23 +30,9 @@ pub fn farthest_alone(
     normals: &[f32],
     indices: &[u32],
     reference: Aabb,
-) -> Measured
-    ensures { result ≡ measured_of (farthest_alone positions.now normals.now indices.now reference) }
+) -> Result<f64, Refusal>
+    ensures { numbered result ≡ answer_of (farthest_alone positions.now normals.now indices.now reference) }
 {
-    let n = body_checks::lone_failing(positions, normals, indices);
-    if n != 0 {
-        return Measured::Refused(n);
-    }
-    Measured::Value(farthest(positions, reference))
-}
-
-// Whether a patch alone escapes.
-pub fn escapes_alone(positions: &[f32], normals: &[f32], indices: &[u32], reference: Aabb) -> Judged
-    ensures { result ≡ judged_of (escapes_alone positions.now normals.now indices.now reference) }
-{
-    let n = body_checks::lone_failing(positions, normals, indices);
-    if n != 0 {
-        return Judged::Refused(n);
-    }
-    Judged::Verdict(escapes_body(positions, reference))
+    lone_failing(positions, normals, indices)?;
+    Ok(farthest(positions, reference))
 }

@@ -2,5 +2,7 @@
 #![tactic(auto)]
 
 mod alone;
+mod escape;
 
-pub use alone::{Judged, Measured, escapes_alone, farthest_alone, patch_volume_alone};
+pub use alone::{farthest_alone, patch_volume_alone};
+pub use escape::escapes_alone;

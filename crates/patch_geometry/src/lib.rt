@@ -7,6 +7,7 @@ ghost use Rattle.std.specs.Prelude.{◌≡◌};
 ghost use Rattle.patch_geometry.specs.Geometry.{add_v, centre_of, diagonal, dot, is_empty, length_v, scale, size, sub_v};
 
 pub use points::{point, vertex};
+use std::ops::{Add, Mul, Sub};
 
 // A point or a direction.
 #[derive(Clone, Copy)]
@@ -24,39 +25,6 @@ impl Vec3 {
         Vec3 { x, y, z }
     }
 
-    // The sum, by component.
-    pub fn add(self, o: Vec3) -> Vec3
-        ensures { result ≡ add_v self o }
-    {
-        Vec3 {
-            x: self.x + o.x,
-            y: self.y + o.y,
-            z: self.z + o.z,
-        }
-    }
-
-    // The difference, by component.
-    pub fn sub(self, o: Vec3) -> Vec3
-        ensures { result ≡ sub_v self o }
-    {
-        Vec3 {
-            x: self.x - o.x,
-            y: self.y - o.y,
-            z: self.z - o.z,
-        }
-    }
-
-    // s times the vector, by component.
-    pub fn scale(self, s: f64) -> Vec3
-        ensures { result ≡ scale self s }
-    {
-        Vec3 {
-            x: self.x * s,
-            y: self.y * s,
-            z: self.z * s,
-        }
-    }
-
     // The dot product, its terms added left to right.
     pub fn dot(self, o: Vec3) -> f64
         ensures { result ≡ dot self o }
@@ -69,6 +37,51 @@ impl Vec3 {
         ensures { result ≡ length_v self }
     {
         float_sqrt::sqrt_f64(self.dot(self))
+    }
+}
+
+// The sum, by component.
+impl Add for Vec3 {
+    type Output = Vec3;
+
+    ghost add_gives = { λ p q r. r ≡ add_v p q };
+
+    fn add(self, o: Vec3) -> Vec3 {
+        Vec3 {
+            x: self.x + o.x,
+            y: self.y + o.y,
+            z: self.z + o.z,
+        }
+    }
+}
+
+// The difference, by component.
+impl Sub for Vec3 {
+    type Output = Vec3;
+
+    ghost sub_gives = { λ p q r. r ≡ sub_v p q };
+
+    fn sub(self, o: Vec3) -> Vec3 {
+        Vec3 {
+            x: self.x - o.x,
+            y: self.y - o.y,
+            z: self.z - o.z,
+        }
+    }
+}
+
+// s times the vector, by component.
+impl Mul<f64> for Vec3 {
+    type Output = Vec3;
+
+    ghost mul_gives = { λ p s r. r ≡ scale p s };
+
+    fn mul(self, s: f64) -> Vec3 {
+        Vec3 {
+            x: self.x * s,
+            y: self.y * s,
+            z: self.z * s,
+        }
     }
 }
 
@@ -98,7 +111,7 @@ impl Aabb {
         }
         let min = self.min;
         let max = self.max;
-        max.sub(min)
+        max - min
     }
 
     // The middle; zero for an empty box.
@@ -110,7 +123,7 @@ impl Aabb {
         }
         let min = self.min;
         let max = self.max;
-        min.add(max).scale(0.5)
+        (min + max) * 0.5
     }
 
     // The length from the minimum to the maximum; 0 for an empty box.

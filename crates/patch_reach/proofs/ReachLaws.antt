@@ -2,7 +2,7 @@
 use mathlib.Core.Path.{◌≡◌, refl, sym, ap, ◌∙◌, subst}
 use mathlib.Core.Bool.{Bool, true, false, cond}
 use mathlib.Core.List.{List, [], ◌∷◌}
-use Prim.Native.Nat.{ℕ, suc, ◌+◌, ◌-◌, ◌≤◌, ◌<◌}
+use Prim.Native.Nat.{ℕ, suc, ◌+◌, ◌*◌, ◌/◌, ◌≤◌, ◌<◌}
 use native.Mathlib.Numerals.{towards_suc}
 use native.Mathlib.Omega.{arith}
 use lib.ListN.{length, get_or, drop, length-drop}
@@ -59,40 +59,40 @@ reach_end c r (x ∷ y ∷ z ∷ ps) h = absurd (no (length ps) h)
     no : (n : ℕ) → suc (suc (suc n)) < 3 → ⊥
     no n l = omega arith
 
--- at coordinate k the root of the square so far is such that the rest gives the whole
-pub record Reaching (ps : List Float) (c : Vec3) (n k : ℕ) (far : Float) : Type 0 where
-  pub all : n ≡ length ps
-  pub low : k ≤ n
+-- with i vertices passed the root of the square so far is such that the rest gives the whole
+pub record Reaching (ps : List Float) (c : Vec3) (i : ℕ) (far : Float) : Type 0 where
   pub plus : Plus far
-  pub rest : reach_from c (sqrt far) (drop k ps) ≡ reach_from c zero64 ps
+  pub rest : reach_from c (sqrt far) (drop (3 * i) ps) ≡ reach_from c zero64 ps
 
 -- no vertex is passed yet
-pub reaching_none : (ps : List Float) (c : Vec3) {n : ℕ} → n ≡ length ps → Reaching ps c n 0 zero64
-reaching_none ps c e = record { all = e; low = omega arith; plus = zero_plus; rest = ap (λ (x : Float). reach_from c x ps) zero_root }
+pub reaching_none : (ps : List Float) (c : Vec3) → Reaching ps c 0 zero64
+reaching_none ps c = record { plus = zero_plus; rest = ap (λ (x : Float). reach_from c x ps) zero_root }
 
--- the vertex at k is passed
-pub reaching_more : {ps : List Float} {c : Vec3} {n k : ℕ} {far d r : Float} → Reaching ps c n k far → 3 ≤ n - k → d ≡ square_at ps k c → r ≡ larger far d
-    → Reaching ps c n (k + 3) r
-reaching_more {ps} {c} {n} {k} {far} {d} {r} s h e f = record {
-  all = s.all;
-  low = omega arith;
-  plus = subst Plus (sym next) (plus_larger far (square_at ps k c) s.plus own);
+-- vertex i is passed
+pub reaching_more : {ps : List Float} {c : Vec3} {i : ℕ} {far d r : Float} → Reaching ps c i far → i < length ps / 3 → d ≡ square_at ps (3 * i) c → r ≡ larger far d
+    → Reaching ps c (i + 1) r
+reaching_more {ps} {c} {i} {far} {d} {r} s h e f = record {
+  plus = subst Plus (sym next) (plus_larger far (square_at ps (3 * i) c) s.plus own);
   rest =
-      ap (λ (x : Float). reach_from c (sqrt x) (drop (k + 3) ps)) next
-      ∙ ap (λ (x : Float). reach_from c x (drop (k + 3) ps)) (root_larger far (square_at ps k c) s.plus own)
-      ∙ sym (reach_next c (sqrt far) ps k (omega (arith, s.all)))
+      ap (λ (n : ℕ). reach_from c (sqrt r) (drop n ps)) behind
+      ∙ ap (λ (x : Float). reach_from c (sqrt x) (drop (3 * i + 3) ps)) next
+      ∙ ap (λ (x : Float). reach_from c x (drop (3 * i + 3) ps)) (root_larger far (square_at ps (3 * i) c) s.plus own)
+      ∙ sym (reach_next c (sqrt far) ps (3 * i) (omega arith))
       ∙ s.rest;
 }
   where
-    own : Plus (square_at ps k c)
-    own = square_plus (sub_v (vertex_at ps k) c)
+    behind : 3 * (i + 1) ≡ 3 * i + 3
+    behind = omega arith
 
-    next : r ≡ larger far (square_at ps k c)
+    own : Plus (square_at ps (3 * i) c)
+    own = square_plus (sub_v (vertex_at ps (3 * i)) c)
+
+    next : r ≡ larger far (square_at ps (3 * i) c)
     next = f ∙ ap (larger far) e
 
 -- every vertex is: the root is taken
-pub reaching_all : {ps : List Float} {c : Vec3} {n k : ℕ} {far r : Float} → Reaching ps c n k far → n - k < 3 → r ≡ sqrt far → r ≡ reach_from c zero64 ps
-reaching_all {ps} {c} {n} {k} {far} s h e = e ∙ sym (reach_end c (sqrt far) (drop k ps) (simp length-drop (omega (arith, s.all)))) ∙ s.rest
+pub reaching_all : {ps : List Float} {c : Vec3} {i : ℕ} {far r : Float} → Reaching ps c i far → length ps / 3 ≤ i → r ≡ sqrt far → r ≡ reach_from c zero64 ps
+reaching_all {ps} {c} {i} {far} s h e = e ∙ sym (reach_end c (sqrt far) (drop (3 * i) ps) (simp length-drop (omega arith))) ∙ s.rest
 
 module _ (ps : List Float) (box : Aabb) {e : Bool} (test : e ≡ is_empty box) where
   -- the reach in a box that is empty, and in one that is not

@@ -11,7 +11,7 @@ fn distance_squared(positions: &[f32], k: usize, c: Vec3) -> f64
     requires { k + 2 < length positions.now }
     ensures { result ≡ square_at positions.now k c }
 {
-    let d = vertex(positions, k).sub(c);
+    let d = vertex(positions, k) - c;
     d.dot(d)
 }
 
@@ -20,11 +20,8 @@ fn reach_from(positions: &[f32], c: Vec3) -> f64
     ensures { result ≡ reach_from c zero64 positions.now }
 {
     let mut far = 0.0f64;
-    let mut k = 0usize;
-    let n = positions.len();
-    while n - k >= 3 {
-        far = float_steps::larger_f64(far, distance_squared(positions, k, c));
-        k += 3;
+    for i in 0..positions.len() / 3 {
+        far = float_steps::larger_f64(far, distance_squared(positions, 3 * i, c));
     }
     float_sqrt::sqrt_f64(far)
 }

@@ -1,12 +1,11 @@
 -- A view of a patch's three stretches, what is read through it, and that a view of row k's stretches shows patch k. Assumes nothing.
-use Rattle.std.specs.Prelude.{◌≡◌, refl, Bool, List, [], ◌∷◌, ℕ, zero, suc, ◌+◌, ◌*◌, ◌<◌, length, get_or, take, drop, Float}
+use Rattle.std.specs.Prelude.{◌≡◌, refl, Bool, List, [], ◌∷◌, ℕ, zero, suc, ◌+◌, ◌*◌, ◌<◌, length, get_or, take, drop, Float, Result}
 use Rattle.std.proofs.Common.{sym, ◌∙◌, le_of_suc-le-suc, not-suc-le-zero, arith}
 use Rattle.std.specs.Borrow.{Bor}
 use Rattle.body_rows.specs.Body.{Row, Patch, Triangle, patches_of, triangles_of}
 use Rattle.body_rows.specs.Rows.{no_row, vertices_before, indices_before}
 use Rattle.body_rows.specs.Patches.{no_patch, patch_at_lem}
-use Rattle.patch_alone.specs.declared.alone.Measured.{Measured}
-use Rattle.patch_alone.specs.Answers.{measured_of}
+use Rattle.patch_alone.specs.Answers.{answer_of}
 use Rattle.patch_alone.specs.Alone.{volume_alone}
 use Rattle.patch_view.specs.declared.PatchView.{PatchView}
 
@@ -19,8 +18,8 @@ abbrev pub corner_of : PatchView → ℕ → ℕ
 corner_of v i = get_or v.indices.now i 0
 
 -- the volume of the patch alone
-abbrev pub volume_of : PatchView → Bool → Measured
-volume_of v flip = measured_of (volume_alone v.positions.now v.normals.now v.indices.now flip)
+abbrev pub volume_of : PatchView → Bool → Result Float ℕ
+volume_of v flip = answer_of (volume_alone v.positions.now v.normals.now v.indices.now flip)
 
 -- the patch that a view shows, at its row
 abbrev pub patch_in : Row → PatchView → Patch

@@ -2,11 +2,12 @@
 #![tactic(auto)]
 
 ghost use Rattle.std.specs.Prelude.{◌≡◌, get_or};
-ghost use Rattle.patch_alone.specs.Answers.{measured_of};
+ghost use Rattle.refusals.specs.Numbers.{numbered};
+ghost use Rattle.patch_alone.specs.Answers.{answer_of};
 ghost use Rattle.patch_alone.specs.Alone.{volume_alone};
 ghost use Rattle.patch_view.specs.Views.{corner_of, view_of, volume_of};
 
-use patch_alone::Measured;
+use refusals::Refusal;
 
 // A patch's stretches of a body's slices; three coordinates a vertex, indices from 0 within the patch.
 #[derive(Clone, Copy)]
@@ -57,15 +58,15 @@ fn volume_alone<'a>(
     normals: &'a [f32],
     indices: &'a [u32],
     flip: bool,
-) -> Measured
-    ensures { result ≡ measured_of (volume_alone positions.now normals.now indices.now flip) }
+) -> Result<f64, Refusal>
+    ensures { numbered result ≡ answer_of (volume_alone positions.now normals.now indices.now flip) }
 {
     patch_alone::patch_volume_alone(positions, normals, indices, flip)
 }
 
-// The volume of the patch alone, its triangles reversed if `flip`; or the number of the check that refuses it.
-pub fn volume<'a>(v: PatchView<'a>, flip: bool) -> Measured
-    ensures { result ≡ volume_of v.entry flip }
+// The volume of the patch alone, its triangles reversed if `flip`; or why it is refused.
+pub fn volume<'a>(v: PatchView<'a>, flip: bool) -> Result<f64, Refusal>
+    ensures { numbered result ≡ volume_of v.entry flip }
 {
     volume_alone(v.positions, v.normals, v.indices, flip)
 }
@@ -76,8 +77,8 @@ pub fn volume_of<'a>(
     normals: &'a [f32],
     indices: &'a [u32],
     flip: bool,
-) -> Measured
-    ensures { result ≡ measured_of (volume_alone positions.now normals.now indices.now flip) }
+) -> Result<f64, Refusal>
+    ensures { numbered result ≡ answer_of (volume_alone positions.now normals.now indices.now flip) }
 {
     volume(view_of(positions, normals, indices), flip)
 }

@@ -41,14 +41,9 @@ pub fn patch_volume(positions: &[f32], indices: &[u32], flip: bool) -> f64
     ensures { result ≡ patch_volume positions.now indices.now flip }
 {
     let mut total = 0.0f64;
-    let mut k = 0usize;
-    let n = indices.len();
-    while n - k >= 3 {
-        let a = indices[k];
-        let b = indices[k + 1];
-        let c = indices[k + 2];
-        total = total + triangle(positions, a, b, c, flip);
-        k += 3;
+    let (triangles, _) = indices.as_chunks::<3>();
+    for [a, b, c] in triangles {
+        total = total + triangle(positions, *a, *b, *c, flip);
     }
     total / 6.0
 }

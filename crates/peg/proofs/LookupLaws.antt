@@ -13,6 +13,7 @@ use lib.Ieee.{Float}
 use mir.Syntax.{w64}
 use mir.Val.{SFits}
 use mir.ValLaws.{to_z-of_z}
+use Rattle.std.specs.Prelude.{Result, Ok, Err}
 use Rattle.signed_numbers.specs.Range.{farthest, within}
 use Rattle.signed_numbers.specs.Bits.{read}
 use Rattle.signed_numbers.specs.Linear.{up, down, abs, plus}
@@ -29,10 +30,8 @@ use Rattle.plan_definition.specs.Places.{Place, in_range, origin}
 use Rattle.peg_definition.specs.Peg.{Hit, Lookup, Refused, Found, bad_places, bins_after, bins_of, hits_of, lookup_of, misplaced, nearest_bins, peg_checks, places_of, row_hits, too_many_bins, winners}
 use Rattle.peg_definition.specs.PlaceLaws.{place_at, places_length}
 use Rattle.peg_definition.specs.Answers.{peg_answer}
-use Rattle.peg_definition.specs.declared.PegAnswer.{PegAnswer}
-use Rattle.peg_definition.specs.declared.PegAnswer.TheVariants as PegAnswer
 use Rattle.peg_distance.specs.Words.{PegAt, beyond}
-use Rattle.peg_distance.specs.declared.target.PegWords.{PegWords}
+use Rattle.plan_definition.specs.declared.PlaceWords.{PlaceWords}
 use Rattle.peg_search.specs.Hits.{least_of, least_most, hits_empty, hits_few, hits_shape}
 use Rattle.peg_search.specs.Search.{BestOf, Listed, Placed, body_hits, peg_of}
 use Rattle.peg_search.specs.declared.best.Best.{Best}
@@ -49,19 +48,19 @@ module _ (bins E W0 : List ℕ) (n : ℕ) (v : Listed bins [] W0 n) where
   long = ap (length {A = ℕ}) same
 
   -- the list is too short
-  pub listed_short : length (W0 ++ E) < n → BinsListed bins E (W0 ++ E) (PegAnswer.Refused too_many_bins)
+  pub listed_short : length (W0 ++ E) < n → BinsListed bins E (W0 ++ E) (Err too_many_bins)
   unfolding fitting peg_answer bins_after
   listed_short h =
       let is : fitting (length E) bins ≡ Refused too_many_bins = rw (lt-ltb (length E) (length bins) (omega (arith, v.count, long)), fitting) in
       record { answer = ap peg_answer (sym is); list = same ∙ ap (λ (l : Lookup). bins_after l E) (sym is) }
 
   -- it is long enough
-  pub listed_found : {W : List ℕ} {m : ℕ} → n ≤ length (W0 ++ E) → Listed bins (W0 ++ E) W m → BinsListed bins E W (PegAnswer.Found m)
+  pub listed_found : {W : List ℕ} {m : ℕ} → n ≤ length (W0 ++ E) → Listed bins (W0 ++ E) W m → BinsListed bins E W (Ok m)
   unfolding fitting peg_answer bins_after
   listed_found {W} {m} h w =
       let is : fitting (length E) bins ≡ Found bins = rw (le-ltb (length E) (length bins) (omega (arith, v.count, long)), fitting) in
       record {
-        answer = ap PegAnswer.Found w.count ∙ ap peg_answer (sym is);
+        answer = ap (λ (m : ℕ). Ok m) w.count ∙ ap peg_answer (sym is);
         list = w.front (omega (arith, v.count, w.count)) ∙ ap (written bins) same ∙ ap (λ (l : Lookup). bins_after l E) (sym is);
       }
 
@@ -80,7 +79,7 @@ word_low : (z : ℤ) (w : ℕ) → nat_abs z ≤ farthest → pos w ≡ z +ℤ p
 word_low z w h e = omega (arith, ap up e, ap down e, plus z (pos farthest), abs z)
 
 -- ---- a placed body
-module _ (table : List ℕ) (ps : List Float) (list : List ℤ) (x y z : ℤ) (E : List ℕ) (g : Ranged table ps list x y z) (fx : SFits w64 x) (fy : SFits w64 y) (fz : SFits w64 z) {w : PegWords}
+module _ (table : List ℕ) (ps : List Float) (list : List ℤ) (x y z : ℤ) (E : List ℕ) (g : Ranged table ps list x y z) (fx : SFits w64 x) (fy : SFits w64 y) (fz : SFits w64 z) {w : PlaceWords}
     (e : PegAt (read x) (read y) (read z) w) where
   words : PegAt x y z w
   words = subst (λ (p : Place). PegAt p.x p.y p.z w) (at_read x y z fx fy fz) e
@@ -105,7 +104,7 @@ module _ (table : List ℕ) (ps : List Float) (list : List ℤ) (x y z : ℤ) (E
 
   module _ {best : Best} (v : BestOf (body_hits table ps list w) best) where
     -- no vertex is near
-    pub none_near : best.square ≡ beyond → BinsListed (nearest_bins (placed_hits table ps list x y z)) E E (PegAnswer.Found 0)
+    pub none_near : best.square ≡ beyond → BinsListed (nearest_bins (placed_hits table ps list x y z)) E E (Ok 0)
     unfolding peg_answer bins_after fitting written nearest_bins winners ascending filter
     none_near h =
         let none : body_hits table ps list w ≡ [] =
@@ -122,7 +121,7 @@ module _ (table : List ℕ) (ps : List Float) (list : List ℤ) (x y z : ℤ) (E
         below : (n : ℕ) → (n ≡ beyond → ⊥) → n ≤ beyond → n < beyond
         below n f l = omega arith
 
-  pub near_listed : {W : List ℕ} {r : PegAnswer} → BinsListed (nearest_bins (body_hits table ps list w)) E W r → BinsListed (nearest_bins (placed_hits table ps list x y z)) E W r
+  pub near_listed : {W : List ℕ} {r : Result ℕ ℕ} → BinsListed (nearest_bins (body_hits table ps list w)) E W r → BinsListed (nearest_bins (placed_hits table ps list x y z)) E W r
   near_listed {W} {r} b = subst (λ (hs : List Hit). BinsListed (nearest_bins hs) E W r) hits_are b
 
 -- ---- the checks
@@ -134,18 +133,18 @@ module _ (table : List ℕ) (ps ns : List Float) (is : List ℕ) (list : List �
   checks = peg_checks table ps ns is list (at x y z) (length E) (length bins)
 
   -- a refusal is the lookup's
-  refused : (k : ℕ) → (k ≡ 0 → ⊥) → k ≡ first_failing checks → PegFound table ps ns is list x y z E E (PegAnswer.Refused k)
+  refused : (k : ℕ) → (k ≡ 0 → ⊥) → k ≡ first_failing checks → PegFound table ps ns is list x y z E E (Err k)
   unfolding peg_answer bins_after lookup_of
   refused k f e = go k e f
     where
-      go : (j : ℕ) → j ≡ first_failing checks → (j ≡ 0 → ⊥) → PegFound table ps ns is list x y z E E (PegAnswer.Refused j)
+      go : (j : ℕ) → j ≡ first_failing checks → (j ≡ 0 → ⊥) → PegFound table ps ns is list x y z E E (Err j)
       go zero q g = absurd (g refl)
       go (suc j) q g =
           let is : lookup_of table ps ns is list (at x y z) (length E) ≡ Refused (suc j) = rw (sym q, lookup_of) in
           record { answer = ap peg_answer (sym is); list = ap (λ (l : Lookup). bins_after l E) (sym is) }
 
   -- a check before 65 fails
-  pub lookup_before : (n ≡ 0 → ⊥) → PegFound table ps ns is list x y z E E (PegAnswer.Refused n)
+  pub lookup_before : (n ≡ 0 → ⊥) → PegFound table ps ns is list x y z E E (Err n)
   unfolding peg_checks
   lookup_before f = refused n f (en ∙ first_stop (before_work table ps ns is) _ (λ q. f (en ∙ q)))
 
@@ -162,7 +161,7 @@ module _ (table : List ℕ) (ps ns : List Float) (is : List ℕ) (list : List �
       bad_is = eb ∙ (λ i. bad_places (at_read x y z fx fy fz i) list (ek i))
 
       -- 65
-      pub lookup_misplaced : b ≡ true → PegFound table ps ns is list x y z E E (PegAnswer.Refused 65)
+      pub lookup_misplaced : b ≡ true → PegFound table ps ns is list x y z E E (Err 65)
       unfolding peg_checks
       lookup_misplaced q = refused 65 (λ e. omega arith) (first_here 65 _ (sym bad_is ∙ q) ∙ on _)
 
@@ -232,7 +231,7 @@ module _ (table : List ℕ) (ps ns : List Float) (is : List ℕ) (list : List �
             go false h = rw (decides ∙ sym (first_next too_many_bins [] h) ∙ sym first_none, lookup_of)
 
         -- bins went into the list
-        pub lookup_listed : {W : List ℕ} {r : PegAnswer} → BinsListed (nearest_bins (placed_hits table ps list (read x) (read y) (read z))) E W r → PegFound table ps ns is list x y z E W r
+        pub lookup_listed : {W : List ℕ} {r : Result ℕ ℕ} → BinsListed (nearest_bins (placed_hits table ps list (read x) (read y) (read z))) E W r → PegFound table ps ns is list x y z E W r
         lookup_listed v = record {
           answer = v.answer ∙ ap peg_answer (ap (fitting (length E)) bins_are ∙ sym looked_up);
           list = v.list ∙ ap (λ (l : Lookup). bins_after l E) (ap (fitting (length E)) bins_are ∙ sym looked_up);

@@ -24,25 +24,6 @@ use Rattle.peg.specs.Answer.{at}
 
 -- ---- a place
 
--- as the machine reads it
-tested : (z : ℤ) (r : Bool) → SFits w64 z → r ≡ within (read z) → r ≡ within z
-tested z r f e = e ∙ ap within (to_z-of_z w64 z f)
-
-and_false : (b : Bool) → false ≡ (b && false)
-and_false true = refl
-and_false false = refl
-
-module _ (x y z : ℤ) (r : Bool) (f : SFits w64 x) (e : r ≡ within (read x)) where
-  pub x_out : not r ≡ true → false ≡ in_range (at x y z)
-  x_out q = rw (sym (tested x r f e), not-true r q)
-
-  module _ (q : not r ≡ false) (s : Bool) (g : SFits w64 y) (d : s ≡ within (read y)) where
-    pub y_out : not s ≡ true → false ≡ in_range (at x y z)
-    y_out p = rw (sym (tested x r f e), not-false r q, sym (tested y s g d), not-true s p)
-
-    pub z_tested : not s ≡ false → (t : Bool) → SFits w64 z → t ≡ within (read z) → t ≡ in_range (at x y z)
-    z_tested p t h c = rw (sym (tested x r f e), not-false r q, sym (tested y s g d), not-false s p, sym (tested z t h c))
-
 -- the place of a row, as the machine reads it
 pub row_tested : (list : List ℤ) (k : ℕ) (r : Bool) → SFits w64 (get_or list (3 * k) (pos 0)) → SFits w64 (get_or list (3 * k + 1) (pos 0)) → SFits w64 (get_or list (3 * k + 2) (pos 0))
     → r ≡ in_range (at (read (get_or list (3 * k) (pos 0))) (read (get_or list (3 * k + 1) (pos 0))) (read (get_or list (3 * k + 2) (pos 0)))) → r ≡ in_range (place_at list k)

@@ -1,5 +1,5 @@
 -- What a lookup answers and leaves of its list. Assumes nothing.
-use Rattle.std.specs.Prelude.{◌≡◌, true, false, List, [], ℕ, ◌*◌, ◌≤◌, ◌<◌, ltb, ℤ, nat_abs, length, Float}
+use Rattle.std.specs.Prelude.{◌≡◌, true, false, List, [], ℕ, ◌*◌, ◌≤◌, ◌<◌, ltb, ℤ, nat_abs, length, Float, Result}
 use Rattle.signed_numbers.specs.Range.{farthest}
 use Rattle.body_rows.specs.Body.{all_vertices, patches_of, rows_of}
 use Rattle.body_rows.specs.Rows.{WholeRows, row_at}
@@ -8,7 +8,6 @@ use Rattle.plan_definition.specs.Places.{Place, in_range}
 use Rattle.peg_definition.specs.Peg.{Hit, Lookup, Refused, Found, bins_after, hits_of, lookup_of, places_of, too_many_bins}
 use Rattle.peg_definition.specs.PlaceLaws.{place_at}
 use Rattle.peg_definition.specs.Answers.{peg_answer}
-use Rattle.peg_definition.specs.declared.PegAnswer.{PegAnswer}
 
 -- the place x, y, z
 abbrev pub at : ℤ → ℤ → ℤ → Place
@@ -35,11 +34,11 @@ unfoldable pub fitting : ℕ → List ℕ → Lookup
 fitting room bins = elim (ltb room (length bins)) [ true ↦ Refused too_many_bins | false ↦ Found bins ]
 
 -- bins went into the front of a list that has room for them, or were refused
-pub record BinsListed (bins E W : List ℕ) (r : PegAnswer) : Type 0 where
+pub record BinsListed (bins E W : List ℕ) (r : Result ℕ ℕ) : Type 0 where
   pub answer : r ≡ peg_answer (fitting (length E) bins)
   pub list : W ≡ bins_after (fitting (length E) bins) E
 
 -- r answers the lookup of a peg at x, y, z, and the list is as the definition leaves it
-pub record PegFound (table : List ℕ) (ps ns : List Float) (is : List ℕ) (places : List ℤ) (x y z : ℤ) (E W : List ℕ) (r : PegAnswer) : Type 0 where
+pub record PegFound (table : List ℕ) (ps ns : List Float) (is : List ℕ) (places : List ℤ) (x y z : ℤ) (E W : List ℕ) (r : Result ℕ ℕ) : Type 0 where
   pub answer : r ≡ peg_answer (lookup_of table ps ns is places (at x y z) (length E))
   pub list : W ≡ bins_after (lookup_of table ps ns is places (at x y z) (length E)) E

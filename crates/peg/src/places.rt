@@ -14,13 +14,7 @@ use signed_numbers::in_range;
 pub fn place_in_range(x: i64, y: i64, z: i64) -> bool
     ensures { result ≡ in_range (at x y z) }
 {
-    if !in_range(x) {
-        return false;
-    }
-    if !in_range(y) {
-        return false;
-    }
-    in_range(z)
+    in_range(x) && in_range(y) && in_range(z)
 }
 
 // Whether the place of row k is.
@@ -40,12 +34,10 @@ fn any_out_of_range(places: &[i64], n: usize) -> bool
     requires { 3 * n ≤ length places.now }
     ensures { result ≡ any (λ p. not (in_range p)) (take n (places_of places.now)) }
 {
-    let mut k = 0usize;
-    while k < n {
+    for k in 0..n {
         if !row_in_range(places, k) {
             return true;
         }
-        k += 1;
     }
     false
 }

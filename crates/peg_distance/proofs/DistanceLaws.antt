@@ -3,7 +3,7 @@ use mathlib.Core.Path.{◌≡◌, refl, sym, ap, ◌∙◌, subst}
 use mathlib.Core.Logic.{◌⊎◌, inl, inr}
 use mathlib.Core.Bool.{Bool, true, false, ◌&&◌, cond}
 use mathlib.Core.List.{List, [], ◌∷◌}
-use Prim.Native.Nat.{ℕ, suc, ◌+◌, ◌-◌, ◌*◌, ◌^◌, ◌≤◌, ◌<◌, min}
+use Prim.Native.Nat.{ℕ, suc, ◌+◌, ◌-◌, ◌*◌, ◌^◌, ◌/◌, ◌≤◌, ◌<◌, min}
 use native.Mathlib.Nat.{mul-le-mul, lt_of_le_of_lt}
 use native.Mathlib.Numerals.{towards_suc}
 use native.Mathlib.Omega.{arith}
@@ -165,12 +165,10 @@ least_end t (x ∷ y ∷ z ∷ ps) h = absurd (no (length ps) h)
     no : (n : ℕ) → suc (suc (suc n)) < 3 → ⊥
     no n l = omega arith
 
--- at coordinate k the least so far is such that the rest gives the whole
-pub record Lessening (t : Target) (ps : List Float) (n k least : ℕ) : Type 0 where
-  pub all : n ≡ length ps
-  pub low : k ≤ n
+-- the least of the first n vertices is such that the rest gives the whole
+pub record Lessening (t : Target) (ps : List Float) (n least : ℕ) : Type 0 where
   pub few : least ≤ beyond
-  pub rest : min least (least_to t (drop k ps)) ≡ least_to t ps
+  pub rest : min least (least_to t (drop (3 * n) ps)) ≡ least_to t ps
 
 -- no vertex that counts has more than that
 least_few : (t : Target) (ps : List Float) → least_to t ps ≤ beyond
@@ -180,18 +178,14 @@ least_few t (x ∷ []) = omega arith
 least_few t (x ∷ y ∷ []) = omega arith
 least_few t (x ∷ y ∷ z ∷ ps) = let h = least_few t ps in omega arith
 
-pub least_none : (t : Target) (ps : List Float) {n : ℕ} → n ≡ length ps → Lessening t ps n 0 beyond
-least_none t ps e = record { all = e; low = omega arith; few = omega arith; rest = let h = least_few t ps in omega arith }
+pub least_none : (t : Target) (ps : List Float) → Lessening t ps 0 beyond
+least_none t ps = record { few = omega arith; rest = let h = least_few t ps in omega arith }
 
-module _ (t : Target) (ps : List Float) (n k least s : ℕ) (v : Lessening t ps n k least) (h : 3 ≤ n - k)
-    (e : s ≡ square_to t (get_or ps k nan) (get_or ps (k + 1) nan) (get_or ps (k + 2) nan)) where
-  pub least_more : {r : ℕ} → r ≡ min s least → Lessening t ps n (k + 3) r
-  least_more q = record {
-    all = v.all;
-    low = omega arith;
-    few = omega (arith, v.few);
-    rest = omega (arith, e, v.rest, least_next t ps k (omega (arith, v.all)));
-  }
+pub least_more : (t : Target) (ps : List Float) (n least s : ℕ) → Lessening t ps n least → n < length ps / 3
+    → s ≡ square_to t (get_or ps (3 * n) nan) (get_or ps (3 * n + 1) nan) (get_or ps (3 * n + 2) nan) → {r : ℕ} → r ≡ min s least → Lessening t ps (n + 1) r
+least_more t ps n least s v h e q =
+    let next : least_to t (drop (3 * (n + 1)) ps) ≡ least_to t (drop (3 * n + 3) ps) = ap (λ (k : ℕ). least_to t (drop k ps)) (let f : 3 * (n + 1) ≡ 3 * n + 3 = omega arith in f) in
+    record { few = omega (arith, v.few); rest = omega (arith, e, next, v.rest, least_next t ps (3 * n) (omega arith)) }
 
-pub least_all : (t : Target) (ps : List Float) (n k least : ℕ) → Lessening t ps n k least → n - k < 3 → least ≡ least_to t ps
-least_all t ps n k least v h = omega (arith, v.rest, v.few, least_end t (drop k ps) (simp length-drop (omega (arith, v.all))))
+pub least_all : (t : Target) (ps : List Float) (n least : ℕ) → Lessening t ps n least → length ps / 3 ≤ n → least ≡ least_to t ps
+least_all t ps n least v h = omega (arith, v.rest, v.few, least_end t (drop (3 * n) ps) (simp length-drop (omega arith)))

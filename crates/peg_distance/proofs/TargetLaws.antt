@@ -9,7 +9,7 @@ use Rattle.signed_numbers.specs.Range.{farthest}
 use Rattle.signed_numbers.specs.Linear.{up, down, alone, abs, plus, minus, equal}
 use Rattle.signed_numbers.specs.Bits.{read, small_read}
 use Rattle.peg_distance.specs.Words.{AxisAim, AxisRange, PegAt, middle}
-use Rattle.peg_distance.specs.declared.target.PegWords.{PegWords}
+use Rattle.plan_definition.specs.declared.PlaceWords.{PlaceWords}
 
 -- a number in range is read as it is
 in_range_read : (z : ℤ) → nat_abs z ≤ farthest → read z ≡ z

@@ -4,7 +4,7 @@ use Rattle.signed_numbers.specs.Range.{farthest}
 use Rattle.point_rules.specs.Points.{nearest}
 use Rattle.plan_definition.specs.Places.{Place}
 use Rattle.peg_definition.specs.Peg.{micrometres, reach}
-use Rattle.peg_distance.specs.declared.target.PegWords.{PegWords}
+use Rattle.plan_definition.specs.declared.PlaceWords.{PlaceWords}
 use Rattle.peg_distance.specs.declared.target.Target.{Target}
 
 -- the word of micrometre 0
@@ -18,7 +18,7 @@ beyond = 75000001
 -- ---- the words of a peg
 
 -- the words of a peg that stands at x, y, z, which is in range
-pub record PegAt (x y z : ℤ) (r : PegWords) : Type 0 where
+pub record PegAt (x y z : ℤ) (r : PlaceWords) : Type 0 where
   pub on_x : pos r.x ≡ x +ℤ pos farthest
   pub on_y : pos r.y ≡ y +ℤ pos farthest
   pub on_z : pos r.z ≡ z +ℤ pos farthest
@@ -35,7 +35,7 @@ pub record AxisRange (places : List ℤ) (i peg : ℕ) : Type 0 where
   pub peg_range : peg ≤ 2 * farthest
 
 -- so is the place of row k
-pub record RowRange (places : List ℤ) (k : ℕ) (peg : PegWords) : Type 0 where
+pub record RowRange (places : List ℤ) (k : ℕ) (peg : PlaceWords) : Type 0 where
   pub there : 3 * k + 2 < length places
   pub on_x : nat_abs (get_or places (3 * k) (pos 0)) ≤ farthest
   pub on_y : nat_abs (get_or places (3 * k + 1) (pos 0)) ≤ farthest
@@ -61,7 +61,7 @@ pub record Aimed (t : Target) : Type 0 where
   pub on_z : InReach t.z
 
 -- r is the peg less the place of row k
-pub record RowAim (places : List ℤ) (k : ℕ) (peg : PegWords) (r : Target) : Type 0 where
+pub record RowAim (places : List ℤ) (k : ℕ) (peg : PlaceWords) (r : Target) : Type 0 where
   pub on_x : AxisAim places (3 * k) peg.x r.x
   pub on_y : AxisAim places (3 * k + 1) peg.y r.y
   pub on_z : AxisAim places (3 * k + 2) peg.z r.z

@@ -56,24 +56,14 @@ fn square_at(positions: &[f32], k: usize, target: Target) -> u64
     squared(x) + squared(y) + squared(z)
 }
 
-// The lesser of two numbers.
-fn lesser(a: u64, b: u64) -> u64
-    ensures { result ≡ min a b }
-{
-    if a < b { a } else { b }
-}
-
 // The smallest sum of squares of a row's vertices, `BEYOND` if all are ignored.
 pub fn row_least(positions: &[f32], target: Target) -> u64
     requires { Aimed target }
     ensures { result ≡ least_to target positions.now }
 {
     let mut least = BEYOND;
-    let mut k = 0usize;
-    let n = positions.len();
-    while n - k >= 3 {
-        least = lesser(square_at(positions, k, target), least);
-        k += 3;
+    for t in 0..positions.len() / 3 {
+        least = square_at(positions, 3 * t, target).min(least);
     }
     least
 }

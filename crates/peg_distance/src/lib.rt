@@ -5,4 +5,4 @@ mod distance;
 mod target;
 
 pub use distance::{BEYOND, row_least};
-pub use target::{PLACE_WIDTH, PegWords, Target, peg_words, row_target};
+pub use target::{PLACE_WIDTH, Target, peg_words, row_target};

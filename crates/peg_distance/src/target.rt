@@ -4,6 +4,7 @@ ghost use Rattle.std.specs.Prelude.{◌*◌, ◌+◌, ◌<◌, ◌≤◌, length
 ghost use Rattle.signed_numbers.specs.Range.{farthest};
 ghost use Rattle.peg_distance.specs.Words.{AxisAim, AxisRange, PegAt, RowAim, RowRange};
 
+use plan_definition::PlaceWords;
 use signed_numbers::word_of;
 
 // The word of micrometre 0, 2^43: no difference of a peg and a place is farther from it than a quarter of that.
@@ -11,14 +12,6 @@ pub const MIDDLE: u64 = 0x800_0000_0000;
 
 // How many numbers a place has.
 pub const PLACE_WIDTH: usize = 3;
-
-// The words of a peg's place, each 2^40 more than its number.
-#[derive(Clone, Copy)]
-pub struct PegWords {
-    pub x: u64,
-    pub y: u64,
-    pub z: u64,
-}
 
 // The words of the peg less a row's place, each 2^43 more than its number.
 #[derive(Clone, Copy)]
@@ -29,13 +22,13 @@ pub struct Target {
 }
 
 // The words of a peg in range.
-pub fn peg_words(x: i64, y: i64, z: i64) -> PegWords
+pub fn peg_words(x: i64, y: i64, z: i64) -> PlaceWords
     requires x_bound { nat_abs x ≤ farthest }
     requires y_bound { nat_abs y ≤ farthest }
     requires z_bound { nat_abs z ≤ farthest }
     ensures { PegAt x y z result }
 {
-    PegWords {
+    PlaceWords {
         x: word_of(x),
         y: word_of(y),
         z: word_of(z),
@@ -52,7 +45,7 @@ fn axis_target(places: &[i64], i: usize, peg: u64) -> u64
 }
 
 // The peg less the place of row k.
-pub fn row_target(places: &[i64], k: usize, peg: PegWords) -> Target
+pub fn row_target(places: &[i64], k: usize, peg: PlaceWords) -> Target
     requires { RowRange places.now k peg }
     ensures { RowAim places.now k peg result }
 {

@@ -16,7 +16,7 @@ use Rattle.body_refusals.specs.TableChecks.{most_bin}
 use Rattle.peg_definition.specs.Peg.{Hit, row_hits}
 use Rattle.peg_definition.specs.PlaceLaws.{place_at}
 use Rattle.peg_distance.specs.Words.{beyond}
-use Rattle.peg_distance.specs.declared.target.PegWords.{PegWords}
+use Rattle.plan_definition.specs.declared.PlaceWords.{PlaceWords}
 use Rattle.peg_search.specs.Hits.{Ties, least_of, least_append, least_ties, row_bin, ties_either, ties_least, ties_left, ties_right}
 use Rattle.peg_search.specs.Search.{BestOf, Placed, best_with, body_hits, no_best, peg_of}
 use Rattle.peg_search.specs.declared.best.Best.{Best}
@@ -127,17 +127,17 @@ module _ (hits row : List Hit) (b : Best) (s bin : ℕ) (v : BestOf hits b) (r :
 -- ---- the pass
 
 -- the rows before row k were looked at
-pub record Finding (table : List ℕ) (ps : List Float) (list : List ℤ) (peg : PegWords) (n k from : ℕ) (b : Best) : Type 0 where
+pub record Finding (table : List ℕ) (ps : List Float) (list : List ℤ) (peg : PlaceWords) (n k from : ℕ) (b : Best) : Type 0 where
   pub at : AtRow table n k from
   pub best : BestOf (front table ps list peg k) b
 
-pub finding_none : (table : List ℕ) (ps : List Float) (list : List ℤ) (peg : PegWords) {n : ℕ} {b : Best} → n ≡ length (rows_of table) → b ≡ no_best → Finding table ps list peg n 0 0 b
+pub finding_none : (table : List ℕ) (ps : List Float) (list : List ℤ) (peg : PlaceWords) {n : ℕ} {b : Best} → n ≡ length (rows_of table) → b ≡ no_best → Finding table ps list peg n 0 0 b
 finding_none table ps list peg {b = b} e q = record {
   at = at_first table e;
   best = subst (BestOf (front table ps list peg 0)) (sym q) (subst (λ (l : List Hit). BestOf l no_best) (sym (front_none table ps list peg)) best_none);
 }
 
-module _ (table : List ℕ) (ps : List Float) (list : List ℤ) (peg : PegWords) (p : Placed table ps list peg) (n k from : ℕ) {b : Best} (f : Finding table ps list peg n k from b) where
+module _ (table : List ℕ) (ps : List Float) (list : List ℤ) (peg : PlaceWords) (p : Placed table ps list peg) (n k from : ℕ) {b : Best} (f : Finding table ps list peg n k from b) where
   pub finding_more : k < n → {v s bin : ℕ} {r : Best} → v ≡ (row_at table k).vertices → s ≡ least_of (row_hits (peg_of peg) 0 (place_at list k) (take (from + 3 * v - from) (drop from ps)))
       → bin ≡ (row_at table k).bin → r ≡ best_with b s bin → Finding table ps list peg n (k + 1) (from + 3 * v) r
   finding_more h {v} {s} {bin} {r} ev es eb er =

@@ -21,7 +21,7 @@ use Rattle.peg_definition.specs.Nearest.{nearest_bins_lem}
 use Rattle.peg_distance.specs.Words.{beyond}
 use Rattle.peg_search.specs.Hits.{Ties, least_of, listed_ties, ties_listed}
 use Rattle.peg_search.specs.Search.{BestOf, BinPut, BinTies, Listed, NextBin, OneListed, Placed, body_hits, no_bin}
-use Rattle.peg_distance.specs.declared.target.PegWords.{PegWords}
+use Rattle.plan_definition.specs.declared.PlaceWords.{PlaceWords}
 use Rattle.peg_search.proofs.RowLaws.{OfRow, ties_row}
 use Rattle.peg_search.specs.declared.best.Best.{Best}
 
@@ -167,7 +167,7 @@ module _ (hits : List Hit) (best : Best) (o : BestOf hits best) (h : best.square
         }
 
 -- ---- the bins of a placed body
-module _ (table : List ℕ) (ps : List Float) (list : List ℤ) (peg : PegWords) (p : Placed table ps list peg) (best : Best) (o : BestOf (body_hits table ps list peg) best) (h : best.square < beyond)
+module _ (table : List ℕ) (ps : List Float) (list : List ℤ) (peg : PlaceWords) (p : Placed table ps list peg) (best : Best) (o : BestOf (body_hits table ps list peg) best) (h : best.square < beyond)
     (E W : List ℕ) (b i : ℕ) (v : Listing (body_hits table ps list peg) best E W b i) (l : b < best.high) {r : ℕ} (n : NextBin table (b + 1) r) where
   -- a listed bin is a row's
   next_low : (y : ℕ) → b + 1 ≤ y → Ties best.square y (body_hits table ps list peg) → r ≤ y

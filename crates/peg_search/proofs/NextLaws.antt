@@ -17,7 +17,7 @@ use Rattle.body_refusals.specs.TableChecks.{most_bin}
 use Rattle.peg_definition.specs.Peg.{Hit, row_hits}
 use Rattle.peg_definition.specs.PlaceLaws.{place_at}
 use Rattle.peg_distance.specs.Words.{beyond}
-use Rattle.peg_distance.specs.declared.target.PegWords.{PegWords}
+use Rattle.plan_definition.specs.declared.PlaceWords.{PlaceWords}
 use Rattle.peg_search.specs.Hits.{Ties, least_of, least_append, row_bin, ties_either, ties_least, ties_left, ties_right}
 use Rattle.peg_search.specs.Search.{BinTies, NextBin, Placed, body_hits, lower_bin, no_bin, peg_of, row_ties}
 use Rattle.peg_search.proofs.RowLaws.{AtRow, at_first, at_next, front, front_all, front_least, front_more, front_none, front_ties, row_is, row_there, row_of}
@@ -41,7 +41,7 @@ module _ (table : List ℕ) (first n k r : ℕ) (v : Lowering table first n k r)
   bin_there h = omega (arith, v.all)
 
   pub lowering_more : k < n → {b q : ℕ} → b ≡ (row_at table k).bin → q ≡ lower_bin b first r → Lowering table first n (k + 1) q
-  lowering_more h {b} {q} e f = go (ltb b first) refl (ltb r b) refl f
+  lowering_more h {b} {q} e f = go (ltb b first) refl f
     where
       made : (x : ℕ) → x ≤ r → (x < no_bin → first ≤ x) → (first ≤ b → x ≤ b) → Lowering table first n (k + 1) x
       made x l g here = record { all = v.all; low = omega arith; most = omega (arith, v.most); from = g; lowest = λ j m i. each j m i (eqb j k) refl }
@@ -55,13 +55,19 @@ module _ (table : List ℕ) (first n k r : ℕ) (v : Lowering table first n k r)
               before : (a : ℕ) → a < k + 1 → (a ≡ k → ⊥) → a < k
               before a g f = omega arith
 
-      go : (s : Bool) → ltb b first ≡ s → (t : Bool) → ltb r b ≡ t → q ≡ cond s r (cond t r b) → Lowering table first n (k + 1) q
-      go true p t u f = subst (Lowering table first n (k + 1)) (sym f) (made r (omega arith) v.from (λ l. absurd (let y = ltb-true b first p in omega arith)))
-      go false p true u f = subst (Lowering table first n (k + 1)) (sym f) (made r (omega arith) v.from (λ l. let y = ltb-true r b u in omega arith))
-      go false p false u f =
+      -- the lower of two from `first` on is from `first` on
+      lower_from : first ≤ b → min b r < no_bin → first ≤ min b r
+      lower_from y l = either (ltb r b) refl
+        where
+          either : (t : Bool) → ltb r b ≡ t → first ≤ min b r
+          either true u = let w = ltb-true r b u in let z = v.from (omega arith) in omega arith
+          either false u = let w = ltb-false r b u in omega arith
+
+      go : (s : Bool) → ltb b first ≡ s → q ≡ cond s r (min b r) → Lowering table first n (k + 1) q
+      go true p f = subst (Lowering table first n (k + 1)) (sym f) (made r (omega arith) v.from (λ l. absurd (let y = ltb-true b first p in omega arith)))
+      go false p f =
           let y = ltb-false b first p in
-          let z = ltb-false r b u in
-          subst (Lowering table first n (k + 1)) (sym f) (made b z (λ l. y) (λ l. omega arith))
+          subst (Lowering table first n (k + 1)) (sym f) (made (min b r) (omega arith) (lower_from y) (λ l. omega arith))
 
   pub lowering_all : n ≤ k → NextBin table first r
   lowering_all h = record { most = v.most; from = v.from; lowest = λ j l i. v.lowest j (omega (arith, v.all)) i }
@@ -69,17 +75,17 @@ module _ (table : List ℕ) (first n k r : ℕ) (v : Lowering table first n k r)
 -- ---- whether a bin has the smallest sum of squares
 
 -- no vertex of the rows before row k has it
-pub record Seeking (table : List ℕ) (ps : List Float) (list : List ℤ) (peg : PegWords) (s wanted n k from : ℕ) : Type 0 where
+pub record Seeking (table : List ℕ) (ps : List Float) (list : List ℤ) (peg : PlaceWords) (s wanted n k from : ℕ) : Type 0 where
   pub at : AtRow table n k from
   pub none : Ties s wanted (front table ps list peg k) → ⊥
 
-pub seeking_none : (table : List ℕ) (ps : List Float) (list : List ℤ) (peg : PegWords) (s wanted : ℕ) {n : ℕ} → n ≡ length (rows_of table) → Seeking table ps list peg s wanted n 0 0
+pub seeking_none : (table : List ℕ) (ps : List Float) (list : List ℤ) (peg : PlaceWords) (s wanted : ℕ) {n : ℕ} → n ≡ length (rows_of table) → Seeking table ps list peg s wanted n 0 0
 seeking_none table ps list peg s wanted e = record {
   at = at_first table e;
   none = λ t. subst (Ties s wanted) (front_none table ps list peg) t;
 }
 
-module _ (table : List ℕ) (ps : List Float) (list : List ℤ) (peg : PegWords) (p : Placed table ps list peg) (s wanted n k from : ℕ) (f : Seeking table ps list peg s wanted n k from)
+module _ (table : List ℕ) (ps : List Float) (list : List ℤ) (peg : PlaceWords) (p : Placed table ps list peg) (s wanted n k from : ℕ) (f : Seeking table ps list peg s wanted n k from)
     (e : s ≡ least_of (body_hits table ps list peg)) (l : s < beyond) where
   module _ (h : k < n) {v : ℕ} (ev : v ≡ (row_at table k).vertices) {q : Bool}
       (eq : q ≡ row_ties (row_at table k).bin wanted s (least_of (row_hits (peg_of peg) 0 (place_at list k) (take (from + 3 * v - from) (drop from ps))))) where

@@ -23,7 +23,7 @@ use Rattle.plan_definition.specs.Places.{Place}
 use Rattle.peg_definition.specs.PlaceLaws.{place_at, places_here}
 use Rattle.peg_definition.specs.Peg.{Hit, apart, hits_of, micrometres, near, places_of, reach, row_hits, squares_sum, standing}
 use Rattle.peg_distance.specs.Words.{Aimed, AxisAim, RowAim, RowRange, apart_from, beyond, least_to, middle, square_to}
-use Rattle.peg_distance.specs.declared.target.PegWords.{PegWords}
+use Rattle.plan_definition.specs.declared.PlaceWords.{PlaceWords}
 use Rattle.peg_distance.specs.declared.target.Target.{Target}
 use Rattle.peg_search.specs.Hits.{Ties, least_of, least_append, least_most, row_bin, row_least_bin, ties_either, ties_left}
 use Rattle.peg_search.specs.Search.{Placed, RowThere, body_hits, peg_of}
@@ -46,7 +46,7 @@ axis_same list i peg t v e =
     p : ℤ
     p = pos peg -ℤ pos farthest
 
-module _ (list : List ℤ) (k : ℕ) (peg : PegWords) (t : Target) (e : RowAim list k peg t) where
+module _ (list : List ℤ) (k : ℕ) (peg : PlaceWords) (t : Target) (e : RowAim list k peg t) where
   -- a vertex
   vertex_same : (x y z : Float)
       → square_to t x y z ≡ cond (near (peg_of peg) (standing (place_at list k) x y z)) (squares_sum (peg_of peg) (standing (place_at list k) x y z)) beyond
@@ -72,10 +72,10 @@ module _ (list : List ℤ) (k : ℕ) (peg : PegWords) (t : Target) (e : RowAim l
       go false s hs = let l = least_most hs in omega arith
 
 -- a row's target may be aimed at
-pub row_aimed : (list : List ℤ) (k : ℕ) (peg : PegWords) (t : Target) → RowAim list k peg t → Aimed t
+pub row_aimed : (list : List ℤ) (k : ℕ) (peg : PlaceWords) (t : Target) → RowAim list k peg t → Aimed t
 row_aimed list k peg t e = record { on_x = e.on_x.near; on_y = e.on_y.near; on_z = e.on_z.near }
 
-pub row_made : (list : List ℤ) (k : ℕ) (peg : PegWords) (t : Target) (ps : List Float) {r : ℕ} → RowAim list k peg t → r ≡ least_to t ps → r ≡ least_of (row_hits (peg_of peg) 0 (place_at list k) ps)
+pub row_made : (list : List ℤ) (k : ℕ) (peg : PlaceWords) (t : Target) (ps : List Float) {r : ℕ} → RowAim list k peg t → r ≡ least_to t ps → r ≡ least_of (row_hits (peg_of peg) 0 (place_at list k) ps)
 row_made list k peg t ps e q = q ∙ row_same list k peg t e 0 ps
 
 -- a number in range
@@ -97,7 +97,7 @@ hits_append peg (p ∷ ps) qs (q ∷ places) =
     ap (λ (l : List Hit). row_hits peg p.row.bin q p.positions ++ l) (hits_append peg ps qs places)
     ∙ sym (append_assoc (row_hits peg p.row.bin q p.positions) (hits_of peg ps places) (hits_of peg qs (drop (length ps) places)))
 
-module _ (table : List ℕ) (ps : List Float) (list : List ℤ) (peg : PegWords) where
+module _ (table : List ℕ) (ps : List Float) (list : List ℤ) (peg : PlaceWords) where
   abbrev patches : List Patch
   patches = patches_of (rows_of table) ps [] []
 
@@ -181,7 +181,7 @@ pub record AtRow (table : List ℕ) (n k from : ℕ) : Type 0 where
 pub at_first : (table : List ℕ) {n : ℕ} → n ≡ length (rows_of table) → AtRow table n 0 0
 at_first table e = record { all = e; low = omega arith; begins = omega (arith, (before_none (rows_of table)).0) }
 
-module _ (table : List ℕ) (ps : List Float) (list : List ℤ) (peg : PegWords) (p : Placed table ps list peg) (n k from : ℕ) (at : AtRow table n k from) (h : k < n) where
+module _ (table : List ℕ) (ps : List Float) (list : List ℤ) (peg : PlaceWords) (p : Placed table ps list peg) (n k from : ℕ) (at : AtRow table n k from) (h : k < n) where
   pub row_there : k < length (rows_of table)
   row_there = omega (arith, at.all)
 
@@ -223,7 +223,7 @@ pub record OfRow (table : List ℕ) (b : ℕ) : Type 0 where
   pub there : row < length (rows_of table)
   pub is : (row_at table row).bin ≡ b
 
-pub ties_row : (table : List ℕ) (ps : List Float) (list : List ℤ) (peg : PegWords) → Placed table ps list peg → (s b : ℕ) → Ties s b (body_hits table ps list peg) → OfRow table b
+pub ties_row : (table : List ℕ) (ps : List Float) (list : List ℤ) (peg : PlaceWords) → Placed table ps list peg → (s b : ℕ) → Ties s b (body_hits table ps list peg) → OfRow table b
 ties_row table ps list peg p s b t = upto (length (rows_of table)) (omega arith) (subst (Ties s b) (sym (front_all table ps list peg (length (rows_of table)) (omega arith))) t)
   where
     upto : (k : ℕ) → k ≤ length (rows_of table) → Ties s b (front table ps list peg k) → OfRow table b

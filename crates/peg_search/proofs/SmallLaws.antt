@@ -30,25 +30,6 @@ module _ (b : Best) (s bin : ℕ) where
         pub best_same : bin ≤ b.high → b ≡ best_with b s bin
         best_same n = rw (le-ltb s b.square h, le-ltb b.square s l, le-ltb bin b.low m, le-ltb b.high bin n)
 
--- ---- the next bin
-module _ (bin first found : ℕ) where
-  pub lower_below : bin < first → found ≡ lower_bin bin first found
-  lower_below h = rw (lt-ltb bin first h)
-
-  pub lower_kept : first ≤ bin → found < bin → found ≡ lower_bin bin first found
-  lower_kept h l = rw (le-ltb bin first h, lt-ltb found bin l)
-
-  pub lower_here : first ≤ bin → bin ≤ found → bin ≡ lower_bin bin first found
-  lower_here h l = rw (le-ltb bin first h, le-ltb found bin l)
-
--- ---- a row of the wanted bin
-module _ (bin wanted s m : ℕ) {b : ℕ} (e : b ≡ bin) where
-  pub row_other : (b ≡ wanted → ⊥) → false ≡ row_ties bin wanted s m
-  row_other n = rw (ne_eqb bin wanted (λ q. n (e ∙ q)))
-
-  pub row_tested : {q : ℕ} → b ≡ wanted → q ≡ m → eqb q s ≡ row_ties bin wanted s m
-  row_tested w f = ap (λ (n : ℕ). eqb n s) f ∙ rw (eq-eqb bin wanted (sym e ∙ w))
-
 -- ---- a bin put
 pub put_inside : (E : List ℕ) (i n : ℕ) → i < length E → BinPut E i n (set E i n)
 put_inside E i n h = record { inside = λ l. refl; outside = λ l. absurd (omega arith) }

@@ -1,5 +1,5 @@
 -- What the passes over the rows ask and give. Assumes nothing.
-use Rattle.std.specs.Prelude.{◌≡◌, ◌⊎◌, Bool, true, false, ◌&&◌, cond, List, [], ℕ, suc, ◌+◌, ◌*◌, ◌≤◌, ◌<◌, eqb, leb, ltb, ℤ, pos, nat_abs, ◌-ℤ◌, length, get_or, set, take, Float}
+use Rattle.std.specs.Prelude.{◌≡◌, ◌⊎◌, Bool, true, false, ◌&&◌, cond, List, [], ℕ, suc, ◌+◌, ◌*◌, ◌≤◌, ◌<◌, eqb, leb, ltb, ℤ, pos, nat_abs, ◌-ℤ◌, length, get_or, set, take, Float, min}
 use Rattle.signed_numbers.specs.Range.{farthest}
 use Rattle.lists.specs.Lists.{written}
 use Rattle.body_rows.specs.Body.{rows_of, patches_of, all_vertices}
@@ -9,18 +9,18 @@ use Rattle.plan_definition.specs.Places.{Place, in_range}
 use Rattle.peg_definition.specs.Peg.{Hit, hits_of, places_of}
 use Rattle.peg_definition.specs.PlaceLaws.{place_at}
 use Rattle.peg_distance.specs.Words.{RowRange, beyond}
-use Rattle.peg_distance.specs.declared.target.PegWords.{PegWords}
+use Rattle.plan_definition.specs.declared.PlaceWords.{PlaceWords}
 use Rattle.peg_search.specs.Hits.{Ties, least_of}
 use Rattle.peg_search.specs.declared.best.Best.{Best}
 
 -- ---- a placed body
 
 -- the peg of its words
-abbrev pub peg_of : PegWords → Place
+abbrev pub peg_of : PlaceWords → Place
 peg_of w = record { x = pos w.x -ℤ pos farthest; y = pos w.y -ℤ pos farthest; z = pos w.z -ℤ pos farthest }
 
 -- whole rows with their positions, bins in range, and a place in range for each row and for the peg
-pub record Placed (table : List ℕ) (ps : List Float) (list : List ℤ) (peg : PegWords) : Type 0 where
+pub record Placed (table : List ℕ) (ps : List Float) (list : List ℤ) (peg : PlaceWords) : Type 0 where
   pub rows : WholeRows table
   pub positions : length ps ≡ 3 * all_vertices (rows_of table)
   pub few : all_vertices (rows_of table) ≤ most_vertices
@@ -32,7 +32,7 @@ pub record Placed (table : List ℕ) (ps : List Float) (list : List ℤ) (peg : 
   pub peg_z : peg.z ≤ 2 * farthest
 
 -- its vertices that are not ignored; normals and indices play no part
-abbrev pub body_hits : List ℕ → List Float → List ℤ → PegWords → List Hit
+abbrev pub body_hits : List ℕ → List Float → List ℤ → PlaceWords → List Hit
 body_hits table ps list peg = hits_of (peg_of peg) (patches_of (rows_of table) ps [] []) (places_of list)
 
 -- ---- the smallest sum of squares
@@ -65,7 +65,7 @@ no_bin = suc most_bin
 
 -- the lower of a row's bin, from `first` on, and what was found
 abbrev pub lower_bin : ℕ → ℕ → ℕ → ℕ
-lower_bin bin first found = cond (ltb bin first) found (cond (ltb found bin) found bin)
+lower_bin bin first found = cond (ltb bin first) found (min bin found)
 
 -- r is the lowest bin of a row from `first` on, or no row has one
 pub record NextBin (table : List ℕ) (first r : ℕ) : Type 0 where
@@ -76,7 +76,7 @@ pub record NextBin (table : List ℕ) (first r : ℕ) : Type 0 where
 -- ---- whether a bin has the smallest sum of squares
 
 -- row k is there, with its coordinates from `from` up to `to` and its place in range
-pub record RowThere (table : List ℕ) (ps : List Float) (list : List ℤ) (peg : PegWords) (k from to : ℕ) : Type 0 where
+pub record RowThere (table : List ℕ) (ps : List Float) (list : List ℤ) (peg : PlaceWords) (k from to : ℕ) : Type 0 where
   pub row : k < length (rows_of table)
   pub order : from ≤ to
   pub inside : to ≤ length ps

@@ -30,7 +30,7 @@ pub fn best_with(best: Best, square: u64, bin: u32) -> Best
 {
     if square < best.square {
         return Best {
-            square: square,
+            square,
             low: bin,
             high: bin,
         };
@@ -40,14 +40,14 @@ pub fn best_with(best: Best, square: u64, bin: u32) -> Best
     }
     if bin < best.low {
         return Best {
-            square: square,
+            square,
             low: bin,
             high: best.high,
         };
     }
     if best.high < bin {
         return Best {
-            square: square,
+            square,
             low: best.low,
             high: bin,
         };

@@ -10,7 +10,8 @@ ghost use Rattle.body_rows.specs.Rows.{row_at};
 
 use crate::best::{Best, best_with, no_best};
 use body_rows::{bin, row_count, vertices};
-use peg_distance::{PegWords, row_least, row_target};
+use peg_distance::{row_least, row_target};
+use plan_definition::PlaceWords;
 
 // A bin number that no row has.
 const NO_BIN: u32 = 65536;
@@ -22,7 +23,7 @@ fn row_square(
     to: usize,
     places: &[i64],
     k: usize,
-    peg: PegWords,
+    peg: PlaceWords,
 ) -> u64
     requires from_le_to { from ≤ to }
     requires to_in_bounds { to ≤ length positions.now }
@@ -34,20 +35,18 @@ fn row_square(
 }
 
 // One pass over all vertices: the smallest sum of squares, with the lowest and the highest bin that have it.
-pub fn find_best(rows: &[u32], positions: &[f32], places: &[i64], peg: PegWords) -> Best
+pub fn find_best(rows: &[u32], positions: &[f32], places: &[i64], peg: PlaceWords) -> Best
     requires { Placed rows.now positions.now places.now peg }
     ensures { BestOf (body_hits rows.now positions.now places.now peg) result }
 {
     let n = row_count(rows);
     let mut best = no_best();
     let mut from = 0usize;
-    let mut k = 0usize;
-    while k < n {
+    for k in 0..n {
         let to = from + 3 * vertices(rows, k) as usize;
         let square = row_square(positions, from, to, places, k, peg);
         best = best_with(best, square, bin(rows, k));
         from = to;
-        k += 1;
     }
     best
 }
@@ -56,13 +55,7 @@ pub fn find_best(rows: &[u32], positions: &[f32], places: &[i64], peg: PegWords)
 fn lower_bin(bin: u32, first: u32, found: u32) -> u32
     ensures { result ≡ lower_bin bin first found }
 {
-    if bin < first {
-        return found;
-    }
-    if found < bin {
-        return found;
-    }
-    bin
+    if bin < first { found } else { bin.min(found) }
 }
 
 // The lowest bin of a row from `first` on, 65,536 if there is none.
@@ -71,10 +64,8 @@ fn next_bin(rows: &[u32], first: u32) -> u32
 {
     let n = row_count(rows);
     let mut found = NO_BIN;
-    let mut k = 0usize;
-    while k < n {
+    for k in 0..n {
         found = lower_bin(bin(rows, k), first, found);
-        k += 1;
     }
     found
 }
@@ -87,7 +78,7 @@ fn row_ties(
     to: usize,
     places: &[i64],
     k: usize,
-    peg: PegWords,
+    peg: PlaceWords,
     square: u64,
     wanted: u32,
 ) -> bool
@@ -95,10 +86,7 @@ fn row_ties(
     ensures { result ≡ row_ties (row_at rows.now k).bin wanted square
         (least_of (row_hits (peg_of peg) 0 (place_at places.now k) (take (to - from) (drop from positions.now)))) }
 {
-    if bin(rows, k) != wanted {
-        return false;
-    }
-    row_square(positions, from, to, places, k, peg) == square
+    bin(rows, k) == wanted && row_square(positions, from, to, places, k, peg) == square
 }
 
 // Whether a bin has the smallest sum of squares: a pass over its rows alone.
@@ -106,7 +94,7 @@ fn bin_ties(
     rows: &[u32],
     positions: &[f32],
     places: &[i64],
-    peg: PegWords,
+    peg: PlaceWords,
     square: u64,
     wanted: u32,
 ) -> bool
@@ -117,14 +105,12 @@ fn bin_ties(
 {
     let n = row_count(rows);
     let mut from = 0usize;
-    let mut k = 0usize;
-    while k < n {
+    for k in 0..n {
         let to = from + 3 * vertices(rows, k) as usize;
         if row_ties(rows, positions, from, to, places, k, peg, square, wanted) {
             return true;
         }
         from = to;
-        k += 1;
     }
     false
 }
@@ -143,7 +129,7 @@ fn list_bin(
     rows: &[u32],
     positions: &[f32],
     places: &[i64],
-    peg: PegWords,
+    peg: PlaceWords,
     square: u64,
     wanted: u32,
     bins: &mut [u32],
@@ -169,7 +155,7 @@ pub fn list_bins(
     rows: &[u32],
     positions: &[f32],
     places: &[i64],
-    peg: PegWords,
+    peg: PlaceWords,
     best: Best,
     bins: &mut [u32],
 ) -> usize

@@ -4,28 +4,23 @@
 ghost use Rattle.plan_print.specs.Printing.{Answered};
 
 use plan_print::print_plan;
+use refusals::Refusal;
 use sheet_answer::write_refusal;
 use sheet_digit_writing::put_text;
-use slice_front::front_bytes;
+use slice_front::front;
 use std::io;
 use std::io::{ErrorKind, Read, Write};
 
-// The refusal of a plan that is longer than the program takes.
-const TOO_LONG: u32 = 52;
+// A text is longer than the program takes.
+#[derive(Clone, Copy, Debug, PartialEq, Eq)]
+struct TooLong;
 
-// How many bytes of a text were read, or that there are too many.
+// What one read came to, with how many bytes of the text there are now: the input goes on, or it has ended, or the read failed.
 #[derive(Clone, Copy)]
-enum Input {
-    Text(usize),
-    TooLong,
-}
-
-// What one read came to: how many bytes of the text there are now, whether the input goes on, and whether the read failed.
-#[derive(Clone, Copy)]
-struct Got {
-    length: usize,
-    more: bool,
-    failed: bool,
+enum Got {
+    More(usize),
+    End(usize),
+    Failed(usize),
 }
 
 // Bytes put behind the first n of a text, as far as it has room; answers how many there are now.
@@ -45,69 +40,45 @@ fn fail_read(text: &mut [u8], n: usize) -> usize {
 fn read_some<R: Read>(input: &mut R, text: &mut [u8], n: usize) -> Got {
     let mut buf = [0u8; 4096];
     match input.read(&mut buf) {
-        Ok(count) => {
-            let length = put_part(text, n, &buf[..count]);
-            Got {
-                length: length,
-                more: 0 < count,
-                failed: false,
-            }
-        }
+        Ok(0) => Got::End(n),
+        Ok(count) => Got::More(put_part(text, n, &buf[..count])),
         Err(e) => {
             if e.kind() == ErrorKind::Interrupted {
-                return Got {
-                    length: n,
-                    more: true,
-                    failed: false,
-                };
+                return Got::More(n);
             }
-            let length = fail_read(text, n);
-            Got {
-                length: length,
-                more: false,
-                failed: true,
-            }
+            Got::Failed(fail_read(text, n))
         }
     }
 }
 
-// Whether a text of n bytes leaves no room for the two that a failed read adds, so that it is longer than the program takes.
-fn too_long(room: usize, n: usize) -> bool {
-    if room < 2 {
-        return true;
+// The length of a text of n bytes, if it leaves room for the two that a failed read adds; else the text is longer than the program takes.
+fn in_room(room: usize, n: usize) -> Result<usize, TooLong> {
+    if room < 2 || room - 2 < n {
+        return Err(TooLong);
     }
-    room - 2 < n
+    Ok(n)
 }
 
-// Reads the input to its end. The loop counts its turns down, from a number that no run uses up, since nothing says that the input ends.
-fn read_input<R: Read>(input: &mut R, text: &mut [u8]) -> Input {
+// Reads the input to its end; answers how long the text is. The loop counts its turns, to a number that no run uses up, since nothing says that the input ends.
+fn read_input<R: Read>(input: &mut R, text: &mut [u8]) -> Result<usize, TooLong> {
     let mut n: usize = 0;
-    let mut turns = u64::MAX;
-    while turns > 0 {
-        turns -= 1;
-        let got = read_some(input, text, n);
-        n = got.length;
-        if got.failed {
-            return Input::Text(n);
-        }
-        if too_long(text.len(), n) {
-            return Input::TooLong;
-        }
-        if !got.more {
-            return Input::Text(n);
+    for _ in 0..u64::MAX {
+        match read_some(input, text, n) {
+            Got::More(length) => n = in_room(text.len(), length)?,
+            Got::End(length) => return in_room(text.len(), length),
+            Got::Failed(length) => return Ok(length),
         }
     }
-    Input::TooLong
+    Err(TooLong)
 }
 
 // Reads a plan from the input and writes what is printed of it to the front of `out`; answers how many bytes.
 fn print_input<R: Read>(input: &mut R, text: &mut [u8], list: &mut [i64], out: &mut [u8]) -> usize
     ensures { Answered list.old out.old out.new result }
 {
-    let read = read_input(input, text);
-    match read {
-        Input::Text(n) => print_plan(front_bytes(text, n), list, out),
-        Input::TooLong => write_refusal(out, TOO_LONG),
+    match read_input(input, text) {
+        Ok(n) => print_plan(front(text, n), list, out),
+        Err(TooLong) => write_refusal(out, Refusal::SheetLimit.number()),
     }
 }
 
@@ -125,5 +96,5 @@ fn main(rt: HostRuntime) -> io::Result<()> {
     let mut text = longest();
     let mut out = room();
     let k = print_input(&mut rt.reader(), &mut text, &mut [0i64; 16384], &mut out);
-    io::writer(&rt).write_all(front_bytes(&out, k))
+    io::writer(&rt).write_all(front(&out, k))
 }

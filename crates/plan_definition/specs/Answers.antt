@@ -1,9 +1,5 @@
 -- What reading a plan and writing a listing answer. Assumes nothing.
-use Rattle.std.specs.Prelude.{List, ℕ, ℤ, length}
-use Rattle.plan_definition.specs.declared.PlanAnswer.{PlanAnswer}
-use Rattle.plan_definition.specs.declared.PlanAnswer.TheVariants as PlanAnswer
-use Rattle.plan_definition.specs.declared.ListingAnswer.{ListingAnswer}
-use Rattle.plan_definition.specs.declared.ListingAnswer.TheVariants as ListingAnswer
+use Rattle.std.specs.Prelude.{List, ℕ, ℤ, length, Result, Ok, Err}
 use Rattle.plan_definition.specs.Reading as Reading
 use Rattle.plan_definition.specs.Reading.{Reading, plan_of, room_of}
 use Rattle.plan_definition.specs.Writing as Writing
@@ -14,15 +10,15 @@ abbrev pub reading_of : List ℕ → List ℤ → Reading
 reading_of text list = plan_of (room_of (length list)) text
 
 -- its answer: how many bins, or the refusal
-unfoldable pub plan_answer : Reading → PlanAnswer
-plan_answer (Reading.Refused n) = PlanAnswer.Refused n
-plan_answer (Reading.Listed es) = PlanAnswer.Listed (length es)
+unfoldable pub plan_answer : Reading → Result ℕ ℕ
+plan_answer (Reading.Refused n) = Err n
+plan_answer (Reading.Listed es) = Ok (length es)
 
 -- what writing a list that was lent comes to, with a slice of so many bytes
 abbrev pub listing_of : List ℤ → List ℕ → Writing
 listing_of list out = writing_of (length out) (entries_in list)
 
 -- its answer: how many bytes, or the refusal
-unfoldable pub listing_answer : Writing → ListingAnswer
-listing_answer (Writing.Refused n) = ListingAnswer.Refused n
-listing_answer (Writing.Written text) = ListingAnswer.Written (length text)
+unfoldable pub listing_answer : Writing → Result ℕ ℕ
+listing_answer (Writing.Refused n) = Err n
+listing_answer (Writing.Written text) = Ok (length text)

@@ -1,7 +1,7 @@
 -- The laws of a bin's entry in a lent list. Assumes nothing.
 use mathlib.Core.List.{List, [], ◌∷◌}
-use mathlib.Core.Path.{◌≡◌, refl, sym, ◌∙◌, ap}
-use Prim.Native.Nat.{ℕ, suc, ◌+◌, ◌*◌, ◌≤◌, ◌<◌}
+use mathlib.Core.Path.{◌≡◌, refl, ◌∙◌, ap}
+use Prim.Native.Nat.{ℕ, ◌+◌, ◌*◌, ◌≤◌, ◌<◌}
 use native.Mathlib.Omega.{arith}
 use lib.IntN.{ℤ, pos, ◌-ℤ◌}
 use lib.ListN.{length, set, length-set}
@@ -10,7 +10,7 @@ use Rattle.lists.specs.Sets.{four_stored}
 use Rattle.slice_append.specs.Appended.{appended_sets}
 use Rattle.plan_definition.specs.Reading.{list_of}
 use Rattle.plan_lines.specs.declared.places.SumWords.{SumWords}
-use Rattle.plan_lines.specs.Sums.{EntryPut, Near, NearZero, entry_for, sum_zero, sum_word}
+use Rattle.plan_lines.specs.Sums.{EntryPut, NearZero, entry_for, sum_zero}
 
 pub sum_small : (k n : ℕ) → NearZero k n → k ≤ 17 → n ≤ 4611686018427387904
 sum_small k n v h = omega (arith, v.high)

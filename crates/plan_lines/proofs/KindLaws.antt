@@ -1,29 +1,27 @@
 -- The laws of what a line is: by its form, and the numbers that were read. Assumes nothing.
 use mathlib.Core.Bool.{Bool, true, false, ◌&&◌, cond}
 use mathlib.Core.List.{List, [], ◌∷◌}
-use mathlib.Core.Option.{Option, none, some}
-use mathlib.Core.Path.{◌≡◌, refl, sym, ◌∙◌, ap, subst}
-use Prim.Native.Nat.{ℕ, zero, suc, ◌-◌, ◌^◌, ◌≤◌, ◌<◌}
+use mathlib.Core.Option.{none, some}
+use mathlib.Core.Path.{◌≡◌, refl, sym, ◌∙◌, ap}
+use Prim.Native.Nat.{ℕ, ◌-◌, ◌^◌, ◌≤◌, ◌<◌}
 use native.Mathlib.Omega.{arith}
 use borrow.Author.Tests.{le-leb, lt-leb}
-use lib.Dec.{T, leb, ltb, ltb→lt}
+use lib.Dec.{T, ltb, ltb→lt}
 use lib.Ieee.Fits.{and_l, and_r}
 use lib.ListN.{length, get_or, take, drop, drop_of_length-le}
-use lib.Seq.{slice, take-nil}
+use lib.Seq.{slice}
 use Rattle.body_refusals.specs.TableChecks.{most_bin}
 use Rattle.sheet_digits.specs.OffsetLaws.{offset_words}
 use Rattle.sheet_lines.specs.Forms.{read}
 use Rattle.sheet_lines.specs.Counted.{count_in}
 use Rattle.sheet_lines.specs.Pattern.{piece, pieces}
 use Rattle.sheet_lines.specs.Scan.{Scanned}
-use Rattle.sheet_lines.specs.ReadBack.{fits}
 use Rattle.sheet_lines.specs.Exact.{read_fits}
 use Rattle.plan_definition.specs.Lines as Lines
 use Rattle.plan_definition.specs.Lines.{group_form, bin_form, close_form, opened, standing, line_of}
-use Rattle.plan_lines.specs.declared.OffsetWords.{OffsetWords}
 use Rattle.plan_lines.specs.declared.lines.PlanLine.{PlanLine}
-use Rattle.plan_lines.specs.declared.lines.PlanLine.TheVariants as PlanLine
-use Rattle.plan_lines.specs.Given.{Found, Begins, Line, LineEnd, InWords, Small, ended, given}
+use Rattle.plan_lines.specs.Given.{Found, Line, LineEnd, InWords, Small, ended, given}
+use Rattle.plan_lines.proofs.EndLaws.{bytes_between}
 use Rattle.plan_lines.specs.Patterns.{group_pattern, bin_pattern, close_pattern, group_read, bin_read, close_read}
 
 -- as many numbers as there is room for
@@ -134,13 +132,6 @@ found_none text at h l = record {
   where
     no : true ≡ false → ⊥
     no e = let z : ◌≡◌ {A = ℕ} 0 1 = cc in omega arith
-
--- the bytes from a place up to another
-bytes_between : (at end : ℕ) (text : List ℕ) → slice at end text ≡ take (end - at) (drop at text)
-bytes_between zero end text = ap (λ (n : ℕ). take n text) (let e : end ≡ end - 0 = omega arith in e)
-bytes_between (suc at) zero text = ap (λ (n : ℕ). take n (drop (suc at) text)) (let e : 0 ≡ 0 - suc at = omega arith in e)
-bytes_between (suc at) (suc end) [] = sym (take-nil (suc end - suc at))
-bytes_between (suc at) (suc end) (c ∷ cs) = bytes_between at end cs ∙ ap (λ (n : ℕ). take n (drop at cs)) (let e : end - at ≡ suc end - suc at = omega arith in e)
 
 pub found_line : (text : List ℕ) (at end : ℕ) (r : PlanLine) → LineEnd text at end → Line (line_of (take (end - at) (drop at text))) r → Found text at (record { line = r; end = end })
 found_line text at end r v w = record {

@@ -1,16 +1,16 @@
 -- The laws of sums by their words. Assumes nothing.
 use mathlib.Core.Bool.{Bool, true, false, ◌&&◌, not}
 use mathlib.Core.Path.{◌≡◌, refl, sym, ◌∙◌, ap}
-use Prim.Native.Nat.{ℕ, suc, ◌+◌, ◌-◌, ◌*◌, ◌^◌, ◌≤◌, ◌<◌}
+use Prim.Native.Nat.{ℕ, suc, ◌+◌, ◌-◌, ◌≤◌, ◌<◌}
 use native.Mathlib.Omega.{arith}
 use borrow.Author.Tests.{le-leb, lt-leb, leb-true, leb-false, not-true, not-false}
 use lib.Dec.{leb}
-use lib.IntN.{ℤ, pos, nat_abs, ◌+ℤ◌, ◌-ℤ◌}
+use lib.IntN.{pos, nat_abs, ◌+ℤ◌}
 use Rattle.signed_numbers.specs.Range.{farthest, within}
-use Rattle.signed_numbers.specs.Linear.{up, down, alone, abs, plus, minus, equal}
-use Rattle.plan_definition.specs.Places.{Place, moved, in_range}
+use Rattle.signed_numbers.specs.Linear.{alone, abs, plus, minus, equal}
+use Rattle.plan_definition.specs.Places.{in_range}
 use Rattle.plan_definition.specs.Lines.{offset_of}
-use Rattle.plan_lines.specs.declared.OffsetWords.{OffsetWords}
+use Rattle.plan_definition.specs.declared.PlaceWords.{PlaceWords}
 use Rattle.plan_lines.specs.declared.places.SumWords.{SumWords}
 use Rattle.plan_lines.specs.Given.{InWords}
 use Rattle.plan_lines.specs.Sums.{MovedTo, Near, NearZero, sum_zero, sum_word, sum_of}
@@ -24,7 +24,7 @@ axis k a b n h =
 axis_near : (k a b : ℕ) → NearZero k a → k ≤ 16 → b < suc (farthest + farthest) → NearZero (suc k) (a + b - 1099511627776)
 axis_near k a b n h l = record { low = omega (arith, n.low, n.high); high = omega (arith, n.low, n.high) }
 
-pub moved_to : (k : ℕ) (sum : SumWords) (o : OffsetWords) → Near k sum → InWords o → k ≤ 16
+pub moved_to : (k : ℕ) (sum : SumWords) (o : PlaceWords) → Near k sum → InWords o → k ≤ 16
     → MovedTo k sum o (record { x = sum.x + o.x - 1099511627776; y = sum.y + o.y - 1099511627776; z = sum.z + o.z - 1099511627776 })
 moved_to k sum o n w h = record {
   is = λ i. record { x = axis k sum.x o.x n.on_x h i; y = axis k sum.y o.y n.on_y h i; z = axis k sum.z o.z n.on_z h i };
@@ -39,26 +39,11 @@ moved_to k sum o n w h = record {
 size : (n : ℕ) → nat_abs (sum_word n) ≡ (n - sum_zero) + (sum_zero - n)
 size n = omega (arith, minus (pos n) (pos sum_zero), alone (sum_word n), abs (sum_word n))
 
-pub word_under : (n : ℕ) → n < 34084860461056 → false ≡ within (sum_word n)
-word_under n h = sym (lt-leb (nat_abs (sum_word n)) farthest (omega (arith, size n)))
-
-pub word_tested : (n : ℕ) → 34084860461056 ≤ n → leb n 36283883716608 ≡ within (sum_word n)
-word_tested n h = go (leb n 36283883716608) refl
+-- its test by the word
+pub word_tested : (n : ℕ) → leb 34084860461056 n && leb n 36283883716608 ≡ within (sum_word n)
+word_tested n = go (leb 34084860461056 n) refl (leb n 36283883716608) refl
   where
-    go : (b : Bool) → leb n 36283883716608 ≡ b → leb n 36283883716608 ≡ within (sum_word n)
-    go true q = q ∙ sym (le-leb (nat_abs (sum_word n)) farthest (omega (arith, size n, leb-true n 36283883716608 q)))
-    go false q = q ∙ sym (lt-leb (nat_abs (sum_word n)) farthest (omega (arith, size n, leb-false n 36283883716608 q)))
-
--- each axis in turn
-pub x_out : (w : SumWords) (r : Bool) → r ≡ within (sum_word w.x) → not r ≡ true → false ≡ in_range (sum_of w)
-x_out w r e n = ap (λ (b : Bool). b && (within (sum_word w.y) && within (sum_word w.z))) (sym (not-true r n) ∙ e)
-
-module _ (w : SumWords) (r : Bool) (e : r ≡ within (sum_word w.x)) (y : not r ≡ false) where
-  x_in : within (sum_word w.y) && within (sum_word w.z) ≡ in_range (sum_of w)
-  x_in = ap (λ (b : Bool). b && (within (sum_word w.y) && within (sum_word w.z))) (sym (not-false r y) ∙ e)
-
-  pub y_out : (s : Bool) → s ≡ within (sum_word w.y) → not s ≡ true → false ≡ in_range (sum_of w)
-  y_out s f n = ap (λ (b : Bool). b && within (sum_word w.z)) (sym (not-true s n) ∙ f) ∙ x_in
-
-  pub z_last : (s t : Bool) → s ≡ within (sum_word w.y) → not s ≡ false → t ≡ within (sum_word w.z) → t ≡ in_range (sum_of w)
-  z_last s t f n g = g ∙ ap (λ (b : Bool). b && within (sum_word w.z)) (sym (not-false s n) ∙ f) ∙ x_in
+    go : (a : Bool) → leb 34084860461056 n ≡ a → (b : Bool) → leb n 36283883716608 ≡ b → a && b ≡ within (sum_word n)
+    go false p b q = sym (lt-leb (nat_abs (sum_word n)) farthest (omega (arith, size n, leb-false 34084860461056 n p)))
+    go true p false q = sym (lt-leb (nat_abs (sum_word n)) farthest (omega (arith, size n, leb-false n 36283883716608 q)))
+    go true p true q = sym (le-leb (nat_abs (sum_word n)) farthest (omega (arith, size n, leb-true 34084860461056 n p, leb-true n 36283883716608 q)))

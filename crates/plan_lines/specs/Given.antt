@@ -7,10 +7,9 @@ use Rattle.sheet_digits.specs.OffsetLaws.{offset_words}
 use Rattle.plan_definition.specs.Places.{Place}
 use Rattle.plan_definition.specs.Lines as Lines
 use Rattle.plan_definition.specs.Lines.{line_of, lines_of, offsets_of}
-use Rattle.plan_lines.specs.declared.OffsetWords.{OffsetWords}
+use Rattle.plan_definition.specs.declared.PlaceWords.{PlaceWords}
 use Rattle.plan_lines.specs.declared.lines.LineAt.{LineAt}
 use Rattle.plan_lines.specs.declared.lines.PlanLine.{PlanLine}
-use Rattle.plan_lines.specs.declared.lines.PlanLine.TheVariants as PlanLine
 
 -- the line of a text at a place ends at r: the bytes between are its first line
 pub record LineEnd (text : List ℕ) (at r : ℕ) : Type 0 where
@@ -19,7 +18,7 @@ pub record LineEnd (text : List ℕ) (at r : ℕ) : Type 0 where
   pub cut : lines_of (drop at text) ≡ slice at r text ∷ lines_of (drop r text)
 
 -- the offset of its words
-abbrev pub place_of : OffsetWords → Place
+abbrev pub place_of : PlaceWords → Place
 place_of w = offsets_of w.x w.y w.z
 
 -- the line that an answer tells of
@@ -31,7 +30,7 @@ given PlanLine.Malformed = none
 given PlanLine.End = none
 
 -- each is the word of an offset
-pub record InWords (w : OffsetWords) : Type 0 where
+pub record InWords (w : PlaceWords) : Type 0 where
   pub x_small : w.x < offset_words
   pub y_small : w.y < offset_words
   pub z_small : w.z < offset_words

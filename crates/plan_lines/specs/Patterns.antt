@@ -1,8 +1,7 @@
 -- The forms of a plan's lines as texts, each with its LF. Assumes nothing.
-use Rattle.std.specs.Prelude.{List, [], ◌∷◌, ◌++◌, ◌≡◌, refl, ℕ}
-use Rattle.std.proofs.Common.{ap, ◌∙◌}
+use Rattle.std.specs.Prelude.{List, [], ◌∷◌, ◌++◌, ◌≡◌, ℕ}
 use Rattle.sheet_digits.specs.Bytes.{bytes}
-use Rattle.sheet_lines.specs.Forms.{Piece, read}
+use Rattle.sheet_lines.specs.Forms.{read}
 use Rattle.sheet_lines.specs.Pattern.{piece, pieces, split, read_split}
 use Rattle.plan_definition.specs.Lines.{group_form, bin_form, close_form}
 

@@ -7,7 +7,7 @@ use Rattle.plan_definition.specs.Grammar.{Entry, entry}
 use Rattle.plan_definition.specs.Reading.{entry_width, list_of}
 use Rattle.plan_lines.specs.Given as Given
 use Rattle.plan_lines.specs.Given.{place_of}
-use Rattle.plan_lines.specs.declared.OffsetWords.{OffsetWords}
+use Rattle.plan_definition.specs.declared.PlaceWords.{PlaceWords}
 use Rattle.plan_lines.specs.declared.places.SumWords.{SumWords}
 
 -- the word of sum 0
@@ -38,11 +38,11 @@ pub record Near (k : ℕ) (w : SumWords) : Type 0 where
   pub on_z : NearZero k w.z
 
 -- the words of an offset
-abbrev pub InWords : OffsetWords → Type 0
+abbrev pub InWords : PlaceWords → Type 0
 InWords w = Given.InWords w
 
 -- r is a sum of k offsets with one more
-pub record MovedTo (k : ℕ) (sum : SumWords) (offset : OffsetWords) (r : SumWords) : Type 0 where
+pub record MovedTo (k : ℕ) (sum : SumWords) (offset : PlaceWords) (r : SumWords) : Type 0 where
   pub is : sum_of r ≡ moved (sum_of sum) (place_of offset)
   pub near : Near (suc k) r
 

@@ -1,20 +1,17 @@
 // The lines of a text, and what each is.
 
-ghost use Rattle.std.specs.Prelude.{◌≡◌, ◌<◌, ◌≤◌, length};
+ghost use Rattle.std.specs.Prelude.{◌≡◌, ◌==◌, ◌<◌, ◌≤◌, length, position};
 ghost use Rattle.plan_definition.specs.Lines.{line_of};
 ghost use Rattle.plan_lines.specs.Given.{Found, Line, LineEnd};
 
-use crate::OffsetWords;
+use plan_definition::{MOST_BIN, PlaceWords};
 use sheet_lines::scan;
-
-// The largest number of a bin.
-const MOST_BIN: u64 = 65535;
 
 // A line of a plan, or none, or the end of the text.
 #[derive(Clone, Copy)]
 pub enum PlanLine {
-    Open(OffsetWords),
-    Bin(u64, OffsetWords),
+    Open(PlaceWords),
+    Bin(u64, PlaceWords),
     Close,
     Malformed,
     End,
@@ -27,19 +24,22 @@ pub struct LineAt {
     pub end: usize,
 }
 
+// Where the first LF of a text is, if it has one.
+fn line_feed(text: &[u8]) -> Option<usize>
+    ensures { result ≡ position (λ c. c == 10) text.now }
+{
+    text.iter().position(|c| *c == b'\n')
+}
+
 // Where the line at a place ends: behind its LF, or where the text does.
 fn line_end(text: &[u8], at: usize) -> usize
     requires { at < length text.now }
     ensures { LineEnd text.now at result }
 {
-    let mut i: usize = at;
-    while i < text.len() {
-        if text[i] == 10 {
-            return i + 1;
-        }
-        i += 1;
+    match line_feed(&text[at..]) {
+        Some(n) => at + n + 1,
+        None => text.len(),
     }
-    i
 }
 
 // What a line with its LF is.
@@ -48,7 +48,7 @@ fn plan_line(line: &[u8]) -> PlanLine
 {
     let mut numbers = [0u64; 5];
     if scan(line, b"(group%%%\n", &mut numbers) {
-        return PlanLine::Open(OffsetWords {
+        return PlanLine::Open(PlaceWords {
             x: numbers[0],
             y: numbers[1],
             z: numbers[2],
@@ -60,7 +60,7 @@ fn plan_line(line: &[u8]) -> PlanLine
         }
         return PlanLine::Bin(
             numbers[0],
-            OffsetWords {
+            PlaceWords {
                 x: numbers[1],
                 y: numbers[2],
                 z: numbers[3],
@@ -86,8 +86,5 @@ pub fn line_at(text: &[u8], at: usize) -> LineAt
     }
     let end = line_end(text, at);
     let line = plan_line(&text[at..end]);
-    LineAt {
-        line: line,
-        end: end,
-    }
+    LineAt { line, end }
 }

@@ -5,17 +5,11 @@ ghost use Rattle.plan_definition.specs.Places.{in_range};
 ghost use Rattle.plan_lines.specs.Sums.{EntryPut, InWords, MovedTo, Near, entry_for, origin_words, sum_of, sum_word};
 ghost use Rattle.signed_numbers.specs.Range.{within};
 
-use crate::OffsetWords;
+use plan_definition::{ENTRY_WIDTH, FARTHEST, PlaceWords};
 use signed_numbers::less;
-
-// The farthest that an offset is from zero, 2^40, and the word of offset 0.
-const FARTHEST: u64 = 0x100_0000_0000;
 
 // The word of sum 0: sixteen groups and a bin add up to less than 2^45.
 const SUM_ZERO: u64 = 0x2000_0000_0000;
-
-// How many numbers an entry of a lent list has.
-const ENTRY_WIDTH: usize = 4;
 
 // The words of a sum on three axes, each 2^45 more than the sum.
 #[derive(Clone, Copy)]
@@ -37,7 +31,7 @@ pub fn origin() -> SumWords
 }
 
 // A sum of `depth` offsets with one more.
-pub fn moved(sum: SumWords, offset: OffsetWords, depth: usize) -> SumWords
+pub fn moved(sum: SumWords, offset: PlaceWords, depth: usize) -> SumWords
     requires near { Near depth sum }
     requires in_words { InWords offset }
     requires depth_bound { depth ≤ 16 }
@@ -54,23 +48,14 @@ pub fn moved(sum: SumWords, offset: OffsetWords, depth: usize) -> SumWords
 fn word_in_range(n: u64) -> bool
     ensures { result ≡ within (sum_word n) }
 {
-    if n < SUM_ZERO - FARTHEST {
-        return false;
-    }
-    n <= SUM_ZERO + FARTHEST
+    SUM_ZERO - FARTHEST <= n && n <= SUM_ZERO + FARTHEST
 }
 
 // Whether a sum is within plus or minus 2^40 on each axis.
 pub fn sum_in_range(sum: SumWords) -> bool
     ensures { result ≡ in_range (sum_of sum) }
 {
-    if !word_in_range(sum.x) {
-        return false;
-    }
-    if !word_in_range(sum.y) {
-        return false;
-    }
-    word_in_range(sum.z)
+    word_in_range(sum.x) && word_in_range(sum.y) && word_in_range(sum.z)
 }
 
 // A bin's entry behind the `count` entries of a list, where there is room for it.

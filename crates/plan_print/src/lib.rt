@@ -5,13 +5,10 @@ ghost use Rattle.std.specs.Prelude.{◌≡◌, take, ◌*◌};
 ghost use Rattle.plan_definition.specs.Reading.{entry_width};
 ghost use Rattle.plan_print.specs.Printing.{Printed};
 
-use plan_definition::{ListingAnswer, PlanAnswer};
+use plan_definition::ENTRY_WIDTH;
 use plan_read::read_plan;
 use plan_write::write_plan;
 use sheet_answer::write_refusal;
-
-// How many numbers an entry of a list has.
-const ENTRY_WIDTH: usize = 4;
 
 // The first n entries of a list, or all there are.
 fn front_entries(list: &[i64], n: usize) -> &[i64]
@@ -29,15 +26,11 @@ fn front_entries(list: &[i64], n: usize) -> &[i64]
 pub fn print_plan(text: &[u8], list: &mut [i64], out: &mut [u8]) -> usize
     ensures { Printed text.now list.old out.old out.new result }
 {
-    let read: PlanAnswer = read_plan(text, list);
-    match read {
-        PlanAnswer::Refused(n) => write_refusal(out, n),
-        PlanAnswer::Listed(n) => {
-            let wrote: ListingAnswer = write_plan(front_entries(list, n), out);
-            match wrote {
-                ListingAnswer::Refused(m) => write_refusal(out, m),
-                ListingAnswer::Written(k) => k,
-            }
-        }
+    match read_plan(text, list) {
+        Err(refusal) => write_refusal(out, refusal.number()),
+        Ok(n) => match write_plan(front_entries(list, n), out) {
+            Err(unwritten) => write_refusal(out, unwritten.number()),
+            Ok(k) => k,
+        },
     }
 }

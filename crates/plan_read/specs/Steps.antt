@@ -1,53 +1,48 @@
 -- What a step of reading says of the text that follows, the groups of any path being open. Assumes nothing.
-use Rattle.std.specs.Prelude.{Bool, true, false, cond, List, [], ◌∷◌, ◌++◌, ◌≡◌, ℕ, zero, suc, ◌+◌, ◌*◌, ◌≤◌, ◌<◌, eqb, ltb, ℤ, pos, length, drop}
+use Rattle.std.specs.Prelude.{Bool, true, false, cond, List, [], ◌∷◌, ◌++◌, ◌≡◌, ℕ, zero, suc, ◌+◌, ◌*◌, ◌≤◌, ◌<◌, eqb, ltb, ℤ, pos, length, drop, Option, Some, None, Result, Ok, Err, IfOk}
 use Rattle.slice_append.specs.Appended.{Appended}
 use Rattle.plan_definition.specs.Places.{Place, total, moved, in_range}
 use Rattle.plan_definition.specs.Grammar.{Entry, entry, most_depth}
 use Rattle.plan_definition.specs.Lines.{lines_of}
 use Rattle.plan_definition.specs.Reading.{refusal_of, entries_of, malformed, too_deep, out_of_range, too_many, entry_width, most_entries, list_of}
-use Rattle.plan_lines.specs.declared.OffsetWords.{OffsetWords}
+use Rattle.plan_definition.specs.declared.PlaceWords.{PlaceWords}
 use Rattle.plan_lines.specs.declared.places.SumWords.{SumWords}
 use Rattle.plan_lines.specs.Given.{place_of}
 use Rattle.plan_lines.specs.Sums.{MovedTo, Near, sum_of}
 use Rattle.plan_lines.specs.declared.lines.PlanLine.{PlanLine}
 use Rattle.plan_lines.specs.declared.lines.PlanLine.TheVariants as PlanLine
-use Rattle.plan_read.specs.declared.items.Opening.{Opening}
-use Rattle.plan_read.specs.declared.items.Opening.TheVariants as Opening
+use Rattle.plan_read.specs.declared.path.Path.{Path}
 use Rattle.plan_read.specs.declared.items.Step.{Step}
 
 -- ---- single steps
 
-abbrev pub step : ℕ → Bool → ℕ → ℕ → Step
-step refusal closed next count = record { refusal = refusal; closed = closed; next = next; count = count }
-
--- a line offends
-abbrev pub refused_step : ℕ → Step
-refused_step n = step n false 0 0
+abbrev pub step : Bool → ℕ → ℕ → Step
+step closed next count = record { closed = closed; next = next; count = count }
 
 -- a bracket with so many groups open
-abbrev pub closed_step : ℕ → ℕ → ℕ → Step
-closed_step depth next count = cond (eqb depth 0) (refused_step malformed) (step 0 true next count)
+abbrev pub closed_step : ℕ → ℕ → ℕ → Result Step ℕ
+closed_step depth next count = cond (eqb depth 0) (Err malformed) (Ok (step true next count))
 
 -- the end of the text with so many groups open
-abbrev pub end_step : ℕ → ℕ → ℕ → Step
-end_step depth next count = cond (eqb depth 0) (step 0 true next count) (refused_step malformed)
+abbrev pub end_step : ℕ → ℕ → ℕ → Result Step ℕ
+end_step depth next count = cond (eqb depth 0) (Ok (step true next count)) (Err malformed)
 
 -- a bin at a place: it stands if the place is in range and there is room
-abbrev pub bin_step : Place → ℕ → ℕ → ℕ → Step
-bin_step place next count room = cond (in_range place) (cond (ltb count room) (step 0 false next (suc count)) (refused_step too_many)) (refused_step out_of_range)
+abbrev pub bin_step : Place → ℕ → ℕ → ℕ → Result Step ℕ
+bin_step place next count room = cond (in_range place) (cond (ltb count room) (Ok (step false next (suc count))) (Err too_many)) (Err out_of_range)
 
 -- a bin was read: its place is the sum along its path, and its entry is in the list if it stands
-pub record BinRead (bin : ℕ) (offset : OffsetWords) (sum : SumWords) (next count room : ℕ) (E W : List ℤ) (s : Step) : Type 0 where
+pub record BinRead (bin : ℕ) (offset : PlaceWords) (sum : SumWords) (next count room : ℕ) (E W : List ℤ) (r : Result Step ℕ) : Type 0 where
   pub long : length W ≡ length E
-  pub is : s ≡ bin_step (moved (sum_of sum) (place_of offset)) next count room
-  pub put : s.refusal ≡ 0 → entry_width * room ≤ length E → Appended (entry_width * count) (list_of (entry (pos bin) (moved (sum_of sum) (place_of offset)) ∷ [])) E W
+  pub is : r ≡ bin_step (moved (sum_of sum) (place_of offset)) next count room
+  pub put : IfOk r (λ s. entry_width * room ≤ length E → Appended (entry_width * count) (list_of (entry (pos bin) (moved (sum_of sum) (place_of offset)) ∷ [])) E W)
 
 -- the step of a line that opens no group, or one too many
-unfoldable pub leaf_step : PlanLine → ℕ → SumWords → ℕ → ℕ → ℕ → Step
-leaf_step (PlanLine.Open o) depth sum next count room = refused_step too_deep
+unfoldable pub leaf_step : PlanLine → ℕ → SumWords → ℕ → ℕ → ℕ → Result Step ℕ
+leaf_step (PlanLine.Open o) depth sum next count room = Err too_deep
 leaf_step (PlanLine.Bin n o) depth sum next count room = bin_step (moved (sum_of sum) (place_of o)) next count room
 leaf_step PlanLine.Close depth sum next count room = closed_step depth next count
-leaf_step PlanLine.Malformed depth sum next count room = refused_step malformed
+leaf_step PlanLine.Malformed depth sum next count room = Err malformed
 leaf_step PlanLine.End depth sum next count room = end_step depth next count
 
 -- the entries of such a line
@@ -59,10 +54,10 @@ leaf_entries PlanLine.Malformed sum = []
 leaf_entries PlanLine.End sum = []
 
 -- such a line was read
-pub record LeafRead (line : PlanLine) (depth : ℕ) (sum : SumWords) (next count room : ℕ) (E W : List ℤ) (s : Step) : Type 0 where
+pub record LeafRead (line : PlanLine) (depth : ℕ) (sum : SumWords) (next count room : ℕ) (E W : List ℤ) (r : Result Step ℕ) : Type 0 where
   pub long : length W ≡ length E
-  pub is : s ≡ leaf_step line depth sum next count room
-  pub put : s.refusal ≡ 0 → entry_width * room ≤ length E → Appended (entry_width * count) (list_of (leaf_entries line sum)) E W
+  pub is : r ≡ leaf_step line depth sum next count room
+  pub put : IfOk r (λ s. entry_width * room ≤ length E → Appended (entry_width * count) (list_of (leaf_entries line sum)) E W)
 
 -- whether a line opens a group that may still be opened
 unfoldable pub may_open : PlanLine → ℕ → Bool
@@ -72,17 +67,18 @@ may_open PlanLine.Close depth = false
 may_open PlanLine.Malformed depth = false
 may_open PlanLine.End depth = false
 
--- a line opens a group, and `inner` is the sum along the path into it
-pub record OpensGroup (line : PlanLine) (depth : ℕ) (sum inner : SumWords) : Type 0 where
-  pub offset : OffsetWords
+-- a line opens a group, and `inner` is the path into it
+pub record OpensGroup (line : PlanLine) (depth : ℕ) (sum : SumWords) (inner : Path) : Type 0 where
+  pub offset : PlaceWords
   pub is : line ≡ PlanLine.Open offset
   pub shallow : depth < most_depth
-  pub moved_to : MovedTo depth sum offset inner
+  pub deeper : inner.depth ≡ depth + 1
+  pub moved_to : MovedTo depth sum offset inner.sum
 
--- r says whether a line opens a group
-unfoldable pub Opened : PlanLine → ℕ → SumWords → Opening → Type 0
-Opened line depth sum (Opening.Group inner) = OpensGroup line depth sum inner
-Opened line depth sum Opening.Other = may_open line depth ≡ false
+-- r is the path into the group that a line opens, if it opens one
+unfoldable pub Opened : PlanLine → ℕ → SumWords → Option Path → Type 0
+Opened line depth sum (Some inner) = OpensGroup line depth sum inner
+Opened line depth sum None = may_open line depth ≡ false
 
 -- ---- steps along a path
 
@@ -92,10 +88,8 @@ pub record Stands (path : List Place) (depth : ℕ) (sum : SumWords) : Type 0 wh
   pub sum_is : sum_of sum ≡ total path
 
 -- what reading from a place on asks
-pub record Ready (text : List ℕ) (depth : ℕ) (sum : SumWords) (at room : ℕ) : Type 0 where
+pub record Ready (text : List ℕ) (at room : ℕ) : Type 0 where
   pub place : at ≤ length text
-  pub deep : depth ≤ most_depth
-  pub near : Near depth sum
   pub few : room ≤ most_entries
 
 -- the refusal of what follows once the innermost group is closed; with none open, nothing follows
@@ -124,23 +118,23 @@ pub record Went (text : List ℕ) (path : List Place) (at count room : ℕ) (E W
   pub put : entry_width * room ≤ length E → Appended (entry_width * count) (list_of entries) E W
 
 -- a step along a path: the first offending line was met, or none was
-pub record Along (text : List ℕ) (path : List Place) (at count room : ℕ) (E W : List ℤ) (s : Step) : Type 0 where
-  pub refused : (s.refusal ≡ 0 → ⊥) → refusal_of room path count (lines_of (drop at text)) ≡ s.refusal
-  pub went : s.refusal ≡ 0 → Went text path at count room E W s
+abbrev pub Along : List ℕ → List Place → ℕ → ℕ → ℕ → List ℤ → List ℤ → Result Step ℕ → Type 0
+Along text path at count room E W (Err n) = refusal_of room path count (lines_of (drop at text)) ≡ n
+Along text path at count room E W (Ok s) = Went text path at count room E W s
 
 -- a step from a place, along every path that has the depth and the sum
-pub record Read (text : List ℕ) (depth : ℕ) (sum : SumWords) (at count room : ℕ) (E W : List ℤ) (s : Step) : Type 0 where
+pub record Read (text : List ℕ) (depth : ℕ) (sum : SumWords) (at count room : ℕ) (E W : List ℤ) (r : Result Step ℕ) : Type 0 where
   pub long : length W ≡ length E
-  pub inside : s.next ≤ length text
-  pub onward : s.refusal ≡ 0 → at ≤ s.next
-  pub along : (path : List Place) → Stands path depth sum → Along text path at count room E W s
+  pub inside : IfOk r (λ s. s.next ≤ length text)
+  pub onward : IfOk r (λ s. at ≤ s.next)
+  pub along : (path : List Place) → Stands path depth sum → Along text path at count room E W r
 
 -- an item was read: it takes a line at least, unless it ends its group
-pub record ItemRead (text : List ℕ) (depth : ℕ) (sum : SumWords) (at count room : ℕ) (E W : List ℤ) (s : Step) : Type 0 where
-  pub read : Read text depth sum at count room E W s
-  pub further : s.refusal ≡ 0 → s.closed ≡ false → at < s.next
+pub record ItemRead (text : List ℕ) (depth : ℕ) (sum : SumWords) (at count room : ℕ) (E W : List ℤ) (r : Result Step ℕ) : Type 0 where
+  pub read : Read text depth sum at count room E W r
+  pub further : IfOk r (λ s. s.closed ≡ false → at < s.next)
 
 -- a group was read to its end
-pub record GroupRead (text : List ℕ) (depth : ℕ) (sum : SumWords) (at count room : ℕ) (E W : List ℤ) (s : Step) : Type 0 where
-  pub read : Read text depth sum at count room E W s
-  pub ended : s.refusal ≡ 0 → s.closed ≡ true
+pub record GroupRead (text : List ℕ) (depth : ℕ) (sum : SumWords) (at count room : ℕ) (E W : List ℤ) (r : Result Step ℕ) : Type 0 where
+  pub read : Read text depth sum at count room E W r
+  pub ended : IfOk r (λ s. s.closed ≡ true)

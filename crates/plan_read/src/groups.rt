@@ -1,33 +1,32 @@
 // Reading a group calls reading an item, which calls reading a group: what remains of the text falls, and at most sixteen are open.
 
 ghost use Rattle.plan_read.specs.Steps.{GroupRead, ItemRead, Ready};
+ghost use Rattle.refusals.specs.Numbers.{numbered};
 
-use crate::items::{Opening, Step, open_group, read_leaf};
-use plan_lines::{SumWords, line_at};
+use crate::items::{Step, open_group, read_leaf};
+use crate::path::Path;
+use plan_lines::line_at;
+use refusals::Refusal;
 
 // Reads the items of a group up to its bracket; with no group open, those of the plan up to its end.
 #[cycle(read_group_read_item)]
 pub fn read_group(
     text: &[u8],
-    depth: usize,
-    sum: SumWords,
+    path: Path,
     at: usize,
     count: usize,
     room: usize,
     entries: &mut [i64],
-) -> Step
-    requires { Ready text.now depth sum at room }
-    ensures { GroupRead text.now depth sum at count room entries.old entries.new result }
+) -> Result<Step, Refusal>
+    requires { Ready text.now at room }
+    ensures { GroupRead text.now path.depth path.sum at count room entries.old entries.new (numbered result) }
 {
     let mut next: usize = at;
     let mut standing: usize = count;
     loop {
-        let s = read_item(text, depth, sum, next, standing, room, entries);
-        if s.refusal != 0 {
-            return s;
-        }
+        let s = read_item(text, path, next, standing, room, entries)?;
         if s.closed {
-            return s;
+            return Ok(s);
         }
         next = s.next;
         standing = s.count;
@@ -38,27 +37,25 @@ pub fn read_group(
 #[cycle(read_group_read_item)]
 fn read_item(
     text: &[u8],
-    depth: usize,
-    sum: SumWords,
+    path: Path,
     at: usize,
     count: usize,
     room: usize,
     entries: &mut [i64],
-) -> Step
-    requires { Ready text.now depth sum at room }
-    ensures { ItemRead text.now depth sum at count room entries.old entries.new result }
+) -> Result<Step, Refusal>
+    requires { Ready text.now at room }
+    ensures { ItemRead text.now path.depth path.sum at count room entries.old entries.new (numbered result) }
 {
     let found = line_at(text, at);
     let line = found.line;
     let end = found.end;
-    let Opening::Group(inner) = open_group(line, depth, sum) else {
-        return read_leaf(line, depth, sum, end, count, room, entries);
+    let Some(inner) = open_group(line, path) else {
+        return read_leaf(line, path, end, count, room, entries);
     };
-    let s = read_group(text, depth + 1, inner, end, count, room, entries);
-    Step {
-        refusal: s.refusal,
+    let s = read_group(text, inner, end, count, room, entries)?;
+    Ok(Step {
         closed: false,
         next: s.next,
         count: s.count,
-    }
+    })
 }

@@ -2,151 +2,118 @@
 
 ghost use Rattle.std.specs.Prelude.{◌≡◌, ◌≤◌};
 ghost use Rattle.plan_lines.specs.Given.{InWords, Small};
-ghost use Rattle.plan_lines.specs.Sums.{Near};
-ghost use Rattle.plan_read.specs.Steps.{BinRead, LeafRead, Opened, closed_step, end_step, refused_step};
+ghost use Rattle.plan_read.specs.Steps.{BinRead, LeafRead, Opened, closed_step, end_step};
+ghost use Rattle.refusals.specs.Numbers.{numbered};
 
-use plan_lines::{OffsetWords, PlanLine, SumWords, moved, put_entry, sum_in_range};
-
-// The refusals: a malformed line, a group too deep, a bin's place out of range, a bin beyond the list.
-const MALFORMED: u32 = 61;
-
-const TOO_DEEP: u32 = 62;
-
-const OUT_OF_RANGE: u32 = 63;
-
-const TOO_MANY: u32 = 64;
+use crate::path::Path;
+use plan_definition::PlaceWords;
+use plan_lines::{PlanLine, moved, put_entry, sum_in_range};
+use refusals::Refusal;
 
 // How many groups may be open at once.
 const MOST_DEPTH: usize = 16;
 
-// How far reading came: a refusal, or 0; whether the innermost group was closed; where the next line begins; how many bins stand.
+// How far reading came: whether the innermost group was closed; where the next line begins; how many bins stand.
 #[derive(Clone, Copy)]
 pub struct Step {
-    pub refusal: u32,
     pub closed: bool,
     pub next: usize,
     pub count: usize,
 }
 
-// The sum along the path into a group that a line opens, or no such group.
-#[derive(Clone, Copy)]
-pub enum Opening {
-    Group(SumWords),
-    Other,
-}
-
-// A line offends.
-fn refused(number: u32) -> Step
-    ensures { result ≡ refused_step number }
-{
-    Step {
-        refusal: number,
-        closed: false,
-        next: 0,
-        count: 0,
-    }
-}
-
 // A bracket closes the innermost group; it offends if none is open.
-fn close_group(depth: usize, next: usize, count: usize) -> Step
-    ensures { result ≡ closed_step depth next count }
+fn close_group(depth: usize, next: usize, count: usize) -> Result<Step, Refusal>
+    ensures { numbered result ≡ closed_step depth next count }
 {
     if depth == 0 {
-        return refused(MALFORMED);
+        return Err(Refusal::Line);
     }
-    Step {
-        refusal: 0,
+    Ok(Step {
         closed: true,
-        next: next,
-        count: count,
-    }
+        next,
+        count,
+    })
 }
 
 // The text ends; it offends if a group is open.
-fn end_text(depth: usize, next: usize, count: usize) -> Step
-    ensures { result ≡ end_step depth next count }
+fn end_text(depth: usize, next: usize, count: usize) -> Result<Step, Refusal>
+    ensures { numbered result ≡ end_step depth next count }
 {
     if depth != 0 {
-        return refused(MALFORMED);
+        return Err(Refusal::Line);
     }
-    Step {
-        refusal: 0,
+    Ok(Step {
         closed: true,
-        next: next,
-        count: count,
-    }
+        next,
+        count,
+    })
 }
 
 // A bin stands in a list that has room for `room` of them; its place is the sum along its path.
 fn read_bin(
     bin: u64,
-    offset: OffsetWords,
-    depth: usize,
-    sum: SumWords,
+    offset: PlaceWords,
+    path: Path,
     next: usize,
     count: usize,
     room: usize,
     entries: &mut [i64],
-) -> Step
+) -> Result<Step, Refusal>
     requires bin_bound { bin ≤ 65535 }
     requires in_words { InWords offset }
-    requires depth_bound { depth ≤ 16 }
-    requires near { Near depth sum }
     requires room_bound { room ≤ 4096 }
-    ensures { BinRead bin offset sum next count room entries.old entries.new result }
+    ensures { BinRead bin offset path.sum next count room entries.old entries.new (numbered result) }
 {
-    let place = moved(sum, offset, depth);
+    let place = moved(path.sum, offset, path.depth);
     if !sum_in_range(place) {
-        return refused(OUT_OF_RANGE);
+        return Err(Refusal::Place);
     }
     if room <= count {
-        return refused(TOO_MANY);
+        return Err(Refusal::Entries);
     }
     put_entry(entries, count, bin, place);
-    Step {
-        refusal: 0,
+    Ok(Step {
         closed: false,
-        next: next,
+        next,
         count: count + 1,
-    }
+    })
 }
 
 // Reads a line that opens no group, or one too many.
 pub fn read_leaf(
     line: PlanLine,
-    depth: usize,
-    sum: SumWords,
+    path: Path,
     next: usize,
     count: usize,
     room: usize,
     entries: &mut [i64],
-) -> Step
+) -> Result<Step, Refusal>
     requires small { Small line }
-    requires depth_bound { depth ≤ 16 }
-    requires near { Near depth sum }
     requires room_bound { room ≤ 4096 }
-    ensures { LeafRead line depth sum next count room entries.old entries.new result }
+    ensures { LeafRead line path.depth path.sum next count room entries.old entries.new (numbered result) }
 {
     match line {
-        PlanLine::Open(_) => refused(TOO_DEEP),
-        PlanLine::Bin(bin, offset) => read_bin(bin, offset, depth, sum, next, count, room, entries),
-        PlanLine::Close => close_group(depth, next, count),
-        PlanLine::Malformed => refused(MALFORMED),
-        PlanLine::End => end_text(depth, next, count),
+        PlanLine::Open(_) => Err(Refusal::Depth),
+        PlanLine::Bin(bin, offset) => read_bin(bin, offset, path, next, count, room, entries),
+        PlanLine::Close => close_group(path.depth, next, count),
+        PlanLine::Malformed => Err(Refusal::Line),
+        PlanLine::End => end_text(path.depth, next, count),
     }
 }
 
-// Whether a line opens a group that may still be opened.
-pub fn open_group(line: PlanLine, depth: usize, sum: SumWords) -> Opening
-    requires small { Small line }
-    requires near { Near depth sum }
-    ensures { Opened line depth sum result }
+// The path into the group that a line opens, if it opens one that may still be opened.
+pub fn open_group(line: PlanLine, path: Path) -> Option<Path>
+    requires { Small line }
+    ensures { Opened line path.depth path.sum result }
 {
-    if MOST_DEPTH <= depth {
-        return Opening::Other;
+    if MOST_DEPTH <= path.depth {
+        return None;
     }
     match line {
-        PlanLine::Open(offset) => Opening::Group(moved(sum, offset, depth)),
-        _ => Opening::Other,
+        PlanLine::Open(offset) => Some(Path {
+            depth: path.depth + 1,
+            sum: moved(path.sum, offset, path.depth),
+        }),
+        _ => None,
     }
 }

@@ -3,6 +3,7 @@
 
 mod groups;
 mod items;
+mod path;
 mod plan;
 
 pub use plan::read_plan;

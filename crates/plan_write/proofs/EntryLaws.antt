@@ -34,11 +34,11 @@ module _ (w : EntryWords) (k : ℕ) (b : Bool) (e : b ≡ bin_word w.bin) where
   within_place p = cond p (cond (ltb k most_entries) 0 too_many) out_of_range
 
   pub bin_refused : not b ≡ true → 61 ≡ words_refusal w k
-  bin_refused n = ap (λ (x : Bool). cond x (within_place (place_words w)) malformed) (sym (not-true b n) ∙ e)
+  bin_refused n = ap (λ (x : Bool). cond x (within_place (place_words w.place)) malformed) (sym (not-true b n) ∙ e)
 
-  module _ (n : not b ≡ false) (p : Bool) (f : p ≡ place_words w) where
-    passed : within_place (place_words w) ≡ words_refusal w k
-    passed = ap (λ (x : Bool). cond x (within_place (place_words w)) malformed) (sym (not-false b n) ∙ e)
+  module _ (n : not b ≡ false) (p : Bool) (f : p ≡ place_words w.place) where
+    passed : within_place (place_words w.place) ≡ words_refusal w k
+    passed = ap (λ (x : Bool). cond x (within_place (place_words w.place)) malformed) (sym (not-false b n) ∙ e)
 
     pub place_refused : not p ≡ true → 63 ≡ words_refusal w k
     place_refused m = ap within_place (sym (not-true p m) ∙ f) ∙ passed
@@ -54,15 +54,15 @@ module _ (e : Entry) (w : EntryWords) (v : EntryOf e w) (k : ℕ) (es : List Ent
   bin_same : (b : Bool) → bin_word w.bin ≡ b → bin_in_range e.bin ≡ b
   bin_same b q = sym (bin_is e.bin w.bin v.bin) ∙ q
 
-  place_same : (b : Bool) → place_words w ≡ b → in_range e.place ≡ b
+  place_same : (b : Bool) → place_words w.place ≡ b → in_range e.place ≡ b
   place_same b q = sym (place_is e w v) ∙ q
 
   -- an entry is passed over, or decides
   pub refusal_next : (r : ℕ) → r ≡ words_refusal w k → r ≡ 0 → listing_refusal k (e ∷ es) ≡ listing_refusal (suc k) es
   unfolding listing_refusal
-  refusal_next r q z = go (bin_word w.bin) refl (place_words w) refl (ltb k most_entries) refl (sym q ∙ z)
+  refusal_next r q z = go (bin_word w.bin) refl (place_words w.place) refl (ltb k most_entries) refl (sym q ∙ z)
     where
-      go : (a : Bool) → bin_word w.bin ≡ a → (b : Bool) → place_words w ≡ b → (c : Bool) → ltb k most_entries ≡ c → cond a (cond b (cond c 0 too_many) out_of_range) malformed ≡ 0
+      go : (a : Bool) → bin_word w.bin ≡ a → (b : Bool) → place_words w.place ≡ b → (c : Bool) → ltb k most_entries ≡ c → cond a (cond b (cond c 0 too_many) out_of_range) malformed ≡ 0
           → listing_refusal k (e ∷ es) ≡ listing_refusal (suc k) es
       go false p b q c s x = absurd (omega arith)
       go true p false q c s x = absurd (omega arith)
@@ -71,9 +71,9 @@ module _ (e : Entry) (w : EntryWords) (v : EntryOf e w) (k : ℕ) (es : List Ent
 
   pub refusal_here : (r : ℕ) → r ≡ words_refusal w k → (r ≡ 0 → ⊥) → r ≡ listing_refusal k (e ∷ es)
   unfolding listing_refusal
-  refusal_here r q n = q ∙ go (bin_word w.bin) refl (place_words w) refl (ltb k most_entries) refl (λ z. n (q ∙ z))
+  refusal_here r q n = q ∙ go (bin_word w.bin) refl (place_words w.place) refl (ltb k most_entries) refl (λ z. n (q ∙ z))
     where
-      go : (a : Bool) → bin_word w.bin ≡ a → (b : Bool) → place_words w ≡ b → (c : Bool) → ltb k most_entries ≡ c → (cond a (cond b (cond c 0 too_many) out_of_range) malformed ≡ 0 → ⊥)
+      go : (a : Bool) → bin_word w.bin ≡ a → (b : Bool) → place_words w.place ≡ b → (c : Bool) → ltb k most_entries ≡ c → (cond a (cond b (cond c 0 too_many) out_of_range) malformed ≡ 0 → ⊥)
           → cond a (cond b (cond c 0 too_many) out_of_range) malformed ≡ listing_refusal k (e ∷ es)
       go false p b q c s x = sym (rw (bin_same false p, listing_refusal))
       go true p false q c s x = sym (rw (bin_same true p, place_same false q, listing_refusal))
@@ -84,7 +84,7 @@ module _ (e : Entry) (w : EntryWords) (v : EntryOf e w) (k : ℕ) (es : List Ent
   passes_bin : words_refusal w k ≡ 0 → bin_word w.bin ≡ true
   passes_bin z = go (bin_word w.bin) refl z
     where
-      go : (a : Bool) → bin_word w.bin ≡ a → cond a (cond (place_words w) (cond (ltb k most_entries) 0 too_many) out_of_range) malformed ≡ 0 → bin_word w.bin ≡ true
+      go : (a : Bool) → bin_word w.bin ≡ a → cond a (cond (place_words w.place) (cond (ltb k most_entries) 0 too_many) out_of_range) malformed ≡ 0 → bin_word w.bin ≡ true
       go true p x = p
       go false p x = absurd (omega arith)
 
@@ -106,9 +106,9 @@ line_printed n x y z = line_of_form (bytes "(bin#%%%)") (Word (bytes "(bin") ∷
 pub words_line_lem : (e : Entry) (w : EntryWords) → EntryOf e w → T (bin_in_range e.bin) → T (in_range e.place) → words_line w ≡ bin_line e.bin e.place
 unfolding words_line
 words_line_lem e w v b p =
-    line_printed (w.bin - farthest) w.x w.y w.z
-    ∙ sym (bin_print (w.bin - farthest) w.x w.y w.z)
-    ∙ (λ i. bin_line (number i) (record { x = number_of e.place.x w.x v.x on_x i; y = number_of e.place.y w.y v.y on_y i; z = number_of e.place.z w.z v.z on_z i }))
+    line_printed (w.bin - farthest) w.place.x w.place.y w.place.z
+    ∙ sym (bin_print (w.bin - farthest) w.place.x w.place.y w.place.z)
+    ∙ (λ i. bin_line (number i) (record { x = number_of e.place.x w.place.x v.x on_x i; y = number_of e.place.y w.place.y v.y on_y i; z = number_of e.place.z w.place.z v.z on_z i }))
   where
     yes : (a : Bool) → T a → a ≡ true
     yes true t = refl
@@ -139,7 +139,7 @@ words_line_lem e w v b p =
     number = sym (rw (le-ltb w.bin farthest low)) ∙ number_of e.bin w.bin v.bin bin_within
 
 -- what was written of it
-pub words_wrote : (E W : List ℕ) (at r : ℕ) (w : EntryWords) → Wrote E at (line (pieces (bytes "(bin#%%%)")) ((w.bin - 1099511627776) ∷ w.x ∷ w.y ∷ w.z ∷ [])) W r → Wrote E at (words_line w) W r
+pub words_wrote : (E W : List ℕ) (at r : ℕ) (w : EntryWords) → Wrote E at (line (pieces (bytes "(bin#%%%)")) ((w.bin - 1099511627776) ∷ w.place.x ∷ w.place.y ∷ w.place.z ∷ [])) W r → Wrote E at (words_line w) W r
 unfolding words_line
 words_wrote E W at r w v = v
 
@@ -147,6 +147,6 @@ words_wrote E W at r w v = v
 pub line_measured : (E W : List ℕ) (r : ℕ) (w : EntryWords) → length E ≡ 96 → Wrote E 0 (words_line w) W r → LineLength w r
 unfolding words_line piece
 line_measured E W r w h v =
-    let short : length (words_line w) ≤ 96 = omega (arith, line_length (pieces (bytes "(bin#%%%)")) ((w.bin - farthest) ∷ w.x ∷ w.y ∷ w.z ∷ [])) in
+    let short : length (words_line w) ≤ 96 = omega (arith, line_length (pieces (bytes "(bin#%%%)")) ((w.bin - farthest) ∷ w.place.x ∷ w.place.y ∷ w.place.z ∷ [])) in
     let same : take r W ≡ words_line w = v.front ∙ take_all (length E) (words_line w) (omega arith) in
     record { is = omega (arith, ap (length {A = ℕ}) same, length-take r W, v.within, v.long); few = omega (arith, v.within) }

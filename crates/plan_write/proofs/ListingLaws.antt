@@ -10,6 +10,7 @@ use lib.Dec.{T, leb, ltb}
 use lib.IntN.{ℤ, pos}
 use lib.ListN.{length, get_or, take, drop, drop_of_length-le, length-append, length-drop, length-take, take-append-drop}
 use lib.Seq.{take_all}
+use Rattle.std.specs.Prelude.{Ok, Err}
 use Rattle.lists.specs.Lists.{written}
 use Rattle.sheet_digits.specs.Next.{next}
 use Rattle.sheet_digit_writing.specs.Writing.{Wrote}
@@ -22,11 +23,9 @@ use Rattle.plan_definition.proofs.RoundTrip as RoundTrip
 use Rattle.plan_definition.specs.Writing as Writing
 use Rattle.plan_definition.specs.Writing.{Writing, bin_in_range, entries_in, fitting, listing_refusal, listing_text, text_after, writing_of}
 use Rattle.plan_write.specs.declared.entries.EntryWords.{EntryWords}
-use Rattle.plan_write.specs.declared.listing.Checked.{Checked}
-use Rattle.plan_definition.specs.declared.ListingAnswer.TheVariants as ListingAnswer
 use Rattle.plan_definition.specs.Answers.{listing_answer}
 use Rattle.plan_write.specs.Entries.{EntryOf, LineLength, bin_word, entry_at, place_words, words_line, words_refusal}
-use Rattle.plan_write.specs.Answer.{CheckedListing, ListingPut, ListingWritten}
+use Rattle.plan_write.specs.Answer.{CheckedListing, ListingPut, ListingWritten, Measured}
 use Rattle.plan_write.proofs.WordLaws.{bin_is, place_is}
 use Rattle.plan_write.proofs.EntryLaws.{bin_word_low, refusal_here, refusal_next, words_line_lem}
 
@@ -67,13 +66,13 @@ entry_there l k h = omega arith
 -- ---- an entry that passes, by its words
 record Passes (w : EntryWords) (k : ℕ) : Type 0 where
   bin : bin_word w.bin ≡ true
-  place : place_words w ≡ true
+  place : place_words w.place ≡ true
   few : k < most_entries
 
 passes : (w : EntryWords) (k : ℕ) → words_refusal w k ≡ 0 → Passes w k
-passes w k z = go (bin_word w.bin) refl (place_words w) refl (ltb k most_entries) refl z
+passes w k z = go (bin_word w.bin) refl (place_words w.place) refl (ltb k most_entries) refl z
   where
-    go : (a : Bool) → bin_word w.bin ≡ a → (b : Bool) → place_words w ≡ b → (c : Bool) → ltb k most_entries ≡ c → cond a (cond b (cond c 0 too_many) out_of_range) malformed ≡ 0 → Passes w k
+    go : (a : Bool) → bin_word w.bin ≡ a → (b : Bool) → place_words w.place ≡ b → (c : Bool) → ltb k most_entries ≡ c → cond a (cond b (cond c 0 too_many) out_of_range) malformed ≡ 0 → Passes w k
     go false p b q c s x = absurd (omega arith)
     go true p false q c s x = absurd (omega arith)
     go true p true q false s x = absurd (omega arith)
@@ -94,21 +93,21 @@ pub checking_none : (l : List ℤ) → Checking l 0 0
 checking_none l = record { few = omega arith; small = omega arith; refusal = refl; long = omega arith }
 
 module _ (l : List ℤ) (total k : ℕ) (v : Checking l total k) where
-  pub checking_all : length l / 4 ≤ k → CheckedListing l (record { refusal = 0; length = total })
+  pub checking_all : length l / 4 ≤ k → CheckedListing l (Ok total)
   unfolding listing_refusal listing_text
   checking_all h =
       let done : entries_in (drop (4 * k) l) ≡ [] = none_left l k h in
       record {
-        refusal = sym (ap (listing_refusal k) done) ∙ v.refusal;
-        long = λ z. omega (arith, v.long, ap (λ (es : List Entry). length (listing_text es)) done);
+        none_offends = sym v.refusal ∙ ap (listing_refusal k) done;
+        long = omega (arith, v.long, ap (λ (es : List Entry). length (listing_text es)) done);
       }
 
   module _ (h : k < length l / 4) (w : EntryWords) (e : EntryOf (entry_at l k) w) (r : ℕ) (q : r ≡ words_refusal w k) where
     cut : entries_in (drop (4 * k) l) ≡ entry_at l k ∷ entries_in (drop (4 * (k + 1)) l)
     cut = entries_cut l k (entry_there l k h)
 
-    pub checking_refused : (r ≡ 0 → ⊥) → CheckedListing l (record { refusal = r; length = 0 })
-    checking_refused n = record { refusal = refusal_here (entry_at l k) w e k _ r q n ∙ ap (listing_refusal k) (sym cut) ∙ v.refusal; long = λ z. absurd (n z) }
+    pub checking_refused : (r ≡ 0 → ⊥) → CheckedListing l (Err r)
+    checking_refused n = refusal_here (entry_at l k) w e k _ r q n ∙ ap (listing_refusal k) (sym cut) ∙ v.refusal
 
     pub bin_there : r ≡ 0 → farthest ≤ w.bin
     bin_there z = bin_word_low w.bin (passes w k (sym q ∙ z)).bin
@@ -188,37 +187,37 @@ module _ (l : List ℤ) (E W : List ℕ) (at k : ℕ) (v : Putting l E W at k) w
     }
 
 -- ---- the whole
-module _ (l : List ℤ) (E : List ℕ) (c : Checked) (v : CheckedListing l c) where
-  -- an entry offends
-  pub listing_refused : (c.refusal ≡ 0 → ⊥) → ListingWritten l E E (ListingAnswer.Refused c.refusal)
-  unfolding listing_answer writing_of text_after
-  listing_refused n = go c.refusal refl
-    where
-      go : (k : ℕ) → c.refusal ≡ k → ListingWritten l E E (ListingAnswer.Refused c.refusal)
-      go zero z = absurd (n z)
-      go (suc k) z =
-          let is : writing_of (length E) (entries_in l) ≡ Writing.Refused (suc k) = rw (sym v.refusal ∙ z, writing_of) in
-          record { answer = ap ListingAnswer.Refused z ∙ ap listing_answer (sym is); text = ap (λ (x : Writing). text_after x E) (sym is) }
 
-  module _ (z : c.refusal ≡ 0) where
-    pub none_offends : listing_refusal 0 (entries_in l) ≡ 0
-    none_offends = sym v.refusal ∙ z
+-- an entry offends
+pub listing_refused : (l : List ℤ) (E : List ℕ) (n : ℕ) → CheckedListing l (Err n) → (n ≡ 0 → ⊥) → ListingWritten l E E (Err n)
+unfolding listing_answer writing_of text_after
+listing_refused l E n v some = go n refl
+  where
+    go : (k : ℕ) → n ≡ k → ListingWritten l E E (Err n)
+    go zero z = absurd (some z)
+    go (suc k) z =
+        let is : writing_of (length E) (entries_in l) ≡ Writing.Refused (suc k) = rw (sym v ∙ z, writing_of) in
+        record { answer = ap (λ (m : ℕ). Err m) z ∙ ap listing_answer (sym is); text = ap (λ (x : Writing). text_after x E) (sym is) }
 
-    -- the slice is too short
-    pub listing_short : length E < c.length → ListingWritten l E E (ListingAnswer.Refused 68)
-    unfolding listing_answer writing_of fitting text_after
-    listing_short h =
-        let long : leb (length (listing_text (entries_in l))) (length E) ≡ false = lt-leb (length (listing_text (entries_in l))) (length E) (omega (arith, v.long z)) in
-        let is : writing_of (length E) (entries_in l) ≡ Writing.Refused 68 = rw (none_offends, writing_of, long, fitting) in
-        record { answer = ap listing_answer (sym is); text = ap (λ (x : Writing). text_after x E) (sym is) }
+module _ (l : List ℤ) (E : List ℕ) (c : ℕ) (v : Measured l c) where
+  pub none_offends : listing_refusal 0 (entries_in l) ≡ 0
+  none_offends = v.none_offends
 
-    pub text_fits : c.length ≤ length E → length (listing_text (entries_in l)) ≤ length E
-    text_fits h = omega (arith, v.long z)
+  -- the slice is too short
+  pub listing_short : length E < c → ListingWritten l E E (Err 68)
+  unfolding listing_answer writing_of fitting text_after
+  listing_short h =
+      let long : leb (length (listing_text (entries_in l))) (length E) ≡ false = lt-leb (length (listing_text (entries_in l))) (length E) (omega (arith, v.long)) in
+      let is : writing_of (length E) (entries_in l) ≡ Writing.Refused 68 = rw (none_offends, writing_of, long, fitting) in
+      record { answer = ap listing_answer (sym is); text = ap (λ (x : Writing). text_after x E) (sym is) }
 
-    -- the text is written
-    pub listing_written : (W : List ℕ) (n : ℕ) → c.length ≤ length E → ListingPut l E W n → ListingWritten l E W (ListingAnswer.Written n)
-    unfolding listing_answer writing_of fitting text_after
-    listing_written W n h p =
-        let fits : leb (length (listing_text (entries_in l))) (length E) ≡ true = le-leb (length (listing_text (entries_in l))) (length E) (text_fits h) in
-        let is : writing_of (length E) (entries_in l) ≡ Writing.Written (listing_text (entries_in l)) = rw (none_offends, writing_of, fits, fitting) in
-        record { answer = ap ListingAnswer.Written p.long ∙ ap listing_answer (sym is); text = p.is ∙ ap (λ (x : Writing). text_after x E) (sym is) }
+  pub text_fits : c ≤ length E → length (listing_text (entries_in l)) ≤ length E
+  text_fits h = omega (arith, v.long)
+
+  -- the text is written
+  pub listing_written : (W : List ℕ) (n : ℕ) → c ≤ length E → ListingPut l E W n → ListingWritten l E W (Ok n)
+  unfolding listing_answer writing_of fitting text_after
+  listing_written W n h p =
+      let fits : leb (length (listing_text (entries_in l))) (length E) ≡ true = le-leb (length (listing_text (entries_in l))) (length E) (text_fits h) in
+      let is : writing_of (length E) (entries_in l) ≡ Writing.Written (listing_text (entries_in l)) = rw (none_offends, writing_of, fits, fitting) in
+      record { answer = ap (λ (m : ℕ). Ok m) p.long ∙ ap listing_answer (sym is); text = p.is ∙ ap (λ (x : Writing). text_after x E) (sym is) }

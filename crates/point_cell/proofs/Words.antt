@@ -4,7 +4,7 @@ use mathlib.Core.Bool.{Bool, true, false, cond}
 use Prim.Native.Nat.{ℕ, zero, suc, ◌+◌, ◌-◌, ◌^◌, ◌≤◌, ◌<◌, min}
 use native.Mathlib.Omega.{arith}
 use borrow.Author.Tests.{lt-leb, le-leb}
-use lib.IntN.{ℤ, pos, neg_ℤ}
+use lib.IntN.{pos, neg_ℤ}
 use lib.Dec.{leb, eqb}
 use lib.Ieee.{Float, nan, inf, binary32, odd, of_fields, to_bits, fits}
 use Rattle.signed_numbers.specs.Linear.{up, down, up_neg, down_neg}

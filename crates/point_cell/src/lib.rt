@@ -18,13 +18,6 @@ const LIMIT: u64 = 9223372036854775808;
 // The largest cell.
 const LARGEST: i64 = 9223372036854775807;
 
-// n, or the most that it may be.
-fn at_most(n: u64, most: u64) -> u64
-    ensures { result ≡ min n most }
-{
-    if n < most { n } else { most }
-}
-
 // q / 2 to the nearest whole number, a half up.
 fn half_up(q: u64) -> u64
     requires { q < 2 ^ 63 }
@@ -50,7 +43,7 @@ fn nearest_size(v: f32, factor: u64, most: u64) -> u64
         return half_up(a >> (149 - e));
     }
     if e < 171 {
-        return at_most(a << (e - 150), most);
+        return (a << (e - 150)).min(most);
     }
     if e == 255 {
         if t != 0 {

@@ -1,4 +1,3 @@
 -- The laws that the proofs of this crate cite, by subject.
-pub mod Halves
 pub mod Steps
 pub mod Positions

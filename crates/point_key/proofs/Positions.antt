@@ -5,7 +5,7 @@ use lib.Ieee.{Float, nan}
 use lib.Pow.{high, low}
 use borrow.Author.Tests.{not-true, not-false}
 use Rattle.float_steps.specs.Floats.{bits32}
-use Rattle.point_rules.specs.Points.{key, bits, zeros, zero_joined}
+use Rattle.point_rules.specs.Points.{key, bits, zeros}
 use Rattle.point_rules.specs.Bits.{Bits32, bits_by, bits_of, front_bits, digest}
 use Rattle.point_rules.specs.Rule.{names, VertexInside, Both}
 use Rattle.point_rules.specs.Names.{names_at}

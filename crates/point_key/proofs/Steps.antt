@@ -1,5 +1,5 @@
 -- Laws of the key's steps. Assumes nothing.
-use Rattle.std.proofs.Common.{◌≡◌, ℕ, zero, suc, ◌+◌, ◌-◌, ◌*◌, ◌/◌, ◌%◌, ◌^◌, ◌<◌, Bool, ◌||◌, List, [], ◌∷◌, ◌++◌, sym, refl, ap, ◌∙◌, mul_assoc, mul_comm, add-mul, add_comm, div-add-mod', zero-add, mul_left_comm, arith}
+use Rattle.std.proofs.Common.{◌≡◌, ℕ, suc, ◌+◌, ◌-◌, ◌*◌, ◌/◌, ◌%◌, ◌^◌, ◌<◌, ◌≤◌, Bool, ◌||◌, List, [], ◌∷◌, ◌++◌, sym, refl, ap, ◌∙◌, mul_assoc, mul_comm, add-mul, add_comm, div-add-mod', zero-add, mul_left_comm, arith}
 use native.Mathlib.Nat.{add-mul-mod_self_right}
 use lib.Pow.{split}
 use lib.Bits.{bit_xor, xor_block, xor_zero_r}
@@ -21,20 +21,21 @@ pub step_is : {r : ℕ} (h b : ℕ) → b < 256 → r ≡ bit_xor h b * 10995116
 unfolding key_step
 step_is h b l e = e ∙ ap (λ (x : ℕ). x * 1099511628211 % 2 ^ 64) (xor_byte h b l)
 
--- `key_bytes`, with k bytes to come
-pub bytes_more : {g r : ℕ} (h w k : ℕ) → (k ≡ 0 → ⊥) → key_steps h (little_endian k w) ≡ g → r ≡ key_step h (w % 256)
-    → key_steps r (little_endian (k - 1) (w / 256)) ≡ g
-unfolding key_steps little_endian
-bytes_more h w zero n e s = absurd (n refl)
-bytes_more h w (suc k) n e s = (λ i. key_steps (s i) (little_endian (pred i) (w / 256))) ∙ e
-  where
-    pred : suc k - 1 ≡ k
-    pred = omega arith
+-- `key_bytes`, with i of its n bytes taken in
+pub bytes_none : (h w n : ℕ) → key_steps h (little_endian (n - 0) w) ≡ key_steps h (little_endian n w)
+bytes_none h w n = let e : n - 0 ≡ n = omega arith in ap (λ (k : ℕ). key_steps h (little_endian k w)) e
 
--- with none to come
-pub bytes_all : {g : ℕ} (h w k : ℕ) → k ≡ 0 → key_steps h (little_endian k w) ≡ g → h ≡ g
+pub bytes_more : {g r : ℕ} (h w n i : ℕ) → i < n → key_steps h (little_endian (n - i) w) ≡ g → r ≡ key_step h (w % 256)
+    → key_steps r (little_endian (n - (i + 1)) (w / 256)) ≡ g
 unfolding key_steps little_endian
-bytes_all h w k z e = ap (λ (j : ℕ). key_steps h (little_endian j w)) (sym z) ∙ e
+bytes_more {g} h w n i l e s =
+    let next : n - i ≡ suc (n - (i + 1)) = omega arith in
+    ap (λ (x : ℕ). key_steps x (little_endian (n - (i + 1)) (w / 256))) s ∙ ap (λ (k : ℕ). key_steps h (little_endian k w)) (sym next) ∙ e
+
+-- with all of them
+pub bytes_all : {g : ℕ} (h w n i : ℕ) → n ≤ i → key_steps h (little_endian (n - i) w) ≡ g → h ≡ g
+unfolding key_steps little_endian
+bytes_all h w n i l e = let none : 0 ≡ n - i = omega arith in ap (λ (k : ℕ). key_steps h (little_endian k w)) none ∙ e
 
 -- a factor after the remainder or before it
 mod_times : (a f m : ℕ) → a % m * f % m ≡ a * f % m

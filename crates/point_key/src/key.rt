@@ -31,11 +31,9 @@ fn key_bytes(start: u64, word: u64, count: usize) -> u64
 {
     let mut h = start;
     let mut w = word;
-    let mut k = count;
-    while k != 0 {
+    for _ in 0..count {
         h = key_step(h, w % 256);
         w = w / 256;
-        k -= 1;
     }
     h
 }

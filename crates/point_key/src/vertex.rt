@@ -70,5 +70,5 @@ pub fn digest_at(positions: &[f32], i: usize, joined: bool) -> u64
 {
     let front = wrapping_mul(front_bits(positions, i, joined), FRONT);
     let last = bits_at(positions, 3 * i + 2, joined) * LAST;
-    std::num::wrapping_add_u64(front, last)
+    front.wrapping_add(last)
 }

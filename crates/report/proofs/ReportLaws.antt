@@ -1,4 +1,5 @@
 -- What the call answers and leaves, check by check. Assumes nothing.
+use Rattle.std.specs.Prelude.{ℕ, Ok, Err}
 use mathlib.Core.Path.{◌≡◌, sym, ap, ◌∙◌, subst}
 use mathlib.Core.Bool.{Bool, true, false}
 use mathlib.Core.List.{List, flat_map}
@@ -20,7 +21,6 @@ use Rattle.body_checks.specs.Accepted.{Passed, passed}
 use Rattle.body_checks.specs.Cleared.{cleared_is}
 use Rattle.patch_geometry.specs.declared.Aabb.{Aabb}
 use Rattle.report_definition.specs.declared.Page.{Page}
-use Rattle.report_definition.specs.declared.Reported.TheVariants.{Done, Refused}
 use Rattle.report_definition.specs.Report.{AfterReport, faces_of_body, with_body, room_of, list_after, full_page, full_list, most_bodies, most_of_body, counts_in, entry_width}
 use Rattle.report_definition.specs.Report.{bad_page, report_checks, left_report, add_or_refuse, report_of}
 use Rattle.report_definition.specs.Audit.{Entry}
@@ -40,12 +40,12 @@ module _ (table : List ℕ) (ps ns : List Float) (is : List ℕ) (box : Aabb) (p
   told = report_of key page (body_of table ps ns is box) list W
 
   -- a check of the body fails
-  pub refused_body : {n : ℕ} → n ≡ first_failing (body_checks table ps ns is (length W)) → (n ≡ 0 → ⊥) → left_report (Refused n) list W ≡ told
+  pub refused_body : {n : ℕ} → n ≡ first_failing (body_checks table ps ns is (length W)) → (n ≡ 0 → ⊥) → left_report (Err n) list W ≡ told
   unfolding report_of
   refused_body {n} e z =
       sym (ap (λ (k : ℕ). elim (eqb k 0) [
         | true ↦ add_or_refuse key page (body_of table ps ns is box) list (cleared (rows_of table) W)
-        | false ↦ left_report (Refused k) list W
+        | false ↦ left_report (Err k) list W
       ]) (sym e) ∙ rw (ne_eqb n 0 z))
 
   module _ (h : first_failing (body_checks table ps ns is (length W)) ≡ 0) {Z : List ℕ} (z : Z ≡ cleared (rows_of table) W) where
@@ -55,28 +55,28 @@ module _ (table : List ℕ) (ps ns : List Float) (is : List ℕ) (box : Aabb) (p
     report_next =
         sym (ap (λ (k : ℕ). elim (eqb k 0) [
           | true ↦ add_or_refuse key page (body_of table ps ns is box) list (cleared (rows_of table) W)
-          | false ↦ left_report (Refused k) list W
+          | false ↦ left_report (Err k) list W
         ]) h)
 
     -- one of those fails
-    refused_report : (n : ℕ) → (n ≡ 0 → ⊥) → n ≡ first_failing (report_checks page (length (faces_of_body key (body_of table ps ns is box))) (room_of list)) → left_report (Refused n) list Z ≡ told
+    refused_report : (n : ℕ) → (n ≡ 0 → ⊥) → n ≡ first_failing (report_checks page (length (faces_of_body key (body_of table ps ns is box))) (room_of list)) → left_report (Err n) list Z ≡ told
     unfolding add_or_refuse
     refused_report n some e =
-        ap (λ (l : List ℕ). left_report (Refused n) list l) z
+        ap (λ (l : List ℕ). left_report (Err n) list l) z
         ∙ sym (ap (λ (k : ℕ). elim (eqb k 0) [
-          | true ↦ left_report (Done (with_body key page (body_of table ps ns is box))) (list_after page.listed (faces_of_body key (body_of table ps ns is box)) list) (cleared (rows_of table) W)
-          | false ↦ left_report (Refused k) list (cleared (rows_of table) W)
+          | true ↦ left_report (Ok (with_body key page (body_of table ps ns is box))) (list_after page.listed (faces_of_body key (body_of table ps ns is box)) list) (cleared (rows_of table) W)
+          | false ↦ left_report (Err k) list (cleared (rows_of table) W)
         ]) (sym e) ∙ rw (ne_eqb n 0 some))
         ∙ report_next
 
     -- the page is refused
-    pub refused_page : {b : Bool} → b ≡ bad_page page → b ≡ true → left_report (Refused 67) list Z ≡ told
+    pub refused_page : {b : Bool} → b ≡ bad_page page → b ≡ true → left_report (Err 67) list Z ≡ told
     unfolding report_checks
     refused_page e t = refused_report full_page (λ q. omega arith) (first_here full_page _ (sym e ∙ t))
 
     module _ (good : bad_page page ≡ false) {r : ℕ} (many : r ≡ length (faces_of_body key (body_of table ps ns is box))) where
       -- the list has no room
-      pub refused_list : room_of list < page.listed + r → left_report (Refused 69) list Z ≡ told
+      pub refused_list : room_of list < page.listed + r → left_report (Err 69) list Z ≡ told
       unfolding report_checks
       refused_list l =
           refused_report full_list (λ q. omega arith)
@@ -84,9 +84,9 @@ module _ (table : List ℕ) (ps ns : List Float) (is : List ℕ) (box : Aabb) (p
 
       -- the body is added
       pub added : {p : Page} {new : List ℕ} → page.listed + r ≤ room_of list → p ≡ with_body key page (body_of table ps ns is box)
-          → new ≡ list_after page.listed (faces_of_body key (body_of table ps ns is box)) list → left_report (Done p) new Z ≡ told
+          → new ≡ list_after page.listed (faces_of_body key (body_of table ps ns is box)) list → left_report (Ok p) new Z ≡ told
       added {p} {new} room e f =
-          (λ j. left_report (Done (e j)) (f j) (z j))
+          (λ j. left_report (Ok (e j)) (f j) (z j))
           ∙ sym (report_accepted key page (body_of table ps ns is box) list W h good (subst (λ (k : ℕ). page.listed + k ≤ room_of list) many room))
 
 -- ---- the listed faces of a page that 67 accepts

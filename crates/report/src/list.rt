@@ -7,7 +7,7 @@ ghost use Rattle.report_definition.specs.Report.{entry_width};
 ghost use Rattle.report.specs.Listing.{ListReady, word_numbers};
 
 use report_audit::COUNT_UNIT;
-use slice_append::put_two;
+use slice_append::put;
 
 // How many numbers an entry has: face number and count.
 pub const ENTRY_WIDTH: usize = 2;
@@ -17,15 +17,12 @@ pub fn write_entries(w: &[u64], at: usize, r: usize, list: &mut [u32], listed: u
     requires { ListReady w.now at r list.old listed }
     ensures { Appended (entry_width * listed) (flat_map word_numbers (take r (drop at w.now))) list.old list.new }
 {
-    let mut k = 0usize;
-    while k < r {
+    for k in 0..r {
         let x = w[at + k];
-        put_two(
+        put(
             list,
             ENTRY_WIDTH * (listed + k),
-            (x % COUNT_UNIT) as u32,
-            (x / COUNT_UNIT) as u32,
+            &[(x % COUNT_UNIT) as u32, (x / COUNT_UNIT) as u32],
         );
-        k += 1;
     }
 }

@@ -13,13 +13,7 @@ fn runs_alike(w: &[u64], firsts: usize, n: usize, i: usize) -> bool
 {
     let first = w[firsts + i] as usize;
     let run = w[firsts + 2 * n + i];
-    if first == i {
-        return false;
-    }
-    if run == EQUAL_ENDS {
-        return false;
-    }
-    w[firsts + 2 * n + first] == run
+    first != i && run != EQUAL_ENDS && w[firsts + 2 * n + first] == run
 }
 
 // A use that runs as the first use of its edge adds 1 to the count of its row's face, and 1 to that of the first use's row.
@@ -43,9 +37,7 @@ pub fn count_marks(w: &mut [u64], firsts: usize, n: usize, heads: usize, counts:
 {
     let end = counts + m;
     slice_fill::fill(w, counts, end, 0);
-    let mut i = 0usize;
-    while i < n {
+    for i in 0..n {
         mark_use(w, firsts, n, i, heads, counts);
-        i += 1;
     }
 }

@@ -3,7 +3,7 @@
 // The work area from `at` on, of m words each (specs/Ranks.antt): face numbers, first rows, two words of the table that joined them, counts, ranks with
 // the words taken to sort them, order with the words taken to sort it, entries.
 
-ghost use Rattle.std.specs.Prelude.{◌≡◌, ◌+◌, ◌*◌, min};
+ghost use Rattle.std.specs.Prelude.{◌≡◌, ◌+◌, ◌*◌};
 ghost use Rattle.report_audit.specs.Ranks.{count_at, entry_at, WordSmall, RanksReady, RanksListed, RowsRanked, CountReady, GatherReady, Gathered};
 ghost use Rattle.report_audit.specs.Ranks.{EntryReady, EntriesReady, EntriesWritten, RankReady, Ranked};
 
@@ -45,10 +45,8 @@ fn list_ranks(w: &mut [u64], at: usize, m: usize)
     ensures { RanksListed w.old at m w.new }
 {
     let ranks = at + RANKS * m;
-    let mut k = 0usize;
-    while k < m {
+    for k in 0..m {
         w[ranks + k] = rank_word(w[at + k], k as u64);
-        k += 1;
     }
 }
 
@@ -74,16 +72,6 @@ fn count_at(w: &[u64], at: usize, m: usize, i: usize) -> u64
     0
 }
 
-// 1 for a count above 0, else 0.
-fn at_most_one(count: u64) -> usize
-    ensures { result ≡ min count 1 }
-{
-    if 0 < count {
-        return 1;
-    }
-    0
-}
-
 // For each rank with a count above 0 a word that is higher for a lower count and, of one count, for a later rank; answers how many.
 // A word is written at every rank, and the next one over it where the count is 0.
 fn gather(w: &mut [u64], at: usize, m: usize) -> usize
@@ -92,12 +80,10 @@ fn gather(w: &mut [u64], at: usize, m: usize) -> usize
 {
     let order = at + ORDER * m;
     let mut r = 0usize;
-    let mut i = 0usize;
-    while i < m {
+    for i in 0..m {
         let count = count_at(w, at, m, i);
         w[order + r] = (MOST - count) * ROWS + i as u64;
-        r += at_most_one(count);
-        i += 1;
+        r += count.min(1) as usize;
     }
     r
 }
@@ -118,10 +104,8 @@ fn write_entries(w: &mut [u64], at: usize, m: usize, r: usize)
     ensures { EntriesWritten w.old at m r w.new }
 {
     let entries = at + ENTRIES * m;
-    let mut k = 0usize;
-    while k < r {
+    for k in 0..r {
         w[entries + k] = entry_at(w, at, m, k);
-        k += 1;
     }
 }
 

@@ -1,5 +1,5 @@
 -- The calls of the report in a row, each with the page, the face list and the work area that the call before gave. Assumes nothing.
-use Rattle.std.specs.Prelude.{◌≡◌, refl, ℕ, ◌+◌, ◌*◌, ◌≤◌, take, drop, replicate, eqb}
+use Rattle.std.specs.Prelude.{◌≡◌, refl, ℕ, ◌+◌, ◌*◌, ◌≤◌, take, drop, replicate, eqb, Ok, Err}
 use Rattle.std.proofs.Math.Path.{sym, ap}
 use Rattle.std.proofs.Common.{◌∙◌, subst, length-drop, take-append-drop, length-take-le, take_at, drop_at, drop-drop, le-ltb}
 use Rattle.std.proofs.Math.Bool.{true, false}
@@ -14,7 +14,6 @@ use Rattle.body_rows.specs.Body.{Row, rows_of, first_failing, work_needed, clear
 use Rattle.body_rows.specs.Checks.{first_next, first_none}
 use Rattle.body_checks.specs.Accepted.{passed}
 use Rattle.report_definition.specs.declared.Page.{Page}
-use Rattle.report_definition.specs.declared.Reported.TheVariants.{Done, Refused}
 use Rattle.report_definition.specs.Page.{sums_of, empty_page, body_sums}
 use Rattle.report_definition.specs.Audit.{Entry}
 use Rattle.report_definition.specs.Report.{
@@ -40,11 +39,11 @@ use Rattle.report_definition.specs.Limits.{Passes, Within, none_within, plus_wit
 
 -- what follows a call: the next with what it gave, or nothing after a refusal
 unfoldable pub onward : (Page → List ℕ → List ℕ → AfterReport) → AfterReport → AfterReport
-onward next r = elim r.answer [ Done p ↦ next p r.list r.work | Refused n ↦ r ]
+onward next r = elim r.answer [ Ok p ↦ next p r.list r.work | Err n ↦ r ]
 
 -- a call for each body in turn
 unfoldable pub calls : Rule → Page → List Body → List ℕ → List ℕ → AfterReport
-calls rule page [] list work = left_report (Done page) list work
+calls rule page [] list work = left_report (Ok page) list work
 calls rule page (b ∷ bs) list work = onward (λ p l w. calls rule p bs l w) (report_of rule page b list work)
 
 -- the work area after them: the words of each body cleared
@@ -128,13 +127,13 @@ module _ (rule : Rule) where
 
   -- A body is added where no check fails.
   pub report_accepted : (page : Page) (b : Body) (list work : List ℕ) → Passes (length work) b → bad_page page ≡ false → page.listed + length (faces_of_body rule b) ≤ room_of list
-      → report_of rule page b list work ≡ left_report (Done (with_body rule page b)) (list_after page.listed (faces_of_body rule b) list) (cleared (rows_of b.table) work)
+      → report_of rule page b list work ≡ left_report (Ok (with_body rule page b)) (list_after page.listed (faces_of_body rule b) list) (cleared (rows_of b.table) work)
   unfolding report_of add_or_refuse
   report_accepted page b list work h good room =
       let es = faces_of_body rule b in
       let zeros = cleared (rows_of b.table) work in
-      ap (λ (n : ℕ). elim (eqb n 0) [ true ↦ add_or_refuse rule page b list zeros | false ↦ left_report (Refused n) list work ]) h
-      ∙ ap (λ (n : ℕ). elim (eqb n 0) [ true ↦ left_report (Done (with_body rule page b)) (list_after page.listed es list) zeros | false ↦ left_report (Refused n) list zeros ])
+      ap (λ (n : ℕ). elim (eqb n 0) [ true ↦ add_or_refuse rule page b list zeros | false ↦ left_report (Err n) list work ]) h
+      ∙ ap (λ (n : ℕ). elim (eqb n 0) [ true ↦ left_report (Ok (with_body rule page b)) (list_after page.listed es list) zeros | false ↦ left_report (Err n) list zeros ])
       (checks_pass page (length es) (room_of list) good room)
 
   -- ---- calls in a row
@@ -142,9 +141,9 @@ module _ (rule : Rule) where
   -- The calls on accepted bodies add each to the page and its entries to the list, where 4,096 bodies are not passed and the list has room.
   pub calls_from : (page : Page) (bs : List Body) (list work : List ℕ) → Within (sums_of page) → page.bodies + length bs ≤ most_bodies → Each (Passes (length work)) bs
       → page.listed + length (faces_of rule bs) ≤ room_of list
-      → calls rule page bs list work ≡ left_report (Done (page_from rule page bs)) (list_after page.listed (faces_of rule bs) list) (cleared_by bs work)
+      → calls rule page bs list work ≡ left_report (Ok (page_from rule page bs)) (list_after page.listed (faces_of rule bs) list) (cleared_by bs work)
   unfolding calls onward page_from faces_of cleared_by flat_map body_sums
-  calls_from page [] list work w few e room = ap (λ (l : List ℕ). left_report (Done page) l work) (sym (list_none page.listed list))
+  calls_from page [] list work w few e room = ap (λ (l : List ℕ). left_report (Ok page) l work) (sym (list_none page.listed list))
   calls_from page (b ∷ bs) list work w few e room =
       let es = faces_of_body rule b in
       let next = with_body rule page b in
@@ -157,10 +156,10 @@ module _ (rule : Rule) where
       ap (onward (λ p l w. calls rule p bs l w)) (report_accepted page b list work e.0 (within_good page w (omega arith)) fits)
       ∙ calls_from next bs new zeros (plus_within w (body_within rule (length work) b e.0)) (omega arith)
       (subst (λ (k : ℕ). Each (Passes k) bs) (sym words) e.1) (omega (arith, n, long))
-      ∙ ap (λ (l : List ℕ). left_report (Done (page_from rule next bs)) l (cleared_by bs zeros)) (list_twice page.listed es (faces_of rule bs) list fits)
+      ∙ ap (λ (l : List ℕ). left_report (Ok (page_from rule next bs)) l (cleared_by bs zeros)) (list_twice page.listed es (faces_of rule bs) list fits)
 
   -- From the empty page they give the page of the bodies, and their face list in front of the lent list.
   pub calls_report : (bs : List Body) (list work : List ℕ) → length bs ≤ most_bodies → Each (Passes (length work)) bs → length (faces_of rule bs) ≤ room_of list
-      → calls rule empty_page bs list work ≡ left_report (Done (page_of rule bs)) (written (flat_map entry_numbers (faces_of rule bs)) list) (cleared_by bs work)
+      → calls rule empty_page bs list work ≡ left_report (Ok (page_of rule bs)) (written (flat_map entry_numbers (faces_of rule bs)) list) (cleared_by bs work)
   unfolding page_of list_after
   calls_report bs list work few e room = calls_from empty_page bs list work none_within (omega arith) e (omega arith)

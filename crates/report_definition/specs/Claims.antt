@@ -1,5 +1,5 @@
 -- Pages and audits of small bodies, each of which tells a reading of document 02 from a near miss. Assumes nothing.
-use Rattle.std.specs.Prelude.{cond, ℕ, ◌+◌, ◌*◌, take, replicate, T}
+use Rattle.std.specs.Prelude.{cond, ℕ, ◌+◌, ◌*◌, take, replicate, T, Result, Ok, Err}
 use mathlib.Core.List.{List, [], ◌∷◌, ◌++◌, flat_map, map}
 use Rattle.std.specs.Float.{nan}
 use Rattle.lists.specs.Lists.{all}
@@ -9,8 +9,6 @@ use Rattle.body_rows.specs.Given.{Given, at, below, row, triangle, triangle_in, 
 use Rattle.patch_geometry.specs.declared.Aabb.{Aabb}
 use Rattle.patch_geometry.specs.Given.{box68, one_point}
 use Rattle.report_definition.specs.declared.Page.{Page}
-use Rattle.report_definition.specs.declared.Reported.{Reported}
-use Rattle.report_definition.specs.declared.Reported.TheVariants.{Done, Refused}
 use Rattle.report_definition.specs.Page.{share_of, page_with, empty_page}
 use Rattle.report_definition.specs.Report.{Body, faces_of_body, entry_numbers, bad_page, AfterReport, report_of}
 use Rattle.report_definition.specs.Calls.{calls}
@@ -38,9 +36,9 @@ page_numbers p =
     p.bodies ∷ p.accepted ∷ p.failed ∷ p.triangles ∷ p.vertices ∷ p.empty ∷ p.upstream ∷ p.escaped ∷ p.listed ∷ p.share_accepted ∷ p.share_faces ∷ []
 
 -- the page of an answer, or its refusal
-answer_numbers : Reported → List ℕ
-answer_numbers (Done p) = page_numbers p
-answer_numbers (Refused n) = n ∷ []
+answer_numbers : Result Page ℕ → List ℕ
+answer_numbers (Ok p) = page_numbers p
+answer_numbers (Err n) = n ∷ []
 
 -- the answer, the list that is left, and the first two words of the work area
 told : AfterReport → List ℕ

@@ -1,5 +1,5 @@
 -- The call that adds a stitched body to the page (request N7): what it answers and what it leaves. Assumes nothing.
-use Rattle.std.specs.Prelude.{Bool, true, false, ◌||◌, ℕ, ◌+◌, ◌*◌, ◌/◌, length, take, drop, leb, ltb, eqb, Float}
+use Rattle.std.specs.Prelude.{Bool, true, false, ◌||◌, ℕ, ◌+◌, ◌*◌, ◌/◌, length, take, drop, leb, ltb, eqb, Float, Result, Ok, Err}
 use mathlib.Core.List.{List, [], ◌∷◌, ◌++◌, flat_map}
 use Rattle.lists.specs.Lists.{any, written}
 use Rattle.point_rules.specs.Rule.{Rule}
@@ -7,8 +7,6 @@ use Rattle.body_rows.specs.Body.{Patch, Check, check, rows_of, patches_of, first
 use Rattle.body_refusals.specs.BodyChecks.{body_checks}
 use Rattle.patch_geometry.specs.declared.Aabb.{Aabb}
 use Rattle.report_definition.specs.declared.Page.{Page}
-use Rattle.report_definition.specs.declared.Reported.{Reported}
-use Rattle.report_definition.specs.declared.Reported.TheVariants.{Done, Refused}
 use Rattle.report_definition.specs.Page.{plus, sums_of, page_with, body_sums}
 use Rattle.report_definition.specs.Audit.{Entry, audit_of}
 
@@ -83,12 +81,12 @@ report_checks page entries room = check full_page (bad_page page) ∷ check full
 
 -- what the report answers, and what it leaves in the lent face list and work area
 pub record AfterReport : Type 0 where
-  pub answer : Reported
+  pub answer : Result Page ℕ
   pub list : List ℕ
   pub work : List ℕ
 
 -- what it leaves, with the answer
-abbrev pub left_report : Reported → List ℕ → List ℕ → AfterReport
+abbrev pub left_report : Result Page ℕ → List ℕ → List ℕ → AfterReport
 left_report answer list work = record { answer = answer; list = list; work = work }
 
 -- the call for a body that passed the checks up to 31, with the words of 31 cleared
@@ -97,8 +95,8 @@ add_or_refuse rule page b list work =
     let entries = faces_of_body rule b in
     let n = first_failing (report_checks page (length entries) (room_of list)) in
     elim (eqb n 0) [
-      | true ↦ left_report (Done (with_body rule page b)) (list_after page.listed entries list) work
-      | false ↦ left_report (Refused n) list work
+      | true ↦ left_report (Ok (with_body rule page b)) (list_after page.listed entries list) work
+      | false ↦ left_report (Err n) list work
     ]
 
 -- the report: the page so far, the stitched body with its box, the face list and the work area as they are lent, points joined by a rule
@@ -107,5 +105,5 @@ report_of rule page b list work =
     let n = first_failing (body_checks b.table b.positions b.normals b.indices (length work)) in
     elim (eqb n 0) [
       | true ↦ add_or_refuse rule page b list (cleared (rows_of b.table) work)
-      | false ↦ left_report (Refused n) list work
+      | false ↦ left_report (Err n) list work
     ]

@@ -1,6 +1,6 @@
 -- The theorem of request N7: the page of two lists of bodies laid end to end has the sums of their numbers, the fraction reduced anew, and their face lists one after the other.
 -- Assumes nothing.
-use Rattle.std.specs.Prelude.{◌≡◌, ℕ, ◌+◌, ◌*◌, ◌≤◌, drop}
+use Rattle.std.specs.Prelude.{◌≡◌, ℕ, ◌+◌, ◌*◌, ◌≤◌, drop, Ok}
 use Rattle.std.proofs.Common.{sym, ◌∙◌}
 use Rattle.std.proofs.Math.Path.{ap}
 use mathlib.Core.List.{List, [], ◌∷◌, ◌++◌, flat_map}
@@ -11,7 +11,6 @@ use Rattle.lists.specs.Lists.{written}
 use Rattle.lists.specs.Each.{Each}
 use Rattle.point_rules.specs.Rule.{Rule}
 use Rattle.report_definition.specs.declared.Page.{Page}
-use Rattle.report_definition.specs.declared.Reported.TheVariants.{Done}
 use Rattle.report_definition.specs.Page.{plus, sums_of, page_with, empty_page, body_sums}
 use Rattle.report_definition.specs.Audit.{Entry}
 use Rattle.report_definition.specs.Report.{Body, faces_of_body, with_body, entry_width, entry_numbers, room_of, most_bodies, AfterReport}
@@ -22,7 +21,7 @@ use Rattle.report_definition.specs.Calls.{calls, numbers_length, numbers_append,
 module _ (rule : Rule) where
   -- what the calls on some accepted bodies leave, from the empty page: their page, and their entries as the first of the list
   pub record Reports (bs : List Body) (r : AfterReport) : Type 0 where
-    pub answer : r.answer ≡ Done (page_of rule bs)
+    pub answer : r.answer ≡ Ok (page_of rule bs)
     pub faces : take (entry_width * (page_of rule bs).listed) r.list ≡ flat_map entry_numbers (faces_of rule bs)
 
   -- the page says how many faces are listed
@@ -47,9 +46,9 @@ module _ (rule : Rule) where
   -- What the calls on two lists of bodies laid end to end leave, against what those on each leave: the sums of the numbers of their pages p and q, the fraction reduced anew,
   -- and their face lists one after the other.
   pub record EndToEnd (p q : Page) (first second both : AfterReport) : Type 0 where
-    pub first_page : first.answer ≡ Done p
-    pub second_page : second.answer ≡ Done q
-    pub page : both.answer ≡ Done (page_with (plus (sums_of p) (sums_of q)))
+    pub first_page : first.answer ≡ Ok p
+    pub second_page : second.answer ≡ Ok q
+    pub page : both.answer ≡ Ok (page_with (plus (sums_of p) (sums_of q)))
     pub faces : take (entry_width * (p.listed + q.listed)) both.list ≡ take (entry_width * p.listed) first.list ++ take (entry_width * q.listed) second.list
 
   -- So it is for two lists of at most 4,096 accepted bodies together, each from the empty page, with face lists that have room.
@@ -67,7 +66,7 @@ module _ (rule : Rule) where
       record {
         first_page = a.answer;
         second_page = b.answer;
-        page = c.answer ∙ ap (λ (p : Page). Done p) (two_pages rule xs ys);
+        page = c.answer ∙ ap (λ (p : Page). Ok p) (two_pages rule xs ys);
         faces =
             ap (λ (p : Page). take (entry_width * p.listed) all.list) (sym (two_pages rule xs ys))
             ∙ c.faces

@@ -1,4 +1,4 @@
-// The report's page and what adding a body to it answers; both are defined in specs/.
+// The report's page; the page and what adding a body to it answers are defined in specs/.
 #![tactic(auto)]
 
 // The page over finished bodies: their number, faces accepted and failed, the meshes' triangles and vertices, failures by kind, faces listed, and the
@@ -16,11 +16,4 @@ pub struct Page {
     pub listed: u64,
     pub share_accepted: u64,
     pub share_faces: u64,
-}
-
-// The page with the body added, or the number of the first check that fails.
-#[derive(Clone, Copy)]
-pub enum Reported {
-    Done(Page),
-    Refused(u32),
 }

@@ -1,5 +1,5 @@
 -- The report counts of a body what assembling the same body in the same box answers (request N7). Assumes nothing.
-use Rattle.std.specs.Prelude.{◌≡◌, Bool, ℕ, ◌+◌, ◌*◌, ◌/◌, ◌%◌, take, drop}
+use Rattle.std.specs.Prelude.{◌≡◌, Bool, ℕ, ◌+◌, ◌*◌, ◌/◌, ◌%◌, take, drop, Ok, Err}
 use Rattle.std.proofs.Math.Path.{refl, sym, ap}
 use Rattle.std.proofs.Common.{◌∙◌, subst, eqb-true}
 use Rattle.std.proofs.Math.Bool.{true, false}
@@ -25,7 +25,6 @@ use Rattle.mesh_acceptance.specs.Acceptance.{Acceptance, acceptance, accepted_in
 use Rattle.mesh_room.specs.Slices.{MeshSlices, mesh_checks}
 use Rattle.mesh_definition.specs.Assemble.{AfterAssemble, mesh_of, refuse_mesh, write_mesh, cleared_mesh, assemble_or_refuse, assemble_of}
 use Rattle.report_definition.specs.declared.Page.{Page}
-use Rattle.report_definition.specs.declared.Reported.TheVariants.{Done, Refused}
 use Rattle.report_definition.specs.Page.{body_sums, accepted_of}
 use Rattle.report_definition.specs.Report.{Body, patches_in, faces_of_body, with_body, room_of, list_after, report_checks, AfterReport, left_report, add_or_refuse, report_of}
 use Rattle.report_mesh.specs.Counted.{
@@ -67,14 +66,14 @@ pub record MeshAdded (a : AfterAssemble) (before after : Page) : Type 0 where
 -- ---- a report that is not refused
 
 -- a page that is answered is the page with the body added
-page_answered : (rule : Rule) (page : Page) (b : Body) (list work : List ℕ) (q : Page) → (report_of rule page b list work).answer ≡ Done q → with_body rule page b ≡ q
+page_answered : (rule : Rule) (page : Page) (b : Body) (list work : List ℕ) (q : Page) → (report_of rule page b list work).answer ≡ Ok q → with_body rule page b ≡ q
 unfolding report_of add_or_refuse
 page_answered rule page b list work q =
     first (first_failing (body_checks b.table b.positions b.normals b.indices (length work)))
     (eqb (first_failing (body_checks b.table b.positions b.normals b.indices (length work))) 0)
   where
     IsPage : AfterReport → Type 0
-    IsPage t = t.answer ≡ Done q → with_body rule page b ≡ q
+    IsPage t = t.answer ≡ Ok q → with_body rule page b ≡ q
 
     zeros : List ℕ
     zeros = cleared (rows_of b.table) work
@@ -82,14 +81,14 @@ page_answered rule page b list work q =
     listed : List ℕ
     listed = list_after page.listed (faces_of_body rule b) list
 
-    second : (n : ℕ) (c : Bool) → IsPage (elim c [ true ↦ left_report (Done (with_body rule page b)) listed zeros | false ↦ left_report (Refused n) list zeros ])
+    second : (n : ℕ) (c : Bool) → IsPage (elim c [ true ↦ left_report (Ok (with_body rule page b)) listed zeros | false ↦ left_report (Err n) list zeros ])
     second n true e = cc
     second n false e = let z : ◌≡◌ {A = ℕ} 0 1 = cc in absurd (omega arith)
 
     checks : ℕ
     checks = first_failing (report_checks page (length (faces_of_body rule b)) (room_of list))
 
-    first : (n : ℕ) (c : Bool) → IsPage (elim c [ true ↦ add_or_refuse rule page b list zeros | false ↦ left_report (Refused n) list work ])
+    first : (n : ℕ) (c : Bool) → IsPage (elim c [ true ↦ add_or_refuse rule page b list zeros | false ↦ left_report (Err n) list work ])
     first n true e = second checks (eqb checks 0) e
     first n false e = let z : ◌≡◌ {A = ℕ} 0 1 = cc in absurd (omega arith)
 
@@ -185,6 +184,6 @@ module _ (b : Body) (materials : List ℕ) (default : ℕ) (out : MeshSlices) wh
       }
 
   -- So has the page that the report answers.
-  pub report_mesh : (rule : Rule) (page q : Page) (list work : List ℕ) → (report_of rule page b list work).answer ≡ Done q → (assembled b materials default out).refusal ≡ 0
+  pub report_mesh : (rule : Rule) (page q : Page) (list work : List ℕ) → (report_of rule page b list work).answer ≡ Ok q → (assembled b materials default out).refusal ≡ 0
       → MeshAdded (assembled b materials default out) page q
   report_mesh rule page q list work e r = subst (MeshAdded (assembled b materials default out) page) (page_answered rule page b list work q e) (page_mesh rule page r)

@@ -169,12 +169,15 @@ pub record Counting (table : List ℕ) (ps : List Float) (is : List ℕ) (box : 
 
 module _ {table : List ℕ} {ps : List Float} {is : List ℕ} {box : Aabb} where
   -- none is yet
-  pub counting_none : {c : RowCounts} → c ≡ no_counts → Counting table ps is box 0 0 0 c
-  counting_none {c} e = record {
+  pub counting_none : {c : RowCounts} → c.accepted ≡ 0 → c.empty ≡ 0 → c.upstream ≡ 0 → c.escaped ≡ 0 → c.triangles ≡ 0 → c.vertices ≡ 0 → Counting table ps is box 0 0 0 c
+  counting_none {c} ea ee eu es et ev = record {
     here = at_first table;
     are = ap (λ (d : RowCounts). both d (counted box (shapes table ps is))) e ∙ zeros (counted box (shapes table ps is));
   }
     where
+      e : c ≡ no_counts
+      e = λ j. record { accepted = ea j; empty = ee j; upstream = eu j; escaped = es j; triangles = et j; vertices = ev j }
+
       zeros : (d : RowCounts) → both no_counts d ≡ d
       zeros d =
           λ j. record {
@@ -224,11 +227,10 @@ module _ {table : List ℕ} {ps : List Float} {is : List ℕ} {box : Aabb} where
       room = omega (arith, g.all_indices_lem, indices_in a.here l)
 
       -- what counting row k asks
-      pub counting_ready : {span : Float} → span ≡ diagonal box → CountReady table ps is box span k base i c
-      counting_ready s =
+      pub counting_ready : CountReady table ps is k base i c
+      counting_ready =
           record {
             judgeable = record {
-              span_is = s;
               row = l;
               positions_in = omega (arith, g.all_positions, vertices_in a.here l);
               indices_in = room;

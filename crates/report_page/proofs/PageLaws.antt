@@ -1,5 +1,5 @@
 -- Laws of the page: when it is refused, and a body added. Assumes nothing.
-use mathlib.Core.Path.{◌≡◌, sym, ap, ◌∙◌}
+use mathlib.Core.Path.{◌≡◌, refl, sym, ap, ◌∙◌}
 use mathlib.Core.Bool.{Bool, true, false, ◌||◌}
 use mathlib.Core.List.{List, [], ◌∷◌}
 use Prim.Native.Nat.{ℕ, ◌+◌, ◌-◌, ◌*◌, ◌≤◌, ◌<◌}
@@ -7,8 +7,9 @@ use native.Mathlib.Omega.{arith}
 use lib.ListN.{get_or}
 use lib.Dec.{leb, ltb}
 use borrow.Author.Tests.{ltb-false, leb-false, lt-ltb, le-ltb, le-leb, lt-leb}
+use Rattle.std.specs.List.{list_any}
 use Rattle.lists.specs.Lists.{any}
-use Rattle.lists.specs.Any.{any_none, any_one, any_append}
+use Rattle.lists.specs.Any.{any_none}
 use Rattle.lists.specs.Both.{or_left, or_right}
 use Rattle.report_definition.specs.declared.Page.{Page}
 use Rattle.report_definition.specs.Page.{Share, share_of, plus, sums_of, page_with}
@@ -19,67 +20,30 @@ use Rattle.report_page.specs.declared.counts.RowCounts.{RowCounts}
 use Rattle.report_page.specs.Shares.{share_in}
 use Rattle.report_page.specs.Adding.{PageReady, sums_with}
 
--- ---- four counts
-
-module _ (most : ℕ) where
-  -- the first of some counts is above
-  here : (n : ℕ) (ns : List ℕ) → most < n → true ≡ any (λ n. ltb most n) (n ∷ ns)
-  unfolding any
-  here n ns h = ap (λ (b : Bool). elim b [ true ↦ true | false ↦ any (λ n. ltb most n) ns ]) (sym (lt-ltb most n h))
-
-  -- it is not, and the rest decide
-  later : (n : ℕ) (ns : List ℕ) → n ≤ most → any (λ n. ltb most n) ns ≡ any (λ n. ltb most n) (n ∷ ns)
-  unfolding any
-  later n ns h = ap (λ (b : Bool). elim b [ true ↦ true | false ↦ any (λ n. ltb most n) ns ]) (sym (le-ltb most n h))
-
-module _ (most a b c d : ℕ) where
-  -- the first count is above
-  pub above_first : most < a → true ≡ any (λ n. ltb most n) (a ∷ b ∷ c ∷ d ∷ [])
-  above_first h = here most a (b ∷ c ∷ d ∷ []) h
-
-  -- it is not, and the second is
-  pub above_second : a ≤ most → most < b → true ≡ any (λ n. ltb most n) (a ∷ b ∷ c ∷ d ∷ [])
-  above_second h k = here most b (c ∷ d ∷ []) k ∙ later most a (b ∷ c ∷ d ∷ []) h
-
-  -- neither is, and the third is
-  pub above_third : a ≤ most → b ≤ most → most < c → true ≡ any (λ n. ltb most n) (a ∷ b ∷ c ∷ d ∷ [])
-  above_third h k l = here most c (d ∷ []) l ∙ later most b (c ∷ d ∷ []) k ∙ later most a (b ∷ c ∷ d ∷ []) h
-
-  -- none of them is, and the last decides
-  pub above_last : a ≤ most → b ≤ most → c ≤ most → ltb most d ≡ any (λ n. ltb most n) (a ∷ b ∷ c ∷ d ∷ [])
-  above_last h k l = sym (any_one (λ n. ltb most n) d) ∙ later most c (d ∷ []) l ∙ later most b (c ∷ d ∷ []) k ∙ later most a (b ∷ c ∷ d ∷ []) h
+-- `any` as the library has it
+any_list : (f : ℕ → Bool) (xs : List ℕ) → list_any f xs ≡ any f xs
+unfolding any
+any_list f [] = refl
+any_list f (x ∷ xs) = go (f x) (any_list f xs)
+  where
+    go : (b : Bool) {r s : Bool} → r ≡ s → (b || r) ≡ elim b [ true ↦ true | false ↦ s ]
+    go true e = refl
+    go false e = e
 
 -- ---- 67
 
 module _ (p : Page) where
-  -- the first four counts
-  abbrev pub first_counts : List ℕ
-  first_counts = p.accepted ∷ p.failed ∷ p.triangles ∷ p.vertices ∷ []
-
-  -- the other four
-  abbrev pub other_counts : List ℕ
-  other_counts = p.empty ∷ p.upstream ∷ p.escaped ∷ p.listed ∷ []
-
   -- a page with too many bodies
   pub bad_full : most_bodies ≤ p.bodies → true ≡ bad_page p
   unfolding bad_page
   bad_full h = ap (λ (b : Bool). b || any (λ n. ltb (most_of_body * p.bodies) n) (counts_in p)) (sym (le-leb most_bodies p.bodies h))
 
   -- another is decided by its counts
-  bad_by : p.bodies < most_bodies → (any (λ n. ltb (most_of_body * p.bodies) n) first_counts || any (λ n. ltb (most_of_body * p.bodies) n) other_counts) ≡ bad_page p
+  pub bad_counts : {r : Bool} → p.bodies < most_bodies → r ≡ list_any (λ n. ltb (most_of_body * p.bodies) n) (counts_in p) → r ≡ bad_page p
   unfolding bad_page
-  bad_by h =
-      sym (any_append (λ n. ltb (most_of_body * p.bodies) n) first_counts other_counts)
+  bad_counts {r} h e =
+      e ∙ any_list (λ n. ltb (most_of_body * p.bodies) n) (counts_in p)
       ∙ ap (λ (b : Bool). b || any (λ n. ltb (most_of_body * p.bodies) n) (counts_in p)) (sym (lt-leb most_bodies p.bodies h))
-
-  -- one of the first four is above
-  pub bad_first : {r : Bool} → p.bodies < most_bodies → r ≡ any (λ n. ltb (most_of_body * p.bodies) n) first_counts → r ≡ true → true ≡ bad_page p
-  bad_first {r} h e t = ap (λ (b : Bool). b || any (λ n. ltb (most_of_body * p.bodies) n) other_counts) (sym t ∙ e) ∙ bad_by h
-
-  -- none is, and the other four decide
-  pub bad_other : {r s : Bool} → p.bodies < most_bodies → r ≡ any (λ n. ltb (most_of_body * p.bodies) n) first_counts → r ≡ false
-      → s ≡ any (λ n. ltb (most_of_body * p.bodies) n) other_counts → s ≡ bad_page p
-  bad_other {r} {s} h e f g = g ∙ ap (λ (b : Bool). b || any (λ n. ltb (most_of_body * p.bodies) n) other_counts) (sym f ∙ e) ∙ bad_by h
 
   -- a page that 67 accepts has fewer bodies than the most
   pub good_few : bad_page p ≡ false → p.bodies < most_bodies

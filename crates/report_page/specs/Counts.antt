@@ -56,8 +56,8 @@ pub record FewCounts (c : RowCounts) : Type 0 where
   pub vertices : c.vertices ≤ 262144
 
 -- what counting row k asks: what its verdict asks, and counts within the limits
-pub record CountReady (table : List ℕ) (ps : List Float) (is : List ℕ) (box : Aabb) (span : Float) (k base i : ℕ) (c : RowCounts) : Type 0 where
-  pub judgeable : RowJudgeable table ps is box span k base i
+pub record CountReady (table : List ℕ) (ps : List Float) (is : List ℕ) (k base i : ℕ) (c : RowCounts) : Type 0 where
+  pub judgeable : RowJudgeable table ps is k base i
   pub few : FewCounts c
 
 -- what counting all rows asks: a body within the limits whose slices are as long as its rows say

@@ -5,14 +5,14 @@ ghost use Rattle.body_rows.specs.Rows.{row_at};
 ghost use Rattle.body_rows.specs.Patches.{patch_from, shapes};
 ghost use Rattle.mesh_verdicts.specs.Failures.{failure_of};
 ghost use Rattle.report_definition.specs.Page.{body_sums};
-ghost use Rattle.report_page.specs.Counts.{CountReady, Countable, FewCounts, accepted_with, counts_of, counts_with, failed_with, no_counts};
+ghost use Rattle.report_page.specs.Counts.{CountReady, Countable, FewCounts, accepted_with, counts_of, counts_with, failed_with};
 
 use mesh_judge::row_verdict;
-use mesh_verdicts::{Failure, Verdict};
+use mesh_verdicts::{Failure, Reference};
 use patch_geometry::Aabb;
 
 // How many rows are accepted, how many fail for each cause, and the triangles and vertices of the accepted ones.
-#[derive(Clone, Copy)]
+#[derive(Clone, Copy, Default)]
 pub struct RowCounts {
     pub accepted: u64,
     pub empty: u64,
@@ -22,20 +22,6 @@ pub struct RowCounts {
     pub vertices: u64,
 }
 
-// The counts of no rows.
-fn no_counts() -> RowCounts
-    ensures { result ≡ no_counts }
-{
-    RowCounts {
-        accepted: 0,
-        empty: 0,
-        upstream: 0,
-        escaped: 0,
-        triangles: 0,
-        vertices: 0,
-    }
-}
-
 // The counts with one more accepted row, which has so many triangles and vertices.
 fn with_accepted(counts: RowCounts, triangles: u32, vertices: u32) -> RowCounts
     requires { FewCounts counts }
@@ -43,11 +29,9 @@ fn with_accepted(counts: RowCounts, triangles: u32, vertices: u32) -> RowCounts
 {
     RowCounts {
         accepted: counts.accepted + 1,
-        empty: counts.empty,
-        upstream: counts.upstream,
-        escaped: counts.escaped,
         triangles: counts.triangles + triangles as u64,
         vertices: counts.vertices + vertices as u64,
+        ..counts
     }
 }
 
@@ -58,15 +42,9 @@ fn with_failed(counts: RowCounts, failure: Failure) -> RowCounts
 {
     let mut c = counts;
     match failure {
-        Failure::Empty => {
-            c.empty += 1;
-        }
-        Failure::Upstream(_) => {
-            c.upstream += 1;
-        }
-        Failure::Escape(_, _) => {
-            c.escaped += 1;
-        }
+        Failure::Empty => c.empty += 1,
+        Failure::Upstream(_) => c.upstream += 1,
+        Failure::Escape(_, _) => c.escaped += 1,
     }
     c
 }
@@ -76,25 +54,24 @@ fn count_row(
     rows: &[u32],
     positions: &[f32],
     indices: &[u32],
-    reference: Aabb,
-    span: f64,
+    reference: Reference,
     k: usize,
     base: usize,
     i: usize,
     counts: RowCounts,
 ) -> RowCounts
-    requires { CountReady rows.now positions.now indices.now reference span k base i counts }
+    requires { CountReady rows.now positions.now indices.now k base i counts }
     ensures { result ≡ counts_with
-        (failure_of reference (patch_from (row_at rows.now k) positions.now [] indices.now base i))
+        (failure_of reference.aabb (patch_from (row_at rows.now k) positions.now [] indices.now base i))
         ((row_at rows.now k).indices / 3) (row_at rows.now k).vertices counts }
 {
-    let verdict = row_verdict(rows, positions, indices, reference, span, k, base, i);
+    let verdict = row_verdict(rows, positions, indices, reference, k, base, i);
     match verdict {
-        Verdict::Accepted => {
+        Ok(()) => {
             let triangles = body_rows::indices(rows, k) / 3;
             with_accepted(counts, triangles, body_rows::vertices(rows, k))
         }
-        Verdict::Failed(failure) => with_failed(counts, failure),
+        Err(failure) => with_failed(counts, failure),
     }
 }
 
@@ -103,19 +80,15 @@ pub fn count_rows(rows: &[u32], positions: &[f32], indices: &[u32], reference: A
     requires { Countable rows.now positions.now indices.now }
     ensures { result ≡ counts_of (body_sums reference (shapes rows.now positions.now indices.now) 0) }
 {
-    let span = reference.diagonal();
+    let reference = Reference::new(reference);
     let m = body_rows::row_count(rows);
-    let mut counts = no_counts();
+    let mut counts = RowCounts::default();
     let mut base = 0usize;
     let mut i = 0usize;
-    let mut k = 0usize;
-    while k < m {
-        counts = count_row(
-            rows, positions, indices, reference, span, k, base, i, counts,
-        );
+    for k in 0..m {
+        counts = count_row(rows, positions, indices, reference, k, base, i, counts);
         base += body_rows::vertices(rows, k) as usize;
         i += body_rows::indices(rows, k) as usize;
-        k += 1;
     }
     counts
 }

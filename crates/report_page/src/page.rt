@@ -1,7 +1,7 @@
 // Whether a page is refused, and the page with a body added.
 
-ghost use Rattle.std.specs.Prelude.{◌≡◌, [], ◌∷◌, ltb};
-ghost use Rattle.lists.specs.Lists.{any};
+ghost use Rattle.std.specs.Prelude.{◌≡◌, ltb};
+ghost use Rattle.std.specs.List.{list_any};
 ghost use Rattle.report_definition.specs.Page.{page_with, plus, sums_of};
 ghost use Rattle.report_definition.specs.Report.{bad_page};
 ghost use Rattle.report_page.specs.Adding.{PageReady, sums_with};
@@ -16,20 +16,11 @@ const MOST_BODIES: u64 = 4096;
 // The most that a count may be for each body.
 const MOST_OF_BODY: u64 = 262144;
 
-// Whether one of four counts is above the most that it may be.
-fn one_above(most: u64, a: u64, b: u64, c: u64, d: u64) -> bool
-    ensures { result ≡ any (λ n. ltb most n) (a ∷ b ∷ c ∷ d ∷ []) }
+// Whether one of some counts is above the most that it may be.
+fn any_above(counts: &[u64], most: u64) -> bool
+    ensures { result ≡ list_any (λ n. ltb most n) counts.now }
 {
-    if most < a {
-        return true;
-    }
-    if most < b {
-        return true;
-    }
-    if most < c {
-        return true;
-    }
-    most < d
+    counts.iter().any(|n| most < *n)
 }
 
 // Whether a page is refused with 67: it has 4,096 bodies or more, or a count above 262,144 times its bodies.
@@ -39,17 +30,17 @@ pub fn bad_page(page: Page) -> bool
     if page.bodies >= MOST_BODIES {
         return true;
     }
-    let most = MOST_OF_BODY * page.bodies;
-    if one_above(
-        most,
+    let counts = [
         page.accepted,
         page.failed,
         page.triangles,
         page.vertices,
-    ) {
-        return true;
-    }
-    one_above(most, page.empty, page.upstream, page.escaped, page.listed)
+        page.empty,
+        page.upstream,
+        page.escaped,
+        page.listed,
+    ];
+    any_above(&counts, MOST_OF_BODY * page.bodies)
 }
 
 // The page with a body added: what its rows count, how many they are, and how many of its faces are listed.
@@ -62,8 +53,8 @@ pub fn page_with(page: Page, counts: RowCounts, faces: u64, listed: u64) -> Page
     let share = share_of(accepted, accepted + failed);
     Page {
         bodies: page.bodies + 1,
-        accepted: accepted,
-        failed: failed,
+        accepted,
+        failed,
         triangles: page.triangles + counts.triangles,
         vertices: page.vertices + counts.vertices,
         empty: page.empty + counts.empty,

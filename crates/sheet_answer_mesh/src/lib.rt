@@ -10,7 +10,7 @@ use mesh_layout::{PART_WIDTH, RANGE_WIDTH};
 use sheet_answer_rows::{put_failures, put_ranges, put_threes, put_vertices};
 use sheet_answer_text::Sizes;
 use sheet_lines::put_line;
-use slice_front::{front, front_floats, front_long};
+use slice_front::front;
 
 // The mesh; answers the place after it.
 pub fn put_mesh(
@@ -29,8 +29,10 @@ pub fn put_mesh(
         ranges.now failures.now) out.new result }
 {
     let n = 3 * z.vertices as usize;
-    let a = put_line(out, at, b"(mesh##)", &[z.vertices as u64, z.indices as u64]);
-    let b = put_vertices(out, a, front_floats(positions, n), front_floats(normals, n));
+    let vertices = u64::from(z.vertices);
+    let corners = u64::from(z.indices);
+    let a = put_line(out, at, b"(mesh##)", &[vertices, corners]);
+    let b = put_vertices(out, a, front(positions, n), front(normals, n));
     let c = put_threes(
         out,
         b,
@@ -39,9 +41,5 @@ pub fn put_mesh(
     );
     let d = put_threes(out, c, b"(t###)", front(indices, z.indices as usize));
     let e = put_ranges(out, d, front(ranges, RANGE_WIDTH * z.ranges as usize));
-    put_failures(
-        out,
-        e,
-        front_long(failures, FAILURE_WIDTH * z.failures as usize),
-    )
+    put_failures(out, e, front(failures, FAILURE_WIDTH * z.failures as usize))
 }

@@ -1,226 +1,138 @@
--- The laws of a line for every row: what is written and the lines that are left make all lines. Assumes nothing.
-use mathlib.Core.List.{List, [], ◌∷◌, ◌++◌, map, append-nil, append_assoc}
+-- The laws of a line for every row: a slice's lines are those of its chunks, one after the other. Assumes nothing.
+use mathlib.Core.List.{List, [], ◌∷◌, ◌++◌, map, append-nil}
 use mathlib.Core.Path.{◌≡◌, refl, sym, ◌∙◌, ap, subst}
-use Prim.Native.Nat.{ℕ, ◌+◌, ◌-◌, ◌≤◌, ◌<◌}
+use Prim.Native.Nat.{ℕ, suc, min, ◌+◌, ◌/◌, ◌≤◌, ◌<◌}
 use native.Mathlib.Omega.{arith}
 use borrow.Author.Tests.{eq-eqb, ne_eqb}
-use lib.Ieee.{Float, nan}
-use lib.ListN.{length, get_or, drop, length-drop, length-map}
+use lib.Ieee.{Float}
+use lib.ListN.{length, get_or, take}
+use lib.Seq.{take_all}
+use native.Mathlib.Nat.{add-div_right}
+use native.Mathlib.Numerals.{add-one}
+use Rattle.std.proofs.lemmas.List.{take_more}
+use Rattle.std.proofs.lemmas.Slice.Zip.{length-zip, get_or-zip}
+use Rattle.std.proofs.lemmas.List.Concat.{flat_map-cons}
+use Rattle.std.proofs.lemmas.Grind.{flat_map-append}
+use Rattle.std.specs.List.{flat_map, zip}
+use Rattle.std.specs.Simd.{first_chunks}
 use Rattle.float_steps.specs.Floats.{bits32}
 use Rattle.mesh_acceptance.specs.Acceptance.{failure_width}
 use Rattle.mesh_layout.specs.Mesh.{range_width}
 use Rattle.sheet_digit_writing.specs.Writing.{Wrote}
-use Rattle.sheet_digits.specs.Next.{next}
 use Rattle.sheet_digit_writing.specs.Wrote.{wrote_none, wrote_then}
 use Rattle.sheet_lines.specs.Forms.{Piece, line, vertex_form}
-use Rattle.sheet_lines.specs.Pattern.{pieces}
-use Rattle.sheet_answer_rows.specs.Rows.{corner_at, three_at, four_at, empty_form, escape_form, failure_line, failure_lines, range_form, range_lines, threes, upstream_form, vertex_lines}
+use Rattle.sheet_answer_rows.specs.Rows.{corner_at, empty_form, escape_form, failure_at, failure_line, failure_lines, four_at, range_form, range_lines, three_at, threes, upstream_form, vertex_lines}
 
--- ---- three, four and five items from a place on
-module _ {A : Type 0} (d : A) where
-  pub three_more : (xs : List A) (i : ℕ) → i + 3 ≤ length xs → drop i xs ≡ get_or xs i d ∷ get_or xs (i + 1) d ∷ get_or xs (i + 2) d ∷ drop (i + 3) xs
-  three_more xs i h =
-      let two : i + 1 + 1 ≡ i + 2 = omega arith in
-      let three : i + 2 + 1 ≡ i + 3 = omega arith in
-      next xs i d (omega arith)
-      ∙ ap (λ (ys : List A). get_or xs i d ∷ ys) (next xs (i + 1) d (omega arith))
-      ∙ ap (λ (n : ℕ). get_or xs i d ∷ get_or xs (i + 1) d ∷ drop n xs) two
-      ∙ ap (λ (ys : List A). get_or xs i d ∷ get_or xs (i + 1) d ∷ ys) (next xs (i + 2) d (omega arith))
-      ∙ ap (λ (n : ℕ). get_or xs i d ∷ get_or xs (i + 1) d ∷ get_or xs (i + 2) d ∷ drop n xs) three
+-- ---- the lines of the first rows
 
-  pub four_more : (xs : List A) (i : ℕ) → i + 4 ≤ length xs → drop i xs ≡ get_or xs i d ∷ get_or xs (i + 1) d ∷ get_or xs (i + 2) d ∷ get_or xs (i + 3) d ∷ drop (i + 4) xs
-  four_more xs i h =
-      let four : i + 3 + 1 ≡ i + 4 = omega arith in
-      three_more xs i (omega arith)
-      ∙ ap (λ (ys : List A). get_or xs i d ∷ get_or xs (i + 1) d ∷ get_or xs (i + 2) d ∷ ys) (next xs (i + 3) d (omega arith))
-      ∙ ap (λ (n : ℕ). get_or xs i d ∷ get_or xs (i + 1) d ∷ get_or xs (i + 2) d ∷ get_or xs (i + 3) d ∷ drop n xs) four
+-- the lines of the first i rows stand at a place
+pub record Lined {A : Type 0} (f : A → List ℕ) (E : List ℕ) (at : ℕ) (rows : List A) (W : List ℕ) (place i : ℕ) : Type 0 where
+  pub wrote : Wrote E at (flat_map f (take i rows)) W place
 
-  pub five_more : (xs : List A) (i : ℕ) → i + 5 ≤ length xs
-      → drop i xs ≡ get_or xs i d ∷ get_or xs (i + 1) d ∷ get_or xs (i + 2) d ∷ get_or xs (i + 3) d ∷ get_or xs (i + 4) d ∷ drop (i + 5) xs
-  five_more xs i h =
-      let five : i + 4 + 1 ≡ i + 5 = omega arith in
-      four_more xs i (omega arith)
-      ∙ ap (λ (ys : List A). get_or xs i d ∷ get_or xs (i + 1) d ∷ get_or xs (i + 2) d ∷ get_or xs (i + 3) d ∷ ys) (next xs (i + 4) d (omega arith))
-      ∙ ap (λ (n : ℕ). get_or xs i d ∷ get_or xs (i + 1) d ∷ get_or xs (i + 2) d ∷ get_or xs (i + 3) d ∷ get_or xs (i + 4) d ∷ drop n xs) five
+module _ {A : Type 0} (f : A → List ℕ) (E : List ℕ) (at : ℕ) (rows : List A) where
+  pub lined_none : at ≤ length E → Lined f E at rows E at 0
+  lined_none h = record { wrote = wrote_none E at h }
 
--- ---- what is written, and what is left
-pub record Going (E : List ℕ) (at : ℕ) (all W : List ℕ) (place : ℕ) (rest : List ℕ) : Type 0 where
-  pub done : List ℕ
-  pub wrote : Wrote E at done W place
-  pub same : done ++ rest ≡ all
+  module _ (W : List ℕ) (place i : ℕ) (v : Lined f E at rows W place i) where
+    pub lined_more : (d : A) (U : List ℕ) (r : ℕ) → i < length rows → Wrote W place (f (get_or rows i d)) U r → Lined f E at rows U r (i + 1)
+    lined_more d U r h w =
+        let e : flat_map f (take (i + 1) rows) ≡ flat_map f (take i rows) ++ f (get_or rows i d) =
+        ap (flat_map f) (take_more rows i d h) ∙ flat_map-append f (take i rows) (get_or rows i d ∷ []) ∙ ap (λ (xs : List ℕ). flat_map f (take i rows) ++ xs) (append-nil (f (get_or rows i d))) in
+        record { wrote = subst (λ (xs : List ℕ). Wrote E at xs U r) (sym e) (wrote_then v.wrote w) }
 
-going_none : (E : List ℕ) (at : ℕ) (all : List ℕ) → at ≤ length E → Going E at all E at all
-going_none E at all h = record { done = []; wrote = wrote_none E at h; same = refl }
+    pub lined_all : (text : List ℕ) → text ≡ flat_map f rows → length rows ≤ i → Wrote E at text W place
+    lined_all text e h = subst (λ (xs : List ℕ). Wrote E at xs W place) (ap (flat_map f) (take_all i rows h) ∙ sym e) v.wrote
 
-going_more : (E : List ℕ) (at : ℕ) (all W : List ℕ) (place : ℕ) (rest text left U : List ℕ) (r : ℕ) → Going E at all W place rest → rest ≡ text ++ left → Wrote W place text U r
-    → Going E at all U r left
-going_more E at all W place rest text left U r v e w =
-    record { done = v.done ++ text; wrote = wrote_then v.wrote w; same = append_assoc v.done text left ∙ ap (λ (xs : List ℕ). v.done ++ xs) (sym e) ∙ v.same }
+-- ---- the lines of a slice are those of its chunks
 
-going_all : (E : List ℕ) (at : ℕ) (all W : List ℕ) (place : ℕ) (rest : List ℕ) → Going E at all W place rest → rest ≡ [] → Wrote E at all W place
-going_all E at all W place rest v e = subst (λ (xs : List ℕ). Wrote E at xs W place) (sym (append-nil v.done) ∙ ap (λ (xs : List ℕ). v.done ++ xs) (sym e) ∙ v.same) v.wrote
+-- how many chunks a list has that is longer by one
+more_chunks : (n k : ℕ) → 0 < n → (k + n) / n ≡ suc (k / n)
+more_chunks n k h = add-div_right k h ∙ add-one (k / n)
 
-going_room : (E : List ℕ) (at : ℕ) (all W : List ℕ) (place : ℕ) (rest : List ℕ) → Going E at all W place rest → place ≤ length W
-going_room E at all W place rest v = omega (arith, v.wrote.within, v.wrote.long)
-
--- ---- three numbers a line
-pub record Threes (E : List ℕ) (at : ℕ) (form values W : List ℕ) (place i : ℕ) : Type 0 where
-  pub inside : i ≤ length values
-  pub long : length W ≡ length E
-  pub going : Going E at (threes (pieces form) values) W place (threes (pieces form) (drop i values))
-
-threes_few : (form : List Piece) (xs : List ℕ) → length xs < 3 → threes form xs ≡ []
+pub threes_rows : (form : List Piece) (xs : List ℕ) → threes form xs ≡ flat_map (λ row. line form (three_at row 0)) (first_chunks 3 (length xs / 3) xs)
 unfolding threes
-threes_few form [] h = refl
-threes_few form (a ∷ []) h = refl
-threes_few form (a ∷ b ∷ []) h = refl
-threes_few form (a ∷ b ∷ c ∷ xs) h = absurd (omega arith)
+threes_rows form [] = refl
+threes_rows form (a ∷ []) = refl
+threes_rows form (a ∷ b ∷ []) = refl
+threes_rows form (a ∷ b ∷ c ∷ xs) =
+    let f : List ℕ → List ℕ = λ row. line form (three_at row 0) in
+    let k : suc (suc (suc (length xs))) / 3 ≡ suc (length xs / 3) = ap (λ (m : ℕ). m / 3) (omega arith) ∙ more_chunks 3 (length xs) (omega arith) in
+    ap (λ (ys : List ℕ). line form (a ∷ b ∷ c ∷ []) ++ ys) (threes_rows form xs)
+    ∙ sym (flat_map-cons f (a ∷ b ∷ c ∷ []) (first_chunks 3 (length xs / 3) xs))
+    ∙ ap (λ (m : ℕ). flat_map f (first_chunks 3 m (a ∷ b ∷ c ∷ xs))) (sym k)
 
-pub threes_none : (E : List ℕ) (at : ℕ) (form values : List ℕ) → at ≤ length E → Threes E at form values E at 0
-threes_none E at form values h = record { inside = omega arith; long = refl; going = going_none E at (threes (pieces form) values) h }
-
-module _ (E : List ℕ) (at : ℕ) (form values W : List ℕ) (place i : ℕ) (v : Threes E at form values W place i) where
-  pub threes_inside : i ≤ length values
-  threes_inside = v.inside
-
-  pub threes_room : place ≤ length W
-  threes_room = going_room E at (threes (pieces form) values) W place (threes (pieces form) (drop i values)) v.going
-
-  pub threes_more : (U : List ℕ) (r : ℕ) → 3 ≤ length values - i → Wrote W place (line (pieces form) (three_at values i)) U r → Threes E at form values U r (i + 3)
-  unfolding threes
-  threes_more U r h w = record {
-    inside = omega arith;
-    long = w.long ∙ v.long;
-    going =
-        going_more E at (threes (pieces form) values) W place (threes (pieces form) (drop i values)) (line (pieces form) (three_at values i)) (threes (pieces form) (drop (i + 3) values)) U r
-        v.going (ap (threes (pieces form)) (three_more 0 values i (omega (arith, v.inside)))) w;
-  }
-
-  pub threes_all : length values - i < 3 → Wrote E at (threes (pieces form) values) W place
-  threes_all h = going_all E at (threes (pieces form) values) W place (threes (pieces form) (drop i values)) v.going (threes_few (pieces form) (drop i values) (simp length-drop h))
-
--- ---- a vertex a line
-pub record Corners (E : List ℕ) (at : ℕ) (P N : List Float) (W : List ℕ) (place i : ℕ) : Type 0 where
-  pub inside : i ≤ length P
-  pub beside : i ≤ length N
-  pub long : length W ≡ length E
-  pub going : Going E at (vertex_lines (map bits32 P) (map bits32 N)) W place (vertex_lines (map bits32 (drop i P)) (map bits32 (drop i N)))
-
-vertices_few : (ps ns : List ℕ) → length ps < 3 → vertex_lines ps ns ≡ []
-unfolding vertex_lines
-vertices_few [] ns h = refl
-vertices_few (x ∷ []) ns h = refl
-vertices_few (x ∷ y ∷ []) ns h = refl
-vertices_few (x ∷ y ∷ z ∷ ps) ns h = absurd (omega arith)
-
-normals_few : (ps ns : List ℕ) → 3 ≤ length ps → length ns < 3 → vertex_lines ps ns ≡ []
-unfolding vertex_lines
-normals_few [] ns l h = absurd (omega arith)
-normals_few (x ∷ []) ns l h = absurd (omega arith)
-normals_few (x ∷ y ∷ []) ns l h = absurd (omega arith)
-normals_few (x ∷ y ∷ z ∷ ps) [] l h = refl
-normals_few (x ∷ y ∷ z ∷ ps) (a ∷ []) l h = refl
-normals_few (x ∷ y ∷ z ∷ ps) (a ∷ b ∷ []) l h = refl
-normals_few (x ∷ y ∷ z ∷ ps) (a ∷ b ∷ c ∷ ns) l h = absurd (omega arith)
-
-pub corners_none : (E : List ℕ) (at : ℕ) (P N : List Float) → at ≤ length E → Corners E at P N E at 0
-corners_none E at P N h = record { inside = omega arith; beside = omega arith; long = refl; going = going_none E at (vertex_lines (map bits32 P) (map bits32 N)) h }
-
-module _ (E : List ℕ) (at : ℕ) (P N : List Float) (W : List ℕ) (place i : ℕ) (v : Corners E at P N W place i) where
-  pub corners_inside : i ≤ length P
-  corners_inside = v.inside
-
-  pub corners_beside : i ≤ length N
-  corners_beside = v.beside
-
-  pub corners_room : place ≤ length W
-  corners_room = going_room E at (vertex_lines (map bits32 P) (map bits32 N)) W place (vertex_lines (map bits32 (drop i P)) (map bits32 (drop i N))) v.going
-
-  long_of : (xs : List Float) → length (map bits32 (drop i xs)) ≡ length xs - i
-  long_of xs = length-map (drop i xs) bits32 ∙ length-drop i xs
-
-  pub corners_all : length P - i < 3 → Wrote E at (vertex_lines (map bits32 P) (map bits32 N)) W place
-  corners_all h = going_all E at (vertex_lines (map bits32 P) (map bits32 N)) W place (vertex_lines (map bits32 (drop i P)) (map bits32 (drop i N))) v.going
-      (vertices_few (map bits32 (drop i P)) (map bits32 (drop i N)) (omega (arith, long_of P)))
-
-  pub corners_short : 3 ≤ length P - i → length N - i < 3 → Wrote E at (vertex_lines (map bits32 P) (map bits32 N)) W place
-  corners_short l h = going_all E at (vertex_lines (map bits32 P) (map bits32 N)) W place (vertex_lines (map bits32 (drop i P)) (map bits32 (drop i N))) v.going
-      (normals_few (map bits32 (drop i P)) (map bits32 (drop i N)) (omega (arith, long_of P)) (omega (arith, long_of N)))
-
-  pub corners_more : (U : List ℕ) (r : ℕ) → 3 ≤ length P - i → 3 ≤ length N - i → Wrote W place (line vertex_form (corner_at P N i)) U r → Corners E at P N U r (i + 3)
-  unfolding vertex_lines
-  corners_more U r l h w = record {
-    inside = omega arith;
-    beside = omega arith;
-    long = w.long ∙ v.long;
-    going =
-        going_more E at (vertex_lines (map bits32 P) (map bits32 N)) W place (vertex_lines (map bits32 (drop i P)) (map bits32 (drop i N))) (line vertex_form (corner_at P N i))
-        (vertex_lines (map bits32 (drop (i + 3) P)) (map bits32 (drop (i + 3) N))) U r
-        v.going
-        (ap (λ (xs : List Float). vertex_lines (map bits32 xs) (map bits32 (drop i N))) (three_more nan P i (omega (arith, v.inside)))
-        ∙ ap (λ (xs : List Float). vertex_lines (map bits32 (get_or P i nan ∷ get_or P (i + 1) nan ∷ get_or P (i + 2) nan ∷ drop (i + 3) P)) (map bits32 xs)) (three_more nan N i (omega (arith, v.beside))))
-        w;
-  }
-
-pub three_written : (E form values W : List ℕ) (at i r a b c : ℕ) → a ≡ get_or values i 0 → b ≡ get_or values (i + 1) 0 → c ≡ get_or values (i + 2) 0 → Wrote E at (line (pieces form) (a ∷ b ∷ c ∷ [])) W r
-    → Wrote E at (line (pieces form) (three_at values i)) W r
-three_written E form values W at i r a b c p q s w = subst (λ (xs : List ℕ). Wrote E at (line (pieces form) xs) W r) (numbers p q s) w
-  where
-    numbers : a ≡ get_or values i 0 → b ≡ get_or values (i + 1) 0 → c ≡ get_or values (i + 2) 0 → a ∷ b ∷ c ∷ [] ≡ three_at values i
-    numbers p q s = cc
-
-pub corner_written : (E : List ℕ) (P N : List Float) (W : List ℕ) (at i r a b c d e f : ℕ) → a ≡ bits32 (get_or P i nan) → b ≡ bits32 (get_or P (i + 1) nan) → c ≡ bits32 (get_or P (i + 2) nan)
-    → d ≡ bits32 (get_or N i nan) → e ≡ bits32 (get_or N (i + 1) nan) → f ≡ bits32 (get_or N (i + 2) nan) → Wrote E at (line vertex_form (a ∷ b ∷ c ∷ d ∷ e ∷ f ∷ [])) W r
-    → Wrote E at (line vertex_form (corner_at P N i)) W r
-corner_written E P N W at i r a b c d e f pa pb pc pd pe pf w = subst (λ (xs : List ℕ). Wrote E at (line vertex_form xs) W r) (numbers pa pb pc pd pe pf) w
-  where
-    numbers : a ≡ bits32 (get_or P i nan) → b ≡ bits32 (get_or P (i + 1) nan) → c ≡ bits32 (get_or P (i + 2) nan) → d ≡ bits32 (get_or N i nan) → e ≡ bits32 (get_or N (i + 1) nan)
-        → f ≡ bits32 (get_or N (i + 2) nan) → a ∷ b ∷ c ∷ d ∷ e ∷ f ∷ [] ≡ corner_at P N i
-    numbers pa pb pc pd pe pf = cc
-
--- ---- a range a line
-pub range_written : (E values W : List ℕ) (at i r a b c d : ℕ) → a ≡ get_or values i 0 → b ≡ get_or values (i + 1) 0 → c ≡ get_or values (i + 2) 0 → d ≡ get_or values (i + 3) 0
-    → Wrote E at (line range_form (a ∷ b ∷ c ∷ d ∷ [])) W r → Wrote E at (line range_form (four_at values i)) W r
-range_written E values W at i r a b c d p q s t w = subst (λ (xs : List ℕ). Wrote E at (line range_form xs) W r) (numbers p q s t) w
-  where
-    numbers : a ≡ get_or values i 0 → b ≡ get_or values (i + 1) 0 → c ≡ get_or values (i + 2) 0 → d ≡ get_or values (i + 3) 0 → a ∷ b ∷ c ∷ d ∷ [] ≡ four_at values i
-    numbers p q s t = cc
-
-pub record Ranges (E : List ℕ) (at : ℕ) (values W : List ℕ) (place i : ℕ) : Type 0 where
-  pub inside : i ≤ length values
-  pub long : length W ≡ length E
-  pub going : Going E at (range_lines values) W place (range_lines (drop i values))
-
-ranges_few : (xs : List ℕ) → length xs < range_width → range_lines xs ≡ []
+pub range_rows : (xs : List ℕ) → range_lines xs ≡ flat_map (λ row. line range_form (four_at row 0)) (first_chunks range_width (length xs / range_width) xs)
 unfolding range_lines
-ranges_few [] h = refl
-ranges_few (a ∷ []) h = refl
-ranges_few (a ∷ b ∷ []) h = refl
-ranges_few (a ∷ b ∷ c ∷ []) h = refl
-ranges_few (a ∷ b ∷ c ∷ d ∷ xs) h = absurd (omega arith)
+range_rows [] = refl
+range_rows (a ∷ []) = refl
+range_rows (a ∷ b ∷ []) = refl
+range_rows (a ∷ b ∷ c ∷ []) = refl
+range_rows (a ∷ b ∷ c ∷ d ∷ xs) =
+    let f : List ℕ → List ℕ = λ row. line range_form (four_at row 0) in
+    let k : suc (suc (suc (suc (length xs)))) / 4 ≡ suc (length xs / 4) = ap (λ (m : ℕ). m / 4) (omega arith) ∙ more_chunks 4 (length xs) (omega arith) in
+    ap (λ (ys : List ℕ). line range_form (a ∷ b ∷ c ∷ d ∷ []) ++ ys) (range_rows xs)
+    ∙ sym (flat_map-cons f (a ∷ b ∷ c ∷ d ∷ []) (first_chunks 4 (length xs / 4) xs))
+    ∙ ap (λ (m : ℕ). flat_map f (first_chunks 4 m (a ∷ b ∷ c ∷ d ∷ xs))) (sym k)
 
-pub ranges_none : (E : List ℕ) (at : ℕ) (values : List ℕ) → at ≤ length E → Ranges E at values E at 0
-ranges_none E at values h = record { inside = omega arith; long = refl; going = going_none E at (range_lines values) h }
+pub failure_rows : (xs : List ℕ) → failure_lines xs ≡ flat_map (λ row. failure_at row 0) (first_chunks failure_width (length xs / failure_width) xs)
+unfolding failure_lines
+failure_rows [] = refl
+failure_rows (a ∷ []) = refl
+failure_rows (a ∷ b ∷ []) = refl
+failure_rows (a ∷ b ∷ c ∷ []) = refl
+failure_rows (a ∷ b ∷ c ∷ d ∷ []) = refl
+failure_rows (a ∷ b ∷ c ∷ d ∷ e ∷ xs) =
+    let f : List ℕ → List ℕ = λ row. failure_at row 0 in
+    let k : suc (suc (suc (suc (suc (length xs))))) / 5 ≡ suc (length xs / 5) = ap (λ (m : ℕ). m / 5) (omega arith) ∙ more_chunks 5 (length xs) (omega arith) in
+    ap (λ (ys : List ℕ). failure_line a b c d e ++ ys) (failure_rows xs)
+    ∙ sym (flat_map-cons f (a ∷ b ∷ c ∷ d ∷ e ∷ []) (first_chunks 5 (length xs / 5) xs))
+    ∙ ap (λ (m : ℕ). flat_map f (first_chunks 5 m (a ∷ b ∷ c ∷ d ∷ e ∷ xs))) (sym k)
 
-module _ (E : List ℕ) (at : ℕ) (values W : List ℕ) (place i : ℕ) (v : Ranges E at values W place i) where
-  pub ranges_inside : i ≤ length values
-  ranges_inside = v.inside
+-- a position beside a normal as a line
+abbrev pub corner : List Float × List Float → List ℕ
+corner r = line vertex_form (corner_at r.0 r.1 0)
 
-  pub ranges_room : place ≤ length W
-  ranges_room = going_room E at (range_lines values) W place (range_lines (drop i values)) v.going
+-- coordinates by threes
+abbrev pub chunks : List Float → List (List Float)
+chunks xs = first_chunks 3 (length xs / 3) xs
 
-  pub ranges_more : (U : List ℕ) (r : ℕ) → range_width ≤ length values - i → Wrote W place (line range_form (four_at values i)) U r → Ranges E at values U r (i + range_width)
-  unfolding range_lines
-  ranges_more U r h w = record {
-    inside = omega arith;
-    long = w.long ∙ v.long;
-    going =
-        going_more E at (range_lines values) W place (range_lines (drop i values)) (line range_form (four_at values i)) (range_lines (drop (i + range_width) values)) U r
-        v.going (ap range_lines (four_more 0 values i (omega (arith, v.inside)))) w;
-  }
+-- the positions and normals of a body's vertices, side by side
+abbrev pub corners : List Float → List Float → List (List Float × List Float)
+corners ps ns = zip (chunks ps) (chunks ns)
 
-  pub ranges_all : length values - i < range_width → Wrote E at (range_lines values) W place
-  ranges_all h = going_all E at (range_lines values) W place (range_lines (drop i values)) v.going (ranges_few (drop i values) (simp length-drop h))
+no_more : {A B : Type 0} (xs : List A) → zip {K = A} {X = B} xs [] ≡ []
+no_more [] = refl
+no_more (x ∷ xs) = refl
+
+pub vertex_rows : (ps ns : List Float) → vertex_lines (map bits32 ps) (map bits32 ns) ≡ flat_map corner (corners ps ns)
+unfolding vertex_lines
+vertex_rows [] ns = refl
+vertex_rows (x ∷ []) ns = refl
+vertex_rows (x ∷ y ∷ []) ns = refl
+vertex_rows (x ∷ y ∷ z ∷ ps) [] = sym (ap (flat_map corner) (no_more (first_chunks 3 (suc (suc (suc (length ps))) / 3) (x ∷ y ∷ z ∷ ps))))
+vertex_rows (x ∷ y ∷ z ∷ ps) (a ∷ []) = sym (ap (flat_map corner) (no_more (first_chunks 3 (suc (suc (suc (length ps))) / 3) (x ∷ y ∷ z ∷ ps))))
+vertex_rows (x ∷ y ∷ z ∷ ps) (a ∷ b ∷ []) = sym (ap (flat_map corner) (no_more (first_chunks 3 (suc (suc (suc (length ps))) / 3) (x ∷ y ∷ z ∷ ps))))
+vertex_rows (x ∷ y ∷ z ∷ ps) (a ∷ b ∷ c ∷ ns) =
+    let k : suc (suc (suc (length ps))) / 3 ≡ suc (length ps / 3) = ap (λ (m : ℕ). m / 3) (omega arith) ∙ more_chunks 3 (length ps) (omega arith) in
+    let l : suc (suc (suc (length ns))) / 3 ≡ suc (length ns / 3) = ap (λ (m : ℕ). m / 3) (omega arith) ∙ more_chunks 3 (length ns) (omega arith) in
+    ap (λ (ys : List ℕ). corner (x ∷ y ∷ z ∷ [], a ∷ b ∷ c ∷ []) ++ ys) (vertex_rows ps ns)
+    ∙ sym (flat_map-cons corner (x ∷ y ∷ z ∷ [], a ∷ b ∷ c ∷ []) (corners ps ns))
+    ∙ ap (λ (m : ℕ). flat_map corner (zip (first_chunks 3 m (x ∷ y ∷ z ∷ ps)) (first_chunks 3 (suc (length ns / 3)) (a ∷ b ∷ c ∷ ns)))) (sym k)
+    ∙ ap (λ (m : ℕ). flat_map corner (zip (first_chunks 3 (suc (suc (suc (length ps))) / 3) (x ∷ y ∷ z ∷ ps)) (first_chunks 3 m (a ∷ b ∷ c ∷ ns)))) (sym l)
+
+-- ---- a loop over positions and normals side by side
+module _ (E : List ℕ) (at : ℕ) (ps ns : List Float) (W : List ℕ) (place i : ℕ) (v : Lined corner E at (corners ps ns) W place i) where
+  -- the next pair's line is written
+  pub corner_more : (p n : List Float) → (i < length (chunks ps)) × (i < length (chunks ns)) × ((d : List Float) → p ≡ get_or (chunks ps) i d) × ((d : List Float) → n ≡ get_or (chunks ns) i d)
+      → (U : List ℕ) (r : ℕ) → Wrote W place (line vertex_form (corner_at p n 0)) U r → Lined corner E at (corners ps ns) U r (i + 1)
+  corner_more p n t U r w =
+      let inside : i < length (corners ps ns) = omega (arith, length-zip (chunks ps) (chunks ns), t.0, t.1) in
+      let pair : (p, n) ≡ get_or (corners ps ns) i ([], []) =
+      ap (λ (x : List Float). (x, n)) (t.2 []) ∙ ap (λ (x : List Float). (get_or (chunks ps) i [], x)) (t.3 []) ∙ sym (get_or-zip (chunks ps) (chunks ns) i ([], []) t.0 t.1) in
+      lined_more corner E at (corners ps ns) W place i v ([], []) U r inside (subst (λ (x : List Float × List Float). Wrote W place (corner x) U r) pair w)
+
+  pub corner_all : i ≡ min (length (chunks ps)) (length (chunks ns)) → Wrote E at (vertex_lines (map bits32 ps) (map bits32 ns)) W place
+  corner_all e = lined_all corner E at (corners ps ns) W place i v (vertex_lines (map bits32 ps) (map bits32 ns)) (vertex_rows ps ns) (omega (arith, length-zip (chunks ps) (chunks ns)))
 
 -- ---- a failure
 module _ (E : List ℕ) (at face bin n reach span : ℕ) (W : List ℕ) (r : ℕ) where
@@ -228,51 +140,10 @@ module _ (E : List ℕ) (at face bin n reach span : ℕ) (W : List ℕ) (r : ℕ
   unfolding failure_line
   failed_empty e w = rw (eq-eqb n 0 e, failure_line) w
 
-  pub failed_escape : (n ≡ 0 → ⊥) → n ≡ 256 → Wrote E at (line escape_form (face ∷ bin ∷ reach ∷ span ∷ [])) W r → Wrote E at (failure_line face bin n reach span) W r
+  pub failed_escape : n ≡ 256 → Wrote E at (line escape_form (face ∷ bin ∷ reach ∷ span ∷ [])) W r → Wrote E at (failure_line face bin n reach span) W r
   unfolding failure_line
-  failed_escape z e w = rw (ne_eqb n 0 z, eq-eqb n 256 e, failure_line) w
+  failed_escape e w = rw (ne_eqb n 0 (λ z. omega arith), eq-eqb n 256 e, failure_line) w
 
   pub failed_upstream : (n ≡ 0 → ⊥) → (n ≡ 256 → ⊥) → Wrote E at (line upstream_form (face ∷ bin ∷ n ∷ [])) W r → Wrote E at (failure_line face bin n reach span) W r
   unfolding failure_line
   failed_upstream z e w = rw (ne_eqb n 0 z, ne_eqb n 256 e, failure_line) w
-
-pub record Failures (E : List ℕ) (at : ℕ) (values W : List ℕ) (place i : ℕ) : Type 0 where
-  pub inside : i ≤ length values
-  pub long : length W ≡ length E
-  pub going : Going E at (failure_lines values) W place (failure_lines (drop i values))
-
-failures_few : (xs : List ℕ) → length xs < failure_width → failure_lines xs ≡ []
-unfolding failure_lines
-failures_few [] h = refl
-failures_few (a ∷ []) h = refl
-failures_few (a ∷ b ∷ []) h = refl
-failures_few (a ∷ b ∷ c ∷ []) h = refl
-failures_few (a ∷ b ∷ c ∷ d ∷ []) h = refl
-failures_few (a ∷ b ∷ c ∷ d ∷ e ∷ xs) h = absurd (omega arith)
-
-pub failures_none : (E : List ℕ) (at : ℕ) (values : List ℕ) → at ≤ length E → Failures E at values E at 0
-failures_none E at values h = record { inside = omega arith; long = refl; going = going_none E at (failure_lines values) h }
-
-module _ (E : List ℕ) (at : ℕ) (values W : List ℕ) (place i : ℕ) (v : Failures E at values W place i) where
-  pub failures_inside : i ≤ length values
-  failures_inside = v.inside
-
-  pub failures_room : place ≤ length W
-  failures_room = going_room E at (failure_lines values) W place (failure_lines (drop i values)) v.going
-
-  pub failures_more : (U : List ℕ) (r : ℕ) → failure_width ≤ length values - i
-      → Wrote W place (failure_line (get_or values i 0) (get_or values (i + 1) 0) (get_or values (i + 2) 0) (get_or values (i + 3) 0) (get_or values (i + 4) 0)) U r
-      → Failures E at values U r (i + failure_width)
-  unfolding failure_lines
-  failures_more U r h w = record {
-    inside = omega arith;
-    long = w.long ∙ v.long;
-    going =
-        going_more E at (failure_lines values) W place (failure_lines (drop i values))
-        (failure_line (get_or values i 0) (get_or values (i + 1) 0) (get_or values (i + 2) 0) (get_or values (i + 3) 0) (get_or values (i + 4) 0))
-        (failure_lines (drop (i + failure_width) values)) U r
-        v.going (ap failure_lines (five_more 0 values i (omega (arith, v.inside)))) w;
-  }
-
-  pub failures_all : length values - i < failure_width → Wrote E at (failure_lines values) W place
-  failures_all h = going_all E at (failure_lines values) W place (failure_lines (drop i values)) v.going (failures_few (drop i values) (simp length-drop h))

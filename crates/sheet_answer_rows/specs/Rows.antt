@@ -77,3 +77,7 @@ failure_lines (f ∷ b ∷ []) = []
 failure_lines (f ∷ b ∷ n ∷ []) = []
 failure_lines (f ∷ b ∷ n ∷ r ∷ []) = []
 failure_lines (f ∷ b ∷ n ∷ r ∷ s ∷ rest) = failure_line f b n r s ++ failure_lines rest
+
+-- the line of the failure that stands from a place on
+abbrev pub failure_at : List ℕ → ℕ → List ℕ
+failure_at ns i = failure_line (get_or ns i 0) (get_or ns (i + 1) 0) (get_or ns (i + 2) 0) (get_or ns (i + 3) 0) (get_or ns (i + 4) 0)

@@ -1,5 +1,6 @@
 -- The laws of the counts: their lines in their order. Assumes nothing.
-use mathlib.Core.Bool.{cond}
+use mathlib.Core.Bool.{Bool, true, false, cond}
+use mir.Val.{bool_byte}
 use mathlib.Core.List.{List, [], ◌∷◌}
 use mathlib.Core.Path.{◌≡◌, refl, subst}
 use Prim.Native.Nat.{ℕ}
@@ -11,6 +12,11 @@ use Rattle.sheet_lines.specs.Pattern.{piece, pieces, split}
 use Rattle.sheet_answer_text.specs.declared.Tallies.{Tallies}
 use Rattle.sheet_answer_text.specs.Answer.{against_form, closed_form, count_text, edges_form, ok_form, open_form, over_form, split_form, turned_form}
 use Rattle.sheet_answer_rows.specs.FormLaws.{as_form}
+
+-- a test as a number
+pub as_number : (b : Bool) → bool_byte b ≡ cond b 1 0
+as_number true = refl
+as_number false = refl
 
 pub counts_written : {E W1 W2 W3 W4 W5 W6 W7 W8 : List ℕ} {at r1 r2 r3 r4 r5 r6 r7 r8 : ℕ} (t : Tallies) {n : ℕ} → n ≡ cond t.closed 1 0
     → Wrote E at (line (pieces (bytes "(turned#)")) (t.turned ∷ [])) W1 r1

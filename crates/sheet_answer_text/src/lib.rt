@@ -1,7 +1,7 @@
 // What the program prints as text, and its counts, written at a place of a slice.
 #![tactic(auto)]
 
-ghost use Rattle.std.specs.Prelude.{cond, ◌∷◌, [], ◌≡◌, ◌≤◌, length};
+ghost use Rattle.std.specs.Prelude.{◌∷◌, [], ◌≤◌, length};
 ghost use Rattle.sheet_digit_writing.specs.Writing.{Wrote};
 ghost use Rattle.sheet_lines.specs.Forms.{line};
 ghost use Rattle.sheet_lines.specs.Pattern.{pieces};
@@ -40,13 +40,6 @@ pub fn put_count(out: &mut [u8], at: usize, form: &[u8], n: u64) -> usize
     put_line(out, at, form, &[n])
 }
 
-// 1 for true.
-fn number_of(b: bool) -> u64
-    ensures { result ≡ cond b 1 0 }
-{
-    if b { 1 } else { 0 }
-}
-
 // The counts; answers the place after them.
 pub fn put_counts(out: &mut [u8], at: usize, t: Tallies) -> usize
     requires { at ≤ length out.old }
@@ -59,5 +52,5 @@ pub fn put_counts(out: &mut [u8], at: usize, t: Tallies) -> usize
     let e = put_count(out, d, b"(edges#)", t.edges);
     let f = put_count(out, e, b"(open#)", t.opens);
     let g = put_count(out, f, b"(over#)", t.overs);
-    put_count(out, g, b"(closed#)", number_of(t.closed))
+    put_count(out, g, b"(closed#)", u64::from(t.closed))
 }

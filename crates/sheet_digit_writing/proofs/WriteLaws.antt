@@ -1,13 +1,11 @@
 -- The laws of writing digits: a byte, a text, the digits of a number from the last, and how many there are. Assumes nothing.
-use mathlib.Core.Bool.{Bool, true, false}
 use mathlib.Core.List.{List, [], ◌∷◌, ◌++◌, append-nil, append_assoc}
 use mathlib.Core.Path.{◌≡◌, refl, sym, ◌∙◌, ap, subst}
 use Prim.Native.Nat.{ℕ, zero, suc, ◌+◌, ◌-◌, ◌*◌, ◌/◌, ◌%◌, ◌^◌, ◌≤◌, ◌<◌}
-use native.Mathlib.Nat.{pow-succ', pow-le-pow_right, one-le-pow, mod-lt, mul_comm, div-div-eq-div-mul, le-div_iff_mul-le, div-lt_iff_lt-mul, le_of_eq}
+use native.Mathlib.Nat.{pow-succ', mod-lt, le_of_eq}
 use native.Mathlib.Numerals.{add-one}
 use native.Mathlib.Omega.{arith}
-use borrow.Author.Tests.{le-ltb, lt-ltb, leb-true, leb-false}
-use lib.Dec.{leb, lit<}
+use borrow.Author.Tests.{le-ltb, lt-ltb}
 use lib.ListN.{length, get_or, take, drop, set, drop_of_length-le, length-append, length-take, length-drop, length-set}
 use lib.Seq.{drop-cons, take_all, take-suc, take-suc-set, get_or-set_same, drop-set-lt}
 use Rattle.sheet_digits.specs.Digits.{decimal, decimal_to, digit_byte, digits}
@@ -16,14 +14,6 @@ use Rattle.signed_numbers.specs.Range.{farthest}
 use Rattle.sheet_digits.specs.Offsets.{offset}
 use Rattle.sheet_digit_writing.specs.Writing.{Digits, Filling, Wrote}
 use Rattle.sheet_digit_writing.specs.Wrote.{wrote_none, wrote_then}
-
-pub byte_decimal : (d : ℕ) → d < 10 → 48 + d ≡ digit_byte d
-unfolding digit_byte
-byte_decimal d h = rw (lt-ltb d 10 h)
-
-pub byte_letter : (d : ℕ) → 10 ≤ d → 55 + d ≡ digit_byte d
-unfolding digit_byte
-byte_letter d h = rw (le-ltb d 10 h)
 
 -- ---- a byte
 pub wrote_byte : (E : List ℕ) (at b : ℕ) → at < length E → Wrote E at (b ∷ []) (set E at b) (at + 1)
@@ -127,48 +117,18 @@ pub wrote_decimal : (E : List ℕ) (at k n : ℕ) (W : List ℕ) (r : ℕ) → D
 wrote_decimal E at k n W r v w = subst (λ (xs : List ℕ). Wrote E at xs W r) (sym v.is) w
 
 -- ---- how many digits
-pub record Counted (n m k : ℕ) : Type 0 where
-  pub some_digit : 0 < k
-  pub few : k ≤ 20
-  pub is : m ≡ n / 10 ^ k
-  pub low : 1 < k → 10 ^ (k - 1) ≤ n
-
-pub counted_none : (n : ℕ) → Counted n (n / 10) 1
-counted_none n = record { some_digit = omega arith; few = omega arith; is = refl; low = λ h. absurd (omega arith) }
-
-pub counted_more : (n m k : ℕ) → n < 2 ^ 64 → Counted n m k → 0 < m → Counted n (m / 10) (k + 1)
-counted_more n m k s v h =
-    let p : 0 < 10 ^ k = one-le-pow k 10 (lit< tt) in
-    let q : 1 ≤ n / 10 ^ k = omega (arith, v.is) in
-    let one : 1 * 10 ^ k ≤ n = (le-div_iff_mul-le p).0 q in
-    let low : 10 ^ k ≤ n = omega arith in
-    record {
-      some_digit = omega arith;
-      few = omega (arith, few low (leb 20 k) refl);
-      is = ap (λ (y : ℕ). y / 10) v.is ∙ div-div-eq-div-mul n (10 ^ k) 10 ∙ ap (λ (y : ℕ). n / y) (mul_comm (10 ^ k) 10 ∙ sym (pow-succ' 10 k) ∙ ap (λ (y : ℕ). 10 ^ y) (sym (add-one k)));
-      low = λ l. subst (λ (y : ℕ). 10 ^ y ≤ n) (let e : k ≡ k + 1 - 1 = omega arith in e) low;
-    }
-  where
-    few : 10 ^ k ≤ n → (b : Bool) → leb 20 k ≡ b → k ≤ 19
-    few low true q = let big : 10 ^ 20 ≤ 10 ^ k = pow-le-pow_right (lit< tt) (leb-true 20 k q) in absurd (omega arith)
-    few low false q = omega (arith, leb-false 20 k q)
-
-pub counted_all : (n m k : ℕ) → Counted n m k → m ≤ 0 → Digits n k
+pub digits_none : Digits 0 1
 unfolding decimal_to
-counted_all n m zero v h = absurd (omega (arith, v.some_digit))
-counted_all n m (suc j) v h = record { few = v.few; is = go j n v.low high (omega (arith, v.few)) }
-  where
-    high : n < 10 ^ suc j
-    high =
-        let p : 0 < 10 ^ suc j = one-le-pow (suc j) 10 (lit< tt) in
-        let q : n / 10 ^ suc j < 1 = omega (arith, v.is) in
-        let one : n < 1 * 10 ^ suc j = (div-lt_iff_lt-mul p).0 q in
-        omega arith
+digits_none = record { few = omega arith; is = refl }
 
-    go : (j n : ℕ) → (1 < suc j → 10 ^ (suc j - 1) ≤ n) → n < 10 ^ suc j → j ≤ 19 → decimal n ≡ digits 10 (suc j) n
+pub digits_some : (n k : ℕ) → 10 ^ k ≤ n → n < 10 * 10 ^ k → k < 20 → Digits n (k + 1)
+unfolding decimal_to
+digits_some n k low high few = subst (λ (m : ℕ). Digits n m) (sym (add-one k)) (record { few = omega arith; is = go k n low (subst (λ (m : ℕ). n < m) (sym (pow-succ' 10 k)) high) (omega arith) })
+  where
+    go : (k n : ℕ) → 10 ^ k ≤ n → n < 10 ^ suc k → k ≤ 19 → decimal n ≡ digits 10 (suc k) n
     go zero zero low high l = refl
     go zero (suc n) low high l = decimal_to_at 19 0 (suc n) (omega arith) (omega arith) high
-    go (suc i) n low high l = decimal_to_at 19 (suc i) n l (subst (λ (y : ℕ). 10 ^ y ≤ n) (let e : suc (suc i) - 1 ≡ suc i = omega arith in e) (low (omega arith))) high
+    go (suc k) n low high l = decimal_to_at 19 (suc k) n l low high
 
 -- ---- an offset
 pub offset_beneath : (E W U : List ℕ) (at n q r : ℕ) → n < 1099511627776 → Wrote E at (45 ∷ []) W q → Wrote W q (decimal (1099511627776 - n)) U r → Wrote E at (offset n) U r

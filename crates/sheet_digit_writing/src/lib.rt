@@ -10,17 +10,19 @@ ghost use Rattle.sheet_digit_writing.specs.Writing.{Digits, Filling, Wrote};
 const FARTHEST: u64 = 0x100_0000_0000;
 
 // The byte of the minus.
-const MINUS: u8 = 45;
+const MINUS: u8 = b'-';
 
 // The byte of a digit.
+#[tactic(auto, unfolding(sheet_digits::specs::Digits::digit_byte))]
 fn digit_byte(d: u64) -> u8
     requires { d < 16 }
     ensures { result ≡ digit_byte d }
 {
     if d < 10 {
-        return 48 + d as u8;
+        b'0' + d as u8
+    } else {
+        b'A' + (d - 10) as u8
     }
-    55 + d as u8
 }
 
 // One byte at a place; answers the place after it.
@@ -41,11 +43,8 @@ pub fn put_text(out: &mut [u8], at: usize, text: &[u8]) -> usize
     ensures { Wrote out.old at text.now out.new result }
 {
     let mut next: usize = at;
-    let mut i: usize = 0;
-    while i < text.len() {
-        let b = text[i];
-        next = put_byte(out, next, b);
-        i += 1;
+    for b in text {
+        next = put_byte(out, next, *b);
     }
     next
 }
@@ -59,12 +58,9 @@ fn fill_digits(room: &mut [u8], base: u64, k: usize, n: u64)
     ensures { Filling base k n room.new }
 {
     let mut m = n;
-    let mut i: usize = 0;
-    while i < k {
-        let j = 19 - i;
-        room[j] = digit_byte(m % base);
-        m = m / base;
-        i += 1;
+    for i in 0..k {
+        room[19 - i] = digit_byte(m % base);
+        m /= base;
     }
 }
 
@@ -78,8 +74,7 @@ fn put_digits(out: &mut [u8], at: usize, base: u64, k: usize, n: u64) -> usize
 {
     let mut room = [0u8; 20];
     fill_digits(&mut room, base, k, n);
-    let from = 20 - k;
-    put_text(out, at, &room[from..])
+    put_text(out, at, &room[20 - k..])
 }
 
 // k digits of hex of n at a place; answers the place after them.
@@ -95,13 +90,7 @@ pub fn put_hex(out: &mut [u8], at: usize, k: usize, n: u64) -> usize
 fn count_digits(n: u64) -> usize
     ensures { Digits n result }
 {
-    let mut m = n / 10;
-    let mut k: usize = 1;
-    while 0 < m {
-        m = m / 10;
-        k += 1;
-    }
-    k
+    if n == 0 { 1 } else { n.ilog10() as usize + 1 }
 }
 
 // n in decimal without leading zeros at a place; answers the place after it.

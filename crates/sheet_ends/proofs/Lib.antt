@@ -1,2 +1,2 @@
 -- The laws that the proofs of this crate cite.
-mod EndLaws
+mod BeginLaws

@@ -2,19 +2,22 @@
 #![tactic(auto)]
 
 ghost use Rattle.std.specs.Prelude.{◌≡◌};
+ghost use Rattle.refusals.specs.Numbers.{number};
 ghost use Rattle.sheet_line_order.specs.Reading.{start};
 ghost use Rattle.sheet_reader_state.specs.Slices.{Begun, ended, reader_of, refused};
 
+use refusals::Refusal;
 use sheet_line_order::Limits;
 use sheet_reader_state::Reader;
 use slice_fill::clear;
 
 // The reader before the first line.
+#[tactic(auto, unfolding(sheet_line_order::specs::Reading::start))]
 fn fresh(limits: Limits) -> Reader
     ensures { result ≡ reader_of (start limits) }
 {
     Reader {
-        limits: limits,
+        limits,
         refusal: 0,
         place: 0,
         rows: 0,
@@ -45,26 +48,28 @@ pub fn begin(limits: Limits, materials: &mut [u64]) -> Reader
 }
 
 // The reader with a refusal.
-pub fn refuse(s: Reader, n: u32) -> Reader
-    ensures { result ≡ refused n s }
+pub fn refuse(s: Reader, r: Refusal) -> Reader
+    ensures { result ≡ refused (number r) s }
 {
-    let mut t = s;
-    t.refusal = n;
-    t
+    Reader {
+        refusal: r.number(),
+        ..s
+    }
 }
 
-// The end of the sheet, `rest` being what stands after the last LF: 51 for a line without its LF, and for a missing line.
+// The end of the sheet, `rest` being what stands after the last LF: refused for a line without its LF, and for a missing line.
+#[tactic(auto, unfolding(sheet_reader_state::specs::Slices::ended))]
 pub fn end_sheet(s: Reader, rest: &[u8]) -> Reader
     ensures { result ≡ ended s rest.now }
 {
     if s.refusal != 0 {
         return s;
     }
-    if rest.len() != 0 {
-        return refuse(s, 51);
+    if !rest.is_empty() {
+        return refuse(s, Refusal::Sheet);
     }
     if s.place < 3 {
-        return refuse(s, 51);
+        return refuse(s, Refusal::Sheet);
     }
     s
 }

@@ -15,35 +15,34 @@ fn with_box(s: Reader, numbers: &[u64]) -> Reader
     requires { 6 < length numbers.now }
     ensures { result ≡ boxed s numbers.now }
 {
-    let mut t = s;
-    t.minx = numbers[0];
-    t.miny = numbers[1];
-    t.minz = numbers[2];
-    t.maxx = numbers[3];
-    t.maxy = numbers[4];
-    t.maxz = numbers[5];
-    t.place = 1;
-    t
+    Reader {
+        minx: numbers[0],
+        miny: numbers[1],
+        minz: numbers[2],
+        maxx: numbers[3],
+        maxy: numbers[4],
+        maxz: numbers[5],
+        place: 1,
+        ..s
+    }
 }
 
 // The sag.
 fn with_sag(s: Reader, sag: u64) -> Reader
     ensures { result ≡ sagged s sag }
 {
-    let mut t = s;
-    t.sag = sag;
-    t.place = 2;
-    t
+    Reader { sag, place: 2, ..s }
 }
 
 // The default, 0 for none.
 fn with_default(s: Reader, default: u64) -> Reader
     ensures { result ≡ defaulted s default }
 {
-    let mut t = s;
-    t.default = default;
-    t.place = 3;
-    t
+    Reader {
+        default,
+        place: 3,
+        ..s
+    }
 }
 
 // The entry of a material.
@@ -83,10 +82,11 @@ fn add_row(
         low(outcome),
         low(bin),
     );
-    let mut t = s;
-    t.rows = rows + 1;
-    t.place = place;
-    t
+    Reader {
+        rows: rows + 1,
+        place,
+        ..s
+    }
 }
 
 // A vertex of the last row.
@@ -106,10 +106,11 @@ fn add_vertex(
     store_low(positions, at, numbers, 0);
     store_low(normals, at, numbers, 3);
     raise(table, ROW_WIDTH * rows - VERTICES_BACK, 1);
-    let mut t = s;
-    t.vertices = s.vertices + 1;
-    t.place = 4;
-    t
+    Reader {
+        vertices: s.vertices + 1,
+        place: 4,
+        ..s
+    }
 }
 
 // A triangle of the last row.
@@ -120,10 +121,11 @@ fn add_triangle(s: Reader, table: &mut [u32], indices: &mut [u32], numbers: &[u6
     let rows = s.rows;
     store_low(indices, s.indices, numbers, 0);
     raise(table, ROW_WIDTH * rows - INDICES_BACK, 3);
-    let mut t = s;
-    t.indices = s.indices + 3;
-    t.place = 5;
-    t
+    Reader {
+        indices: s.indices + 3,
+        place: 5,
+        ..s
+    }
 }
 
 // A line that isn't refused.

@@ -18,7 +18,7 @@ pub record Limit (limits : Limits) (rows vertices indices : ℕ) (k : Kind) (ns 
   pub is : (x : Patterns) → SheetCounts rows vertices indices x → b ≡ passes_limit limits k ns x
 
 -- n is the refusal of a line, 0 for none
-pub record Refusal (limits : Limits) (place rows vertices indices : ℕ) (k : Kind) (ns : List ℕ) (n : ℕ) : Type 0 where
+pub record LineRefusal (limits : Limits) (place rows vertices indices : ℕ) (k : Kind) (ns : List ℕ) (n : ℕ) : Type 0 where
   pub is : (refusal : ℕ) (x : Patterns) → SheetCounts rows vertices indices x
       → n ≡ line_refusal (record { kind = k; numbers = ns }) (record { limits = limits; refusal = refusal; place = place; sheet = x })
 

@@ -2,11 +2,13 @@
 #![tactic(auto)]
 
 ghost use Rattle.std.specs.Prelude.{◌≡◌, ◌+◌, ◌<◌, ◌||◌, leb, ltb, length, take};
+ghost use Rattle.refusals.specs.Numbers.{failing};
 ghost use Rattle.sheet_lines.specs.Counted.{count_in};
 ghost use Rattle.sheet_lines.specs.Forms.{form};
 ghost use Rattle.sheet_line_order.specs.Reading.{fails_with_zero, in_order, order_of};
-ghost use Rattle.sheet_line_order.specs.Refusals.{Limit, Refusal};
+ghost use Rattle.sheet_line_order.specs.Refusals.{Limit, LineRefusal};
 
+use refusals::Refusal;
 use sheet_line_order::Limits;
 use sheet_lines::Kind;
 
@@ -17,15 +19,9 @@ fn first_place(k: Kind) -> u32
     match k {
         Kind::Box => 0,
         Kind::Sag => 1,
-        Kind::NoDefault => 2,
-        Kind::Default => 2,
-        Kind::Material => 3,
-        Kind::Face => 3,
-        Kind::FaceBin => 3,
-        Kind::Vertex => 4,
-        Kind::Triangle => 4,
-        Kind::Fail => 3,
-        Kind::FailBin => 3,
+        Kind::NoDefault | Kind::Default => 2,
+        Kind::Material | Kind::Face | Kind::FaceBin | Kind::Fail | Kind::FailBin => 3,
+        Kind::Vertex | Kind::Triangle => 4,
     }
 }
 
@@ -36,15 +32,11 @@ fn last_place(k: Kind) -> u32
     match k {
         Kind::Box => 0,
         Kind::Sag => 1,
-        Kind::NoDefault => 2,
-        Kind::Default => 2,
+        Kind::NoDefault | Kind::Default => 2,
         Kind::Material => 3,
-        Kind::Face => 6,
-        Kind::FaceBin => 6,
         Kind::Vertex => 4,
         Kind::Triangle => 5,
-        Kind::Fail => 6,
-        Kind::FailBin => 6,
+        Kind::Face | Kind::FaceBin | Kind::Fail | Kind::FailBin => 6,
     }
 }
 
@@ -52,10 +44,7 @@ fn last_place(k: Kind) -> u32
 fn in_order(place: u32, k: Kind) -> bool
     ensures { result ≡ in_order place k }
 {
-    if place < first_place(k) {
-        return false;
-    }
-    place <= last_place(k)
+    first_place(k) <= place && place <= last_place(k)
 }
 
 // Whether a line is a fail line with number 0.
@@ -64,17 +53,8 @@ fn fails_with_zero(k: Kind, numbers: &[u64]) -> bool
     ensures { result ≡ fails_with_zero k (take (count_in (form k)) numbers.now) }
 {
     match k {
-        Kind::Box => false,
-        Kind::Sag => false,
-        Kind::NoDefault => false,
-        Kind::Default => false,
-        Kind::Material => false,
-        Kind::Face => false,
-        Kind::FaceBin => false,
-        Kind::Vertex => false,
-        Kind::Triangle => false,
-        Kind::Fail => numbers[2] == 0,
-        Kind::FailBin => numbers[2] == 0,
+        Kind::Fail | Kind::FailBin => numbers[2] == 0,
+        _ => false,
     }
 }
 
@@ -82,20 +62,14 @@ fn fails_with_zero(k: Kind, numbers: &[u64]) -> bool
 fn row_passes(limits: Limits, rows: usize, face: u64) -> bool
     ensures { result ≡ ltb limits.face face || leb limits.rows rows }
 {
-    if limits.face < face {
-        return true;
-    }
-    limits.rows <= rows
+    limits.face < face || limits.rows <= rows
 }
 
 // Whether three indices more pass the limit.
 fn triangle_passes(limit: usize, indices: usize) -> bool
     ensures { result ≡ ltb limit (indices + 3) }
 {
-    if limit < 3 {
-        return true;
-    }
-    limit - 3 < indices
+    limit < 3 || limit - 3 < indices
 }
 
 // Whether a line passes a program limit.
@@ -111,21 +85,17 @@ fn passes_limit(
     ensures { Limit limits rows vertices indices k (take (count_in (form k)) numbers.now) result }
 {
     match k {
-        Kind::Box => false,
-        Kind::Sag => false,
-        Kind::NoDefault => false,
-        Kind::Default => false,
+        Kind::Box | Kind::Sag | Kind::NoDefault | Kind::Default => false,
         Kind::Material => limits.face < numbers[0],
-        Kind::Face => row_passes(limits, rows, numbers[1]),
-        Kind::FaceBin => row_passes(limits, rows, numbers[1]),
         Kind::Vertex => limits.vertices <= vertices,
         Kind::Triangle => triangle_passes(limits.indices, indices),
-        Kind::Fail => row_passes(limits, rows, numbers[1]),
-        Kind::FailBin => row_passes(limits, rows, numbers[1]),
+        Kind::Face | Kind::FaceBin | Kind::Fail | Kind::FailBin => {
+            row_passes(limits, rows, numbers[1])
+        }
     }
 }
 
-// The refusal of a line that has a form, 0 if it is taken: 51 before 52.
+// The refusal of a line that has a form, if it isn't taken: for its order and its number before a limit.
 pub fn line_refusal(
     limits: Limits,
     place: u32,
@@ -134,18 +104,15 @@ pub fn line_refusal(
     indices: usize,
     k: Kind,
     numbers: &[u64],
-) -> u32
+) -> Result<(), Refusal>
     requires { 6 < length numbers.now }
-    ensures { Refusal limits place rows vertices indices k (take (count_in (form k)) numbers.now) result }
+    ensures { LineRefusal limits place rows vertices indices k (take (count_in (form k)) numbers.now) (failing result) }
 {
-    if !in_order(place, k) {
-        return 51;
-    }
-    if fails_with_zero(k, numbers) {
-        return 51;
+    if !in_order(place, k) || fails_with_zero(k, numbers) {
+        return Err(Refusal::Sheet);
     }
     if passes_limit(limits, rows, vertices, indices, k, numbers) {
-        return 52;
+        return Err(Refusal::SheetLimit);
     }
-    0
+    Ok(())
 }

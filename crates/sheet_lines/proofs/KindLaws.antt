@@ -2,13 +2,12 @@
 use mathlib.Core.Bool.{Bool, true, false, cond}
 use mathlib.Core.List.{List, [], ◌∷◌}
 use mathlib.Core.Option.{Option, none, some}
+use Rattle.std.specs.Prelude.{Some, None}
 use mathlib.Core.Path.{◌≡◌, refl, sym, ◌∙◌, ap}
 use Prim.Native.Nat.{ℕ}
 use lib.ListN.{take}
 use Rattle.sheet_lines.specs.declared.Kind.{Kind}
 use Rattle.sheet_lines.specs.declared.Kind.TheVariants.{Box, Sag, NoDefault, Default, Material, Face, FaceBin, Vertex, Triangle, Fail, FailBin}
-use Rattle.sheet_lines.specs.declared.kinds.Given.{Given}
-use Rattle.sheet_lines.specs.declared.kinds.Given.TheVariants as Given
 use Rattle.sheet_lines.specs.Forms.{Line, form, line_among, line_of, numbers, read}
 use Rattle.sheet_lines.specs.Counted.{count_in}
 use Rattle.sheet_lines.specs.Pattern.{pattern, pattern_read, piece, pieces}
@@ -41,7 +40,7 @@ among_next : (k : Kind) (ks : List Kind) (line : List ℕ) → read (form k) lin
 unfolding line_among
 among_next k ks line e = ap (λ (o : Option (List ℕ)). elim o as (λ x. Option Line) [ none ↦ line_among ks line | some ns ↦ some (record { kind = k; numbers = ns }) ]) e
 
-among_here : (k : Kind) (ks : List Kind) (line N : List ℕ) → read (form k) line ≡ some (take (count_in (form k)) N) → given (Given.Line k) N ≡ line_among (k ∷ ks) line
+among_here : (k : Kind) (ks : List Kind) (line N : List ℕ) → read (form k) line ≡ some (take (count_in (form k)) N) → given (Some k) N ≡ line_among (k ∷ ks) line
 unfolding line_among given
 among_here k ks line N e = ap (λ (o : Option (List ℕ)). elim o as (λ x. Option Line) [ none ↦ line_among ks line | some ns ↦ some (record { kind = k; numbers = ns }) ]) (sym e)
 
@@ -56,10 +55,10 @@ pub past_more : (k : Kind) {line : List ℕ} {all ks : List Kind} {N : List ℕ}
 past_more k {line} {all} {ks} {N} {r} p v e = record { left = p.left ∙ among_next k ks line (no_form k line N r v e) }
 
 pub past_here : (k : Kind) {line : List ℕ} {all ks : List Kind} {N : List ℕ} {r : Bool} → Past line all (k ∷ ks) → Scanned (pieces (pattern k)) line N r → r ≡ true
-    → given (Given.Line k) N ≡ line_among all line
+    → given (Some k) N ≡ line_among all line
 past_here k {line} {all} {ks} {N} {r} p v e = among_here k ks line N (of_form k line N r v e) ∙ sym p.left
 
-pub past_all : (line N : List ℕ) (all : List Kind) → Past line all [] → given Given.Nothing N ≡ line_among all line
+pub past_all : (line N : List ℕ) (all : List Kind) → Past line all [] → given None N ≡ line_among all line
 unfolding line_among given
 past_all line N all p = sym p.left
 

@@ -1,11 +1,13 @@
 -- The laws of one piece: what a byte of a form stands for, and what is read of it at a place. Assumes nothing.
-use mathlib.Core.Bool.{Bool, true, false, not, cond}
+use mathlib.Core.Bool.{Bool, true, false}
 use mathlib.Core.List.{List, [], ◌∷◌}
 use mathlib.Core.Option.{Option, none, some}
-use mathlib.Core.Path.{◌≡◌, refl, sym, ◌∙◌, ap, subst}
+use mathlib.Core.Path.{◌≡◌, refl, sym, ◌∙◌, ap}
+use Rattle.std.specs.Prelude.{Some, None}
+use Rattle.std.specs.Prelude as Std
 use Prim.Native.Nat.{ℕ, ◌+◌, ◌≤◌, ◌<◌}
 use native.Mathlib.Omega.{arith}
-use borrow.Author.Tests.{eq-eqb, ne_eqb, eqb-true, eqb-false, not-true, not-false}
+use borrow.Author.Tests.{eq-eqb, ne_eqb, eqb-true, eqb-false}
 use lib.Dec.{eqb}
 use lib.ListN.{length, get_or, drop, drop_of_length-le}
 use Rattle.sheet_digits.specs.Digits.{Found, found}
@@ -60,35 +62,35 @@ count_byte c m n o q = record { is = ap numbers_of (sym (piece_byte c m n o q));
 -- ---- what is read
 
 -- nothing is there
-pub no_piece : (line : List ℕ) (o : Option Found) (r : Taken) (at : ℕ) → at ≤ length line → r ≡ record { ok = false; value = 0; next = at } → none ≡ o → PieceTaken line o r
-no_piece line o r at h e q = subst (λ (x : Taken). PieceTaken line o x) (sym e) (record { is = q; within = h })
+no_piece : (line : List ℕ) (o : Option Found) → none ≡ o → PieceTaken line o None
+no_piece line o e = record { is = e; within = tt }
 
 module _ (line : List ℕ) (at p : ℕ) where
-  pub byte_end : length line ≤ at → none ≡ read_byte p (drop at line)
+  pub byte_end : length line ≤ at → PieceTaken line (read_byte p (drop at line)) None
   unfolding after_word
-  byte_end h = ap (read_byte p) (sym (drop_of_length-le line h))
+  byte_end h = no_piece line (read_byte p (drop at line)) (ap (read_byte p) (sym (drop_of_length-le line h)))
 
-  pub byte_other : at < length line → (get_or line at 0 ≡ p → ⊥) → none ≡ read_byte p (drop at line)
-  unfolding after_word
-  byte_other h n =
-      let no : eqb p (get_or line at 0) ≡ false = ne_eqb p (get_or line at 0) (λ e. n (sym e)) in
-      let other : read_byte p (get_or line at 0 ∷ drop (at + 1) line) ≡ none = rw (no, read_byte, after_word) in
-      sym other ∙ ap (read_byte p) (sym (next line at 0 h))
+  module _ (c : ℕ) (there : (at < length line) × ((d : ℕ) → c ≡ get_or line at d)) where
+    pub byte_other : (c ≡ p → ⊥) → PieceTaken line (read_byte p (drop at line)) None
+    unfolding after_word
+    byte_other n =
+        let no : eqb p (get_or line at 0) ≡ false = ne_eqb p (get_or line at 0) (λ e. n (there.1 0 ∙ sym e)) in
+        let other : read_byte p (get_or line at 0 ∷ drop (at + 1) line) ≡ none = rw (no, read_byte, after_word) in
+        no_piece line (read_byte p (drop at line)) (sym other ∙ ap (read_byte p) (sym (next line at 0 there.0)))
 
-  pub byte_there : at < length line → get_or line at 0 ≡ p → PieceTaken line (read_byte p (drop at line)) (record { ok = true; value = 0; next = at + 1 })
-  unfolding after_word
-  byte_there h e =
-      let yes : eqb p (get_or line at 0) ≡ true = eq-eqb p (get_or line at 0) (sym e) in
-      let there : read_byte p (get_or line at 0 ∷ drop (at + 1) line) ≡ some (found 0 (drop (at + 1) line)) = rw (yes, read_byte, after_word) in
-      record { is = sym there ∙ ap (read_byte p) (sym (next line at 0 h)); within = omega arith }
+    pub byte_there : c ≡ p → PieceTaken line (read_byte p (drop at line)) (Some (record { value = 0; next = at + 1 }))
+    unfolding after_word
+    byte_there e =
+        let yes : eqb p (get_or line at 0) ≡ true = eq-eqb p (get_or line at 0) (sym e ∙ there.1 0) in
+        let same : read_byte p (get_or line at 0 ∷ drop (at + 1) line) ≡ some (found 0 (drop (at + 1) line)) = rw (yes, read_byte, after_word) in
+        record { is = sym same ∙ ap (read_byte p) (sym (next line at 0 there.0)); within = omega (arith, there.0) }
 
 -- ---- the number that a byte stands for
-pub number_none : (line : List ℕ) (at c : ℕ) (r : Taken) → at ≤ length line → (c ≡ 35 → ⊥) → (c ≡ 36 → ⊥) → (c ≡ 42 → ⊥) → (c ≡ 37 → ⊥)
-    → r ≡ record { ok = false; value = 0; next = at } → PieceTaken line (read_number (piece c) (drop at line)) r
+pub number_none : (line : List ℕ) (at c : ℕ) → (c ≡ 35 → ⊥) → (c ≡ 36 → ⊥) → (c ≡ 42 → ⊥) → (c ≡ 37 → ⊥) → PieceTaken line (read_number (piece c) (drop at line)) None
 unfolding read_number
-number_none line at c r h m n o q e = no_piece line (read_number (piece c) (drop at line)) r at h e (ap (λ (p : Piece). read_number p (drop at line)) (sym (piece_byte c m n o q)))
+number_none line at c m n o q = no_piece line (read_number (piece c) (drop at line)) (ap (λ (p : Piece). read_number p (drop at line)) (sym (piece_byte c m n o q)))
 
-pub number_as : (p : Piece) (line : List ℕ) (at c bound : ℕ) (r : Taken) → piece c ≡ p → goal.Number line bound (read_number p (drop at line)) r
+pub number_as : (p : Piece) (line : List ℕ) (at c bound : ℕ) (r : Std.Option Taken) → piece c ≡ p → goal.Number line bound (read_number p (drop at line)) r
     → PieceTaken line (read_number (piece c) (drop at line)) r
 number_as p line at c bound r e v = record { is = v.is ∙ ap (λ (q : Piece). read_number q (drop at line)) (sym e); within = v.within }
 
@@ -109,7 +111,7 @@ itself c n v z = go (eqb c 35) refl (eqb c 36) refl (eqb c 42) refl (eqb c 37) r
     go false p false q false r true s = absurd (omega (arith, (rw (p, q, r, s) at none_of)))
     go false p false q false r false s = rw (p, q, r, s)
 
-pub byte_as : (line : List ℕ) (at c n : ℕ) (r : Taken) → Numbers c n → n ≡ 0 → PieceTaken line (read_byte c (drop at line)) r → PieceTaken line (read_piece (piece c) (drop at line)) r
+pub byte_as : (line : List ℕ) (at c n : ℕ) (r : Std.Option Taken) → Numbers c n → n ≡ 0 → PieceTaken line (read_byte c (drop at line)) r → PieceTaken line (read_piece (piece c) (drop at line)) r
 unfolding read_piece
 byte_as line at c n r v z w = record { is = w.is ∙ ap (λ (p : Piece). read_piece p (drop at line)) (sym (itself c n v z)); within = w.within }
 
@@ -130,19 +132,17 @@ number_piece (Bits k) xs n = refl
 number_piece Number xs n = refl
 number_piece Offset xs n = refl
 
-module _ (line : List ℕ) (at c n : ℕ) (space : Taken) (v : Numbers c n) (m : ¬ (n ≡ 0)) (w : PieceTaken line (read_byte 32 (drop at line)) space) where
-  after : (b : Bool) → space.ok ≡ b
-      → read_piece (piece c) (drop at line) ≡ elim (cond b (some (found space.value (drop space.next line))) none) as (λ o. Option Found) [ none ↦ none | some g ↦ read_number (piece c) g.rest ]
-  after b e =
+module _ (line : List ℕ) (at c n : ℕ) (v : Numbers c n) (m : ¬ (n ≡ 0)) where
+  after : (space : Option Found) → space ≡ read_byte 32 (drop at line)
+      → read_piece (piece c) (drop at line) ≡ elim space as (λ o. Option Found) [ none ↦ none | some g ↦ read_number (piece c) g.rest ]
+  after space e =
       number_piece (piece c) (drop at line) (λ z. m (v.is ∙ z))
       ∙ spaced_is (read_number (piece c)) (drop at line)
-      ∙ ap (λ (o : Option Found). elim o as (λ x. Option Found) [ none ↦ none | some g ↦ read_number (piece c) g.rest ])
-      (sym w.is ∙ ap (λ (x : Bool). cond x (some (found space.value (drop space.next line))) none) e)
+      ∙ ap (λ (o : Option Found). elim o as (λ x. Option Found) [ none ↦ none | some g ↦ read_number (piece c) g.rest ]) (sym e)
 
-  pub no_space : not space.ok ≡ true → PieceTaken line (read_piece (piece c) (drop at line)) space
-  no_space e =
-      let no : space.ok ≡ false = not-true space.ok e in
-      record { is = ap (λ (x : Bool). cond x (some (found space.value (drop space.next line))) none) no ∙ sym (after false no); within = w.within }
+  pub no_space : PieceTaken line (read_byte 32 (drop at line)) None → PieceTaken line (read_piece (piece c) (drop at line)) None
+  no_space w = no_piece line (read_piece (piece c) (drop at line)) (sym (after none w.is))
 
-  pub space_then : (r : Taken) → not space.ok ≡ false → PieceTaken line (read_number (piece c) (drop space.next line)) r → PieceTaken line (read_piece (piece c) (drop at line)) r
-  space_then r e u = record { is = u.is ∙ sym (after true (not-false space.ok e)); within = u.within }
+  pub space_then : (space : Taken) (r : Std.Option Taken) → PieceTaken line (read_byte 32 (drop at line)) (Some space) → PieceTaken line (read_number (piece c) (drop space.next line)) r
+      → PieceTaken line (read_piece (piece c) (drop at line)) r
+  space_then space r w u = record { is = u.is ∙ sym (after (some (found space.value (drop space.next line))) w.is); within = u.within }

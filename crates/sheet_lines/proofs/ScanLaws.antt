@@ -1,5 +1,5 @@
 -- The laws of reading a line by a form: what is left to read, behind the numbers so far, gives what reading from the start gives. Assumes nothing.
-use mathlib.Core.Bool.{Bool, true, false, not, cond}
+use mathlib.Core.Bool.{Bool, true, false, cond}
 use mathlib.Core.List.{List, [], ◌∷◌, ◌++◌, map, append-nil, append_assoc}
 use mathlib.Core.Option.{Option, none, some}
 use mathlib.Core.Path.{◌≡◌, refl, sym, ◌∙◌, ap, subst}
@@ -7,13 +7,13 @@ use Prim.Native.Nat.{ℕ, ◌+◌, ◌≤◌, ◌<◌}
 use native.Mathlib.Nat.{add-zero}
 use native.Mathlib.Numerals.{add-one}
 use native.Mathlib.Omega.{arith}
-use borrow.Author.Tests.{eqb-true, eqb-false, not-true, not-false}
+use borrow.Author.Tests.{eqb-true, eqb-false}
 use lib.Dec.{eqb}
 use lib.ListN.{length, get_or, take, drop, set, length-set, drop_of_length-le}
 use lib.Seq.{take-set-le, take-suc-set}
 use Rattle.sheet_digits.specs.Digits.{Found, found, read_decimal, read_hex}
 use Rattle.sheet_digits.specs.Offsets.{read_offset}
-use Rattle.sheet_digit_reading.specs.Given as Digits
+use Rattle.std.specs.Prelude.{Some, None}
 use Rattle.sheet_digits.specs.Next.{next}
 use Rattle.sheet_digit_reading.specs.declared.Taken.{Taken}
 use Rattle.sheet_lines.specs.Forms.{Piece, Word, Bits, Number, Offset, after_word, read, spaced}
@@ -105,39 +105,35 @@ pub record Scanning (line form F N : List ℕ) (at count i : ℕ) : Type 0 where
 pub scanning_none : (line form N : List ℕ) → count_in (pieces form) < length N → Scanning line form N N 0 0 0
 scanning_none line form N h = record { long = refl; few = omega arith; inside = omega arith; room = h; counted = omega arith; same = after_nil (read (pieces form) line) }
 
-pub scanning_place : (line form F N : List ℕ) (at count i : ℕ) → Scanning line form F N at count i → at ≤ length line
-scanning_place line form F N at count i v = v.inside
-
-pub scanning_room : (line form F N : List ℕ) (at count i : ℕ) → Scanning line form F N at count i → count < length N
+scanning_room : (line form F N : List ℕ) (at count i : ℕ) → Scanning line form F N at count i → count < length N
 scanning_room line form F N at count i v = omega (arith, v.room, v.counted)
 
-module _ (line form F N : List ℕ) (at count i : ℕ) (v : Scanning line form F N at count i) (h : i < length form) (t : Taken)
-    (p : PieceTaken line (read_piece (piece (get_or form i 0)) (drop at line)) t) where
+module _ (line form F N : List ℕ) (at count i : ℕ) (v : Scanning line form F N at count i) (h : i < length form) where
   abbrev here : Piece
   here = piece (get_or form i 0)
 
-  rest : pieces (drop i form) ≡ here ∷ pieces (drop (i + 1) form)
+  abbrev left : List Piece
+  left = pieces (drop (i + 1) form)
+
+  rest : pieces (drop i form) ≡ here ∷ left
   rest = ap (map piece) (next form i 0 h)
 
-  step : after (take count N) (one_then here (Digits.given line t) (pieces (drop (i + 1) form))) ≡ read (pieces form) line
-  step =
-      ap (λ (o : Option Found). after (take count N) (one_then here o (pieces (drop (i + 1) form)))) p.is
-      ∙ ap (after (take count N)) (sym (read_step here (pieces (drop (i + 1) form)) (drop at line)))
+  step : (o : Option Found) → o ≡ read_piece here (drop at line) → after (take count N) (one_then here o left) ≡ read (pieces form) line
+  step o e =
+      ap (λ (x : Option Found). after (take count N) (one_then here x left)) e
+      ∙ ap (after (take count N)) (sym (read_step here left (drop at line)))
       ∙ ap (λ (ps : List Piece). after (take count N) (read ps (drop at line))) (sym rest)
       ∙ v.same
 
-  pub scanning_other : not t.ok ≡ true → Scanned (pieces form) line N false
+  pub scanning_other : PieceTaken line (read_piece here (drop at line)) None → Scanned (pieces form) line N false
   unfolding one_then after
-  scanning_other e =
-      let no : Digits.given line t ≡ none = ap (λ (b : Bool). cond b (some (found t.value (drop t.next line))) none) (not-true t.ok e) in
-      record { is = ap (λ (o : Option Found). after (take count N) (one_then here o (pieces (drop (i + 1) form)))) (sym no) ∙ step }
+  scanning_other p = record { is = step none p.is }
 
-  pub scanning_more : (n : ℕ) → not t.ok ≡ false → Numbers (get_or form i 0) n → Scanning line form F (set N count t.value) t.next (count + n) (i + 1)
+  pub scanning_more : (t : Taken) (n : ℕ) → PieceTaken line (read_piece here (drop at line)) (Some t) → Numbers (get_or form i 0) n
+      → Scanning line form F (set N count t.value) t.next (count + n) (i + 1)
   unfolding one_then
-  scanning_more n e counts =
-      let yes : Digits.given line t ≡ some (found t.value (drop t.next line)) = ap (λ (b : Bool). cond b (some (found t.value (drop t.next line))) none) (not-false t.ok e) in
+  scanning_more t n p counts =
       let q : n ≡ numbers_of here = counts.is in
-      let left : List Piece = pieces (drop (i + 1) form) in
       let many : count_in (pieces (drop i form)) ≡ numbers_of here + count_in left = ap count_in rest ∙ count_step here left in
       record {
         long = length-set N count t.value ∙ v.long;
@@ -149,8 +145,7 @@ module _ (line form F N : List ℕ) (at count i : ℕ) (v : Scanning line form F
             ap (λ (k : ℕ). after (take (count + k) (set N count t.value)) (read left (drop t.next line))) q
             ∙ ap (λ (ns : List ℕ). after ns (read left (drop t.next line))) (stored here N count t.value (scanning_room line form F N at count i v))
             ∙ sym (after_after (take count N) (own here t.value) (read left (drop t.next line)))
-            ∙ ap (λ (o : Option Found). after (take count N) (one_then here o left)) (sym yes)
-            ∙ step;
+            ∙ step (some (found t.value (drop t.next line))) p.is;
       }
 
 pub scanning_all : (line form F N : List ℕ) (at count i : ℕ) → Scanning line form F N at count i → length form ≤ i → Scanned (pieces form) line N (eqb at (length line))

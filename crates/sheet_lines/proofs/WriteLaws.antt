@@ -4,7 +4,7 @@ use mathlib.Core.Path.{◌≡◌, refl, sym, ◌∙◌, ap, subst}
 use Prim.Native.Nat.{ℕ, ◌+◌, ◌-◌, ◌≤◌, ◌<◌}
 use native.Mathlib.Nat.{add-zero}
 use native.Mathlib.Omega.{arith}
-use lib.ListN.{length, get_or, drop, drop_of_length-le, get_or-eq_default}
+use lib.ListN.{length, get_or, drop, drop_of_length-le}
 use Rattle.sheet_digit_writing.specs.Writing.{Wrote}
 use Rattle.sheet_digits.specs.Next.{next}
 use Rattle.sheet_digit_writing.specs.Wrote.{wrote_none, wrote_then}
@@ -12,9 +12,6 @@ use Rattle.sheet_lines.specs.Forms.{Piece, Word, Bits, Number, Offset, line, pri
 use Rattle.sheet_lines.specs.Pattern.{numbers_of, piece, pieces, print_number, print_piece}
 use Rattle.sheet_lines.specs.Scan.{Numbers}
 use Rattle.sheet_lines.proofs.PieceLaws.{itself, piece_byte}
-
-pub past_end : (xs : List ℕ) (i : ℕ) → length xs ≤ i → 0 ≡ get_or xs i 0
-past_end xs i h = sym (get_or-eq_default xs 0 h)
 
 -- ---- one piece
 pub put_none : (E : List ℕ) (at c n : ℕ) → at ≤ length E → (c ≡ 35 → ⊥) → (c ≡ 36 → ⊥) → (c ≡ 42 → ⊥) → (c ≡ 37 → ⊥) → Wrote E at (print_number (piece c) n) E at
@@ -66,12 +63,6 @@ pub formed_none : (E : List ℕ) (at : ℕ) (form numbers : List ℕ) → at ≤
 formed_none E at form numbers h = record { few = omega arith; counted = omega arith; done = []; wrote = wrote_none E at h; same = refl }
 
 module _ (E : List ℕ) (at : ℕ) (form numbers W : List ℕ) (place count i : ℕ) (v : Formed E at form numbers W place count i) where
-  pub formed_counted : count ≤ length numbers
-  formed_counted = v.counted
-
-  pub formed_room : place ≤ length W
-  formed_room = omega (arith, v.wrote.within, v.wrote.long)
-
   pub formed_all : length form ≤ i → Wrote E at (print (pieces form) numbers) W place
   unfolding print
   formed_all h =

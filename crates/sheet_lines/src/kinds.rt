@@ -8,66 +8,59 @@ ghost use Rattle.sheet_lines.specs.Scan.{given};
 use crate::Kind;
 use crate::scanning::scan;
 
-// The kind of a line, if it has a form of the sheet.
-#[derive(Clone, Copy)]
-pub enum Given {
-    Line(Kind),
-    Nothing,
-}
-
-// The same for a line that opens a row.
-fn opening_line_of(line: &[u8], numbers: &mut [u64]) -> Given
+// The kind of a line that opens a row, if it has a form of the sheet.
+fn opening_line_of(line: &[u8], numbers: &mut [u64]) -> Option<Kind>
     requires { 6 < length numbers.old }
     ensures { given result numbers.new ≡ line_among opening line.now }
 {
     if scan(line, b"(face##)", numbers) {
-        return Given::Line(Kind::Face);
+        return Some(Kind::Face);
     }
     if scan(line, b"(face###)", numbers) {
-        return Given::Line(Kind::FaceBin);
+        return Some(Kind::FaceBin);
     }
     if scan(line, b"(fail###)", numbers) {
-        return Given::Line(Kind::Fail);
+        return Some(Kind::Fail);
     }
     if scan(line, b"(fail####)", numbers) {
-        return Given::Line(Kind::FailBin);
+        return Some(Kind::FailBin);
     }
-    Given::Nothing
+    None
 }
 
 // The same for a line after the default.
-fn later_line_of(line: &[u8], numbers: &mut [u64]) -> Given
+fn later_line_of(line: &[u8], numbers: &mut [u64]) -> Option<Kind>
     requires { 6 < length numbers.old }
     ensures { given result numbers.new ≡ line_among later line.now }
 {
     if scan(line, b"(material##)", numbers) {
-        return Given::Line(Kind::Material);
+        return Some(Kind::Material);
     }
     if scan(line, b"(v (p***) (n***))", numbers) {
-        return Given::Line(Kind::Vertex);
+        return Some(Kind::Vertex);
     }
     if scan(line, b"(t###)", numbers) {
-        return Given::Line(Kind::Triangle);
+        return Some(Kind::Triangle);
     }
     opening_line_of(line, numbers)
 }
 
-// The kind of a line and, in front of `numbers`, its numbers.
-pub fn line_of(line: &[u8], numbers: &mut [u64]) -> Given
+// The kind of a line, if it has a form of the sheet, and, in front of `numbers`, its numbers.
+pub fn line_of(line: &[u8], numbers: &mut [u64]) -> Option<Kind>
     requires { 6 < length numbers.old }
     ensures { given result numbers.new ≡ line_of line.now }
 {
     if scan(line, b"(box$$$$$$)", numbers) {
-        return Given::Line(Kind::Box);
+        return Some(Kind::Box);
     }
     if scan(line, b"(sag$)", numbers) {
-        return Given::Line(Kind::Sag);
+        return Some(Kind::Sag);
     }
     if scan(line, b"(default -)", numbers) {
-        return Given::Line(Kind::NoDefault);
+        return Some(Kind::NoDefault);
     }
     if scan(line, b"(default#)", numbers) {
-        return Given::Line(Kind::Default);
+        return Some(Kind::Default);
     }
     later_line_of(line, numbers)
 }

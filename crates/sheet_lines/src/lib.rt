@@ -8,7 +8,7 @@ mod kinds;
 mod scanning;
 mod writing;
 
-pub use kinds::{Given, line_of};
+pub use kinds::line_of;
 pub use scanning::scan;
 pub use writing::put_line;
 

@@ -5,77 +5,59 @@ ghost use Rattle.sheet_lines.specs.Counted.{count_in};
 ghost use Rattle.sheet_lines.specs.Pattern.{piece, pieces, read_byte, read_number, read_piece};
 ghost use Rattle.sheet_lines.specs.Scan.{Numbers, PieceTaken, Scanned};
 
-use sheet_digit_reading::{Taken, missing, read_decimal, read_hex, read_offset};
+use sheet_digit_reading::{Taken, read_decimal, read_hex, read_offset};
 
 // How many numbers a byte of a form stands for.
 pub fn numbers_of(p: u8) -> usize
     ensures { Numbers p result }
 {
-    if p == 35 {
-        return 1;
+    match p {
+        b'#' => 1,
+        b'$' => 1,
+        b'*' => 1,
+        b'%' => 1,
+        _ => 0,
     }
-    if p == 36 {
-        return 1;
-    }
-    if p == 42 {
-        return 1;
-    }
-    if p == 37 {
-        return 1;
-    }
-    0
 }
 
 // The byte p at a place.
-fn byte_at(line: &[u8], at: usize, p: u8) -> Taken
+fn byte_at(line: &[u8], at: usize, p: u8) -> Option<Taken>
     requires { at ≤ length line.now }
     ensures { PieceTaken line.now (read_byte p (drop at line.now)) result }
 {
-    if line.len() <= at {
-        return missing(at);
+    let c = line.get(at)?;
+    if *c != p {
+        return None;
     }
-    if line[at] != p {
-        return missing(at);
-    }
-    Taken {
-        ok: true,
+    Some(Taken {
         value: 0,
         next: at + 1,
-    }
+    })
 }
 
 // The number that a byte of a form stands for, at a place.
-fn number_at(line: &[u8], at: usize, p: u8) -> Taken
+fn number_at(line: &[u8], at: usize, p: u8) -> Option<Taken>
     requires { at ≤ length line.now }
     ensures { PieceTaken line.now (read_number (piece p) (drop at line.now)) result }
 {
-    if p == 35 {
-        return read_decimal(line, at);
+    match p {
+        b'#' => read_decimal(line, at),
+        b'$' => read_hex(line, at, 16),
+        b'*' => read_hex(line, at, 8),
+        b'%' => read_offset(line, at),
+        _ => None,
     }
-    if p == 36 {
-        return read_hex(line, at, 16);
-    }
-    if p == 42 {
-        return read_hex(line, at, 8);
-    }
-    if p == 37 {
-        return read_offset(line, at);
-    }
-    missing(at)
 }
 
 // What a byte of a form stands for, at a place: itself, or a space and a number.
-fn piece_at(line: &[u8], at: usize, p: u8) -> Taken
+fn piece_at(line: &[u8], at: usize, p: u8) -> Option<Taken>
     requires { at ≤ length line.now }
     ensures { PieceTaken line.now (read_piece (piece p) (drop at line.now)) result }
 {
     if numbers_of(p) == 0 {
         return byte_at(line, at, p);
     }
-    let space = byte_at(line, at, 32);
-    if !space.ok {
-        return space;
-    }
+    let space = byte_at(line, at, b' ')?;
     number_at(line, space.next, p)
 }
 
@@ -86,18 +68,13 @@ pub fn scan(line: &[u8], form: &[u8], numbers: &mut [u64]) -> bool
 {
     let mut at: usize = 0;
     let mut count: usize = 0;
-    let mut i: usize = 0;
-    while i < form.len() {
-        let p = form[i];
-        let t = piece_at(line, at, p);
-        if !t.ok {
+    for p in form {
+        let Some(t) = piece_at(line, at, *p) else {
             return false;
-        }
-        let n = numbers_of(p);
+        };
         numbers[count] = t.value;
-        count += n;
+        count += numbers_of(*p);
         at = t.next;
-        i += 1;
     }
     at == line.len()
 }

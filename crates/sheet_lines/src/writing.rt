@@ -1,6 +1,6 @@
 // A line written by a form; what passes the end of the slice is left off.
 
-ghost use Rattle.std.specs.Prelude.{◌≡◌, ◌≤◌, length, get_or};
+ghost use Rattle.std.specs.Prelude.{◌≤◌, length};
 ghost use Rattle.sheet_digit_writing.specs.Writing.{Wrote};
 ghost use Rattle.sheet_lines.specs.Forms.{line, print};
 ghost use Rattle.sheet_lines.specs.Pattern.{piece, pieces, print_number, print_piece};
@@ -13,19 +13,13 @@ fn put_number(out: &mut [u8], at: usize, p: u8, n: u64) -> usize
     requires { at ≤ length out.old }
     ensures { Wrote out.old at (print_number (piece p) n) out.new result }
 {
-    if p == 35 {
-        return put_decimal(out, at, n);
+    match p {
+        b'#' => put_decimal(out, at, n),
+        b'$' => put_hex(out, at, 16, n),
+        b'*' => put_hex(out, at, 8, n),
+        b'%' => put_offset(out, at, n),
+        _ => at,
     }
-    if p == 36 {
-        return put_hex(out, at, 16, n);
-    }
-    if p == 42 {
-        return put_hex(out, at, 8, n);
-    }
-    if p == 37 {
-        return put_offset(out, at, n);
-    }
-    at
 }
 
 // What a byte of a form stands for, at a place: itself, or a space and the number n; answers the place after it.
@@ -36,35 +30,25 @@ fn put_piece(out: &mut [u8], at: usize, p: u8, n: u64) -> usize
     if numbers_of(p) == 0 {
         return put_byte(out, at, p);
     }
-    let next = put_byte(out, at, 32);
+    let next = put_byte(out, at, b' ');
     put_number(out, next, p, n)
 }
 
-// Number i of some, 0 past their end.
-fn number_at(numbers: &[u64], i: usize) -> u64
-    ensures { result ≡ get_or numbers.now i 0 }
-{
-    if i < numbers.len() { numbers[i] } else { 0 }
-}
-
-// The form's text for some numbers at a place; answers the place after it.
+// The form's text for some numbers at a place, up to where there are too few; answers the place after it.
 fn put_form(out: &mut [u8], at: usize, form: &[u8], numbers: &[u64]) -> usize
     requires { at ≤ length out.old }
     ensures { Wrote out.old at (print (pieces form.now) numbers.now) out.new result }
 {
     let mut next: usize = at;
     let mut count: usize = 0;
-    let mut i: usize = 0;
-    while i < form.len() {
-        let p = form[i];
-        let n = numbers_of(p);
+    for p in form {
+        let n = numbers_of(*p);
         if numbers.len() - count < n {
             return next;
         }
-        let v = number_at(numbers, count);
-        next = put_piece(out, next, p, v);
+        let v = numbers.get(count).copied().unwrap_or(0);
+        next = put_piece(out, next, *p, v);
         count += n;
-        i += 1;
     }
     next
 }
@@ -75,5 +59,5 @@ pub fn put_line(out: &mut [u8], at: usize, form: &[u8], numbers: &[u64]) -> usiz
     ensures { Wrote out.old at (line (pieces form.now) numbers.now) out.new result }
 {
     let next = put_form(out, at, form, numbers);
-    put_byte(out, next, 10)
+    put_byte(out, next, b'\n')
 }

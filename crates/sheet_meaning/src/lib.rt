@@ -14,13 +14,11 @@ pub fn floats_of(bits: &[u32], out: &mut [f32])
     ensures { out.new ≡ take (length out.old) (map f32 bits.now)
         ++ drop (length bits.now) out.old }
 {
-    let mut i: usize = 0;
-    while i < bits.len() {
+    for (i, b) in bits.iter().enumerate() {
         if out.len() <= i {
             return;
         }
-        out[i] = f32_of_bits(bits[i]);
-        i += 1;
+        out[i] = f32_of_bits(*b);
     }
 }
 

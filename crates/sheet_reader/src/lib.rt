@@ -5,10 +5,11 @@ ghost use Rattle.std.specs.Prelude.{◌≡◌};
 ghost use Rattle.sheet_reader_state.specs.Slices.{lent, read_form, read_into, read_roomy};
 ghost use Rattle.sheet_line_effects.specs.Added.{Fitting, Roomy};
 
+use refusals::Refusal;
 use sheet_ends::refuse;
 use sheet_line_effects::take_up;
 use sheet_line_refusals::line_refusal;
-use sheet_lines::{Given, Kind, line_of};
+use sheet_lines::{Kind, line_of};
 use sheet_reader_state::Reader;
 use sheet_room::fits;
 
@@ -28,12 +29,10 @@ fn with_form(
         ≡ read_form (lent s table.old positions.old normals.old indices.old materials.old) k
         numbers.now }
 {
-    let limits = s.limits;
-    let n = line_refusal(limits, s.place, s.rows, s.vertices, s.indices, k, numbers);
-    if n != 0 {
-        return refuse(s, n);
+    match line_refusal(s.limits, s.place, s.rows, s.vertices, s.indices, k, numbers) {
+        Err(r) => refuse(s, r),
+        Ok(()) => take_up(s, k, numbers, table, positions, normals, indices, materials),
     }
-    take_up(s, k, numbers, table, positions, normals, indices, materials)
 }
 
 // A line, where the slices have room and nothing has been refused.
@@ -52,16 +51,15 @@ fn read_roomy(
         line.now }
 {
     let mut numbers = [0u64; 7];
-    let given = line_of(line, &mut numbers);
-    match given {
-        Given::Line(k) => with_form(
+    match line_of(line, &mut numbers) {
+        Some(k) => with_form(
             s, k, &numbers, table, positions, normals, indices, materials,
         ),
-        Given::Nothing => refuse(s, 51),
+        None => refuse(s, Refusal::Sheet),
     }
 }
 
-// The next state after a line, its LF left off. A refused state stays as it is; a state that the slices have no room for is refused with 52.
+// The next state after a line, its LF left off. A refused state stays as it is; a state that the slices have no room for is refused.
 pub fn read_line(
     s: Reader,
     line: &[u8],
@@ -87,7 +85,7 @@ pub fn read_line(
         indices.len(),
         materials.len(),
     ) {
-        return refuse(s, 52);
+        return refuse(s, Refusal::SheetLimit);
     }
     read_roomy(s, line, table, positions, normals, indices, materials)
 }

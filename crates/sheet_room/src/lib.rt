@@ -28,23 +28,20 @@ fn last_fits(limits: Limits, place: u32, rows: usize, table: &[u32]) -> bool
     if rows == 0 {
         return place < 4;
     }
-    if !within(table[ROW_WIDTH * rows - VERTICES_BACK], limits.vertices) {
-        return false;
-    }
-    within(table[ROW_WIDTH * rows - INDICES_BACK], limits.indices)
+    within(table[ROW_WIDTH * rows - VERTICES_BACK], limits.vertices)
+        && within(table[ROW_WIDTH * rows - INDICES_BACK], limits.indices)
 }
 
 // Whether a body may have so many rows, vertices and indices.
+#[tactic(auto, unfolding(sheet_reader_state::specs::Slices::of_bodies))]
 fn of_bodies(limits: Limits) -> bool
     ensures { result ≡ of_bodies limits }
 {
-    if MOST_ROWS < limits.rows {
-        return false;
-    }
-    !too_many(limits.vertices, limits.indices)
+    limits.rows <= MOST_ROWS && !too_many(limits.vertices, limits.indices)
 }
 
 // Whether slices of these lengths have room for the limits.
+#[tactic(auto, unfolding(sheet_reader_state::specs::Slices::room_for))]
 fn room_for(
     limits: Limits,
     table: usize,
@@ -56,35 +53,23 @@ fn room_for(
     requires { Small limits }
     ensures { result ≡ room_for limits table positions normals indices materials }
 {
-    if table < ROW_WIDTH * limits.rows {
-        return false;
-    }
-    if positions < 3 * limits.vertices {
-        return false;
-    }
-    if normals < 3 * limits.vertices {
-        return false;
-    }
-    if indices < limits.indices {
-        return false;
-    }
-    (limits.face as usize) < materials
+    ROW_WIDTH * limits.rows <= table
+        && 3 * limits.vertices <= positions
+        && 3 * limits.vertices <= normals
+        && limits.indices <= indices
+        && (limits.face as usize) < materials
 }
 
 // Whether a reader counts no more than the limits.
+#[tactic(auto, unfolding(sheet_reader_state::specs::Slices::counts_in))]
 fn counts_in(limits: Limits, rows: usize, vertices: usize, indices: usize) -> bool
     ensures { result ≡ counts_in limits rows vertices indices }
 {
-    if limits.rows < rows {
-        return false;
-    }
-    if limits.vertices < vertices {
-        return false;
-    }
-    indices <= limits.indices
+    rows <= limits.rows && vertices <= limits.vertices && indices <= limits.indices
 }
 
 // Whether the limits are a body's, slices of these lengths have room for them, and the reader counts no more.
+#[tactic(auto, unfolding(sheet_reader_state::specs::Slices::in_limits))]
 pub fn in_limits(
     s: Reader,
     table: usize,
@@ -96,16 +81,13 @@ pub fn in_limits(
     ensures { result ≡ in_limits s table positions normals indices materials }
 {
     let limits = s.limits;
-    if !of_bodies(limits) {
-        return false;
-    }
-    if !room_for(limits, table, positions, normals, indices, materials) {
-        return false;
-    }
-    counts_in(limits, s.rows, s.vertices, s.indices)
+    of_bodies(limits)
+        && room_for(limits, table, positions, normals, indices, materials)
+        && counts_in(limits, s.rows, s.vertices, s.indices)
 }
 
 // Whether the slices, of these lengths, have room and hold what the reader counts.
+#[tactic(auto, unfolding(sheet_reader_state::specs::Slices::fits_in))]
 pub fn fits(
     s: Reader,
     table: &[u32],
@@ -116,12 +98,7 @@ pub fn fits(
 ) -> bool
     ensures { result ≡ fits_in s table.now positions normals indices materials }
 {
-    if !in_limits(s, table.len(), positions, normals, indices, materials) {
-        return false;
-    }
-    if s.indices % 3 != 0 {
-        return false;
-    }
-    let limits = s.limits;
-    last_fits(limits, s.place, s.rows, table)
+    in_limits(s, table.len(), positions, normals, indices, materials)
+        && s.indices % 3 == 0
+        && last_fits(s.limits, s.place, s.rows, table)
 }

@@ -5,21 +5,13 @@ ghost use Rattle.std.specs.Prelude.{◌≡◌, ◌∷◌, [], ◌+◌, ◌%◌, 
 ghost use Rattle.body_rows.specs.Body.{row_width};
 ghost use Rattle.sheet_storing.specs.Placed.{low_three, placed};
 
+use slice_append::put;
+
 // The low 32 bits.
 pub fn low(n: u64) -> u32
     ensures { result ≡ n % 2 ^ 32 }
 {
     (n % 4294967296) as u32
-}
-
-// Three numbers from a place on.
-pub fn store_three(s: &mut [u32], at: usize, a: u32, b: u32, c: u32)
-    requires { at + 3 ≤ length s.old }
-    ensures { s.new ≡ placed s.old at (a ∷ b ∷ c ∷ []) }
-{
-    s[at] = a;
-    s[at + 1] = b;
-    s[at + 2] = c;
 }
 
 // Three of some numbers, their low 32 bits, from a place on.
@@ -31,7 +23,7 @@ pub fn store_low(s: &mut [u32], at: usize, numbers: &[u64], i: usize)
     let a = low(numbers[i]);
     let b = low(numbers[i + 1]);
     let c = low(numbers[i + 2]);
-    store_three(s, at, a, b, c);
+    put(s, at, &[a, b, c]);
 }
 
 // A row from a place on, its counts 0.
@@ -39,12 +31,7 @@ pub fn store_row(s: &mut [u32], at: usize, shell: u32, face: u32, outcome: u32, 
     requires { at + row_width ≤ length s.old }
     ensures { s.new ≡ placed s.old at (shell ∷ face ∷ outcome ∷ 0 ∷ 0 ∷ bin ∷ []) }
 {
-    s[at] = shell;
-    s[at + 1] = face;
-    s[at + 2] = outcome;
-    s[at + 3] = 0;
-    s[at + 4] = 0;
-    s[at + 5] = bin;
+    put(s, at, &[shell, face, outcome, 0, 0, bin]);
 }
 
 // n more at a place.

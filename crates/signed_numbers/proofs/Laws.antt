@@ -1,34 +1,16 @@
 -- The laws of the range and of words, as the machine reads signed numbers. Assumes nothing.
-use mathlib.Core.Path.{◌≡◌, refl, sym, ap, ◌∙◌, subst}
-use mathlib.Core.Bool.{Bool, true, false}
-use Prim.Native.Nat.{ℕ, zero, suc, ◌+◌, ◌-◌, ◌^◌, ◌≤◌, ◌<◌}
+use mathlib.Core.Path.{◌≡◌, sym, ap, ◌∙◌, subst}
+use Prim.Native.Nat.{ℕ, ◌^◌, ◌≤◌}
 use native.Mathlib.Omega.{arith}
-use lib.Dec.{T, leb, ltb}
-use borrow.Author.Tests.{ltb-true, ltb-false, leb-true, leb-false, le-leb, lt-leb}
-use lib.IntN.{ℤ, pos, negsuc, nat_abs, ◌+ℤ◌, ◌-ℤ◌}
-use lib.Signed.{le_z, lt_z, non_neg, pos-nat_abs}
+use lib.Dec.{T}
+use lib.IntN.{ℤ, pos, nat_abs, ◌+ℤ◌, ◌-ℤ◌}
+use lib.Signed.{non_neg, pos-nat_abs}
 use mir.Syntax.{w64}
 use mir.Val.{Fits, SFits, to_z}
-use mir.ValLaws.{to_z-of_z, to_z_pos}
-use Rattle.signed_numbers.specs.Range.{farthest, within}
-use Rattle.signed_numbers.specs.Linear.{up, down, alone, abs, plus, minus, at_most, below}
+use mir.ValLaws.{to_z_pos}
+use Rattle.signed_numbers.specs.Range.{farthest}
+use Rattle.signed_numbers.specs.Linear.{down, alone, abs, plus, minus}
 use Rattle.signed_numbers.specs.Bits.{read, small_fits, small_read, not_negative}
-
--- ---- the range
-pub under_range : (x : ℤ) → SFits w64 x → lt_z (read x) (negsuc 1099511627775) ≡ true → false ≡ within x
-under_range x f e =
-    let test : ltb (up x + suc 1099511627775) (0 + down x) ≡ true = sym (below x (negsuc 1099511627775)) ∙ ap (λ (z : ℤ). lt_z z (negsuc 1099511627775)) (sym (to_z-of_z w64 x f)) ∙ e in
-    sym (lt-leb (nat_abs x) farthest (omega (arith, abs x, ltb-true (up x + suc 1099511627775) (0 + down x) test)))
-
-pub from_range : (x : ℤ) → SFits w64 x → lt_z (read x) (negsuc 1099511627775) ≡ false → le_z (read x) (pos 1099511627776) ≡ within x
-from_range x f e =
-    let test : ltb (up x + suc 1099511627775) (0 + down x) ≡ false = sym (below x (negsuc 1099511627775)) ∙ ap (λ (z : ℤ). lt_z z (negsuc 1099511627775)) (sym (to_z-of_z w64 x f)) ∙ e in
-    ap (λ (z : ℤ). le_z z (pos 1099511627776)) (to_z-of_z w64 x f) ∙ at_most x (pos 1099511627776)
-    ∙ go (leb (nat_abs x) farthest) refl (ltb-false (up x + suc 1099511627775) (0 + down x) test)
-  where
-    go : (b : Bool) → leb (nat_abs x) farthest ≡ b → 0 + down x ≤ up x + suc 1099511627775 → leb (up x + 0) (1099511627776 + down x) ≡ leb (nat_abs x) farthest
-    go true q l = le-leb (up x + 0) (1099511627776 + down x) (omega (arith, abs x, alone x, leb-true (nat_abs x) farthest q)) ∙ sym q
-    go false q l = lt-leb (up x + 0) (1099511627776 + down x) (omega (arith, abs x, alone x, leb-false (nat_abs x) farthest q)) ∙ sym q
 
 -- ---- the word of a number in range
 module _ (x : ℤ) (l : nat_abs x ≤ farthest) where

@@ -1,10 +1,10 @@
 -- What the machine asks of signed 64-bit numbers. A signed local holds bits: x is read as `to_z w64 (of_z w64 x)`. Assumes nothing.
-use Rattle.std.specs.Prelude.{◌≡◌, ℕ, zero, suc, ◌+◌, ◌^◌, ◌≤◌, ◌<◌, T, ℤ, pos, negsuc, nat_abs, ◌+ℤ◌, ◌-ℤ◌}
-use Rattle.std.proofs.Common.{sym, ap, ◌∙◌, subst, arith, Fits, SFits, to_z, of_z}
-use Rattle.std.specs.Int.Signed.{non_neg, pos-nat_abs}
+use Rattle.std.specs.Prelude.{◌≡◌, suc, ◌^◌, ◌≤◌, T, ℤ, pos, negsuc, nat_abs}
+use Rattle.std.proofs.Common.{arith, SFits, to_z, of_z}
+use Rattle.std.specs.Int.Signed.{non_neg}
 use Rattle.std.specs.Int.{w64}
-use Rattle.std.proofs.lemmas.Int.{to_z-of_z, to_z_pos}
-use Rattle.signed_numbers.specs.Linear.{up, down, mag_abs}
+use Rattle.std.proofs.lemmas.Int.{to_z-of_z}
+use Rattle.signed_numbers.specs.Linear.{down, mag_abs}
 
 -- as the machine reads it
 abbrev pub read : ℤ → ℤ

@@ -5,16 +5,13 @@ ghost use Rattle.std.specs.Prelude.{◌≡◌, ◌+◌, ◌^◌, ◌≤◌, pos,
 ghost use Rattle.signed_numbers.specs.Range.{farthest, within};
 
 // The farthest that an offset or a place is from zero, 2^40.
-const FARTHEST: i64 = 0x100_0000_0000;
+const FARTHEST: u64 = 0x100_0000_0000;
 
 // Whether a number is within plus or minus 2^40.
 pub fn in_range(x: i64) -> bool
     ensures { result ≡ within x }
 {
-    if x < -FARTHEST {
-        return false;
-    }
-    x <= FARTHEST
+    x.unsigned_abs() <= FARTHEST
 }
 
 // The word of a number in range: 2^40 more, so that it isn't negative.
@@ -22,7 +19,7 @@ pub fn word_of(x: i64) -> u64
     requires { nat_abs x ≤ farthest }
     ensures { pos result ≡ x +ℤ pos farthest }
 {
-    (x + FARTHEST) as u64
+    (x + FARTHEST as i64) as u64
 }
 
 // The number that is `bias` less than a word.

@@ -1,16 +1,15 @@
 -- A stretch written to a slice item by item, each item changed or not. Assumes nothing.
-use mathlib.Core.Path.{◌≡◌, refl, sym, ap, ◌∙◌, subst}
-use mathlib.Core.List.{List, [], ◌∷◌, map, map-append, map-id}
+use mathlib.Core.Path.{◌≡◌, refl, sym, ap, ◌∙◌}
+use mathlib.Core.List.{List, [], ◌∷◌, map, map-append}
 use Prim.Native.Nat.{ℕ, ◌+◌, ◌-◌, ◌<◌, ◌≤◌}
 use native.Mathlib.Nat.{le_antisymm}
 use native.Mathlib.Numerals.{add-one}
 use native.Mathlib.Omega.{arith}
 use lib.ListN.{length, get_or, take, drop, set, length-set, length-drop, length-map}
 use lib.Seq.{sets, take-suc, length-take-le, get_or-drop}
-use lib.Ieee.{Float}
 use Rattle.lists.specs.Sets.{sets_append}
 use Rattle.slice_append.specs.Appended.{Appended, appended_sets}
-use Rattle.slice_append.specs.Ready.{StretchReady, MovedReady}
+use Rattle.slice_append.specs.Ready.{MovedReady}
 
 module _ {A B : Type 0} (f : A → B) where
   -- the first k items of the stretch are written, each changed by f: old became ys
@@ -57,25 +56,6 @@ module _ {A B : Type 0} (f : A → B) where
       let n = end - start in
       let long = stretch_long from start n (omega arith) in
       appended_sets (omega arith) (c.list ∙ ap (λ (j : ℕ). sets old o (map f (take j (drop start from)))) (le_antisymm c.low h))
-
--- ---- floats as they are
-
--- the first k numbers of the stretch are written
-abbrev pub Copying : List Float → ℕ → ℕ → ℕ → List Float → ℕ → List Float → Type 0
-Copying from start end o old k ys = Stretching (λ (x : Float). x) from start end o old k ys
-
--- one more is
-pub copying_more : {from old ys : List Float} {start end o k : ℕ} (d : Float) → StretchReady from start end old o → Copying from start end o old k ys → k < end - start
-    → Copying from start end o old (k + 1) (set ys (o + k) (get_or from (start + k) d))
-copying_more d r c h = stretching_more (λ (x : Float). x) d r.order r.inside c h
-
--- all are
-pub copying_all : {from old ys : List Float} {start end o k : ℕ} → StretchReady from start end old o → Copying from start end o old k ys → end - start ≤ k
-    → Appended o (take (end - start) (drop start from)) old ys
-copying_all {from} {old} {ys} {start} {end} {o} r c h =
-    subst (λ (xs : List Float). Appended o xs old ys) (map-id (take (end - start) (drop start from))) (stretching_all (λ (x : Float). x) r.order r.inside r.room c h)
-
--- ---- indices moved
 
 -- the first k indices of the stretch are written, each with `base` added
 abbrev pub Moving : List ℕ → ℕ → ℕ → ℕ → ℕ → List ℕ → ℕ → List ℕ → Type 0

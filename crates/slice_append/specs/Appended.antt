@@ -4,11 +4,12 @@ use Rattle.std.proofs.Math.Path.{sym, ap}
 use Rattle.std.proofs.Common.{◌∙◌, subst, add-zero, arith, length-append, length-take, length-drop, take-append-drop, take_at, length-take-le, drop-drop}
 use mathlib.Core.List.{List, [], ◌++◌, append_assoc, append-nil}
 use Rattle.std.proofs.Math.Nat.{zero-add}
-use Rattle.std.proofs.Math.ListN.{length, take, drop}
+use Rattle.std.proofs.Math.ListN.{length, take, drop, replicate, length-replicate}
 use Rattle.std.proofs.lemmas.List.Edits.{sets, sets-eq}
 use Rattle.lists.specs.Lists.{written}
-use Rattle.lists.specs.Sets.{drop_sets}
+use Rattle.lists.specs.Sets.{drop_sets, part_sets}
 use Rattle.lists.specs.Stretches.{rest_less}
+use borrow.Rule.Slice.PartMut.{put_mid}
 
 -- `out` became `new`: from place o on the items xs were written, and all else is as it was
 pub record Appended {A : Type 0} (o : ℕ) (xs out new : List A) : Type 0 where
@@ -80,6 +81,14 @@ module _ {A : Type 0} where
         content = ap (take n) (e ∙ sets-eq xs out o h) ∙ take_at (take o out ++ xs) (drop n out) n long;
         rest = ap (drop n) e ∙ drop_sets out o xs n (omega arith);
       }
+
+  -- a part that was lent and came back with xs
+  pub appended_part : (o n : ℕ) {xs ys out : List A} → ys ≡ xs → length xs ≡ n → o + n ≤ length out → Appended o xs out (put_mid o n out ys)
+  appended_part o n {xs} {ys} {out} e long h = appended_sets (omega arith) (part_sets out o n ys (ap length e ∙ long) h ∙ ap (sets out o) e)
+
+  -- a front that was lent and was filled with one item
+  pub appended_filled : (n : ℕ) (x : A) {ys out : List A} → ys ≡ replicate (length (take n out)) x → n ≤ length out → Appended 0 (replicate n x) out (ys ++ drop n out)
+  appended_filled n x {ys} {out} e h = appended_part 0 n (e ∙ ap (λ (m : ℕ). replicate m x) (length-take-le n out h)) (length-replicate n x) (omega arith)
 
   -- what was appended behind p items that were appended is appended to them
   pub behind : {p : ℕ} {xs ys out mid new : List A} → Appended 0 xs out mid → length xs ≡ p → Appended p ys mid new → Appended 0 (xs ++ ys) out new

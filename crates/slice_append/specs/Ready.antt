@@ -1,13 +1,7 @@
--- What writing a stretch behind what a slice holds asks. Assumes nothing.
-use Rattle.std.specs.Prelude.{List, ℕ, ◌+◌, ◌-◌, ◌≤◌, ◌<◌, length, get_or, Float}
+-- What writing moved indices behind what a slice holds asks. Assumes nothing.
+use Rattle.std.specs.Prelude.{List, ℕ, ◌+◌, ◌-◌, ◌≤◌, ◌<◌, length, get_or}
 
--- what writing a stretch asks: it lies in the numbers read, and there is room for it from place o on
-pub record StretchReady (from : List Float) (start end : ℕ) (out : List Float) (o : ℕ) : Type 0 where
-  pub order : start ≤ end
-  pub inside : end ≤ length from
-  pub room : o + (end - start) ≤ length out
-
--- what writing moved indices asks: the same, and that each stays below 2 ^ 32 with `base` added
+-- what writing moved indices asks: they lie in the indices read, there is room for them from place o on, and each stays below 2 ^ 32 with `base` added
 pub record MovedReady (from : List ℕ) (start end base : ℕ) (out : List ℕ) (o : ℕ) : Type 0 where
   pub order : start ≤ end
   pub inside : end ≤ length from

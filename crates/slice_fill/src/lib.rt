@@ -9,11 +9,7 @@ pub fn fill(w: &mut [u64], from: usize, to: usize, x: u64)
     requires { to ≤ length w.old }
     ensures { w.new ≡ sets w.old from (replicate (to - from) x) }
 {
-    let mut k = from;
-    while k < to {
-        w[k] = x;
-        k += 1;
-    }
+    w[from.min(to)..to].fill(x);
 }
 
 // The first n words of w become 0.
@@ -21,5 +17,5 @@ pub fn clear(w: &mut [u64], n: usize)
     requires { n ≤ length w.old }
     ensures { w.new ≡ replicate n 0 ++ drop n w.old }
 {
-    fill(w, 0, n, 0);
+    w[..n].fill(0);
 }

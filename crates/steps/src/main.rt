@@ -21,7 +21,7 @@ fn take<W: Write>(output: &mut W, line: &mut [u8], k: usize, c: u8) -> io::Resul
     requires { k ≤ length line.old }
     ensures { IfOk result (λ n. n ≤ length line.old) }
 {
-    if c == 10 {
+    if c == b'\n' {
         show(output, &line[..k])?;
         return Ok(0);
     }
@@ -34,31 +34,24 @@ fn feed<W: Write>(output: &mut W, line: &mut [u8], n: usize, part: &[u8]) -> io:
     ensures { IfOk result (λ n. n ≤ length line.old) }
 {
     let mut k = n;
-    let mut i: usize = 0;
-    while i < part.len() {
-        k = take(output, line, k, part[i])?;
-        i += 1;
+    for c in part {
+        k = take(output, line, k, *c)?;
     }
     Ok(k)
 }
 
 // Reads to the end of the input, or up to a read that fails; answers how many bytes it has after the last line feed, or 41 where these are more. A read that a
-// signal interrupted is made again. The loop counts its turns down, from a number that no run uses up, since nothing says that the input ends.
+// signal interrupted is made again. The loop has a number of turns that no run uses up, since nothing says that the input ends.
 fn read_all<R: Read, W: Write>(input: &mut R, output: &mut W) -> io::Result<usize> {
     let mut line = [0u8; 41];
     let mut n: usize = 0;
-    let mut turns = u64::MAX;
-    while turns > 0 {
-        turns -= 1;
+    for _turn in 0..u64::MAX {
         let mut buf = [0u8; 4096];
         match input.read(&mut buf) {
             Ok(0) => return Ok(n),
             Ok(count) => n = feed(output, &mut line, n, &buf[..count])?,
-            Err(e) => {
-                if e.kind() != ErrorKind::Interrupted {
-                    return Ok(n);
-                }
-            }
+            Err(e) if e.kind() == ErrorKind::Interrupted => {}
+            Err(_) => return Ok(n),
         }
     }
     Ok(n)

@@ -1,6 +1,7 @@
 // stitch: cracks between the patches of a body closed, into second slices.
 
 ghost use Rattle.std.specs.Prelude.{◌≡◌, ◌+◌, ◌*◌, length};
+ghost use Rattle.refusals.specs.Numbers.{numbered};
 ghost use Rattle.point_rules.specs.Rule.{names};
 ghost use Rattle.point_rules.specs.Points.{key};
 ghost use Rattle.body_rows.specs.Body.{rows_of, patches_of};
@@ -9,8 +10,10 @@ ghost use Rattle.stitch_definition.specs.Stitch.{stitch_body, stitch_of, stitch_
 ghost use Rattle.stitch_definition.specs.Answers.{slices_of, left_stitch, stitch_answered};
 ghost use Rattle.stitch_result_checks.specs.Stitched.{StitchReady, BodyStitched};
 
+use body_checks::first_failing;
+use refusals::Refusal;
 use stitch_accepted::{stitch_nothing, stitch_open};
-use stitch_definition::Stitched;
+use stitch_definition::Sizes;
 
 // A body of v vertices and m rows is stitched; a sag not above 0 splits nothing.
 fn stitch_rows(
@@ -26,13 +29,13 @@ fn stitch_rows(
     w: &mut [u64],
     v: usize,
     m: usize,
-) -> Stitched
+) -> Result<Sizes, Refusal>
     requires { StitchReady rows.now positions.now normals.now indices.now w.old v m }
     ensures { BodyStitched (stitch_body sag (names key positions.now)
         (patches_of (rows_of rows.now) positions.now normals.now indices.now))
         out_rows.old out_rows.new out_positions.old out_positions.new out_normals.old
         out_normals.new
-        out_indices.old out_indices.new (16 * length indices.now + 16 * m + 4 * v) w.old w.new result }
+        out_indices.old out_indices.new (16 * length indices.now + 16 * m + 4 * v) w.old w.new (numbered result) }
 {
     if sag > 0.0 {
         return stitch_open(
@@ -77,9 +80,9 @@ fn stitch_accepted(
     out_normals: &mut [f32],
     out_indices: &mut [u32],
     work: &mut [u64],
-) -> Stitched
+) -> Result<Sizes, Refusal>
     requires { Passed rows.now positions.now normals.now indices.now (length work.old) }
-    ensures { left_stitch result (slices_of out_rows.new out_positions.new out_normals.new out_indices.new
+    ensures { left_stitch (numbered result) (slices_of out_rows.new out_positions.new out_normals.new out_indices.new
         work.new)
         ≡ stitch_answered (stitch_accepted rows.now positions.now normals.now indices.now sag
         (slices_of out_rows.old out_positions.old out_normals.old out_indices.old work.old)) }
@@ -105,7 +108,7 @@ fn stitch_accepted(
 }
 
 // Cracks between the patches of a body are closed: points of its open edges that stand in an edge split the edge's triangle.
-// The stitched body goes to the second slices. A body that fails a check is refused with the check's number, and the second slices keep their content.
+// The stitched body goes to the second slices. A body that fails a check is refused with the first that it fails, and the second slices keep their content.
 pub fn stitch(
     rows: &[u32],
     positions: &[f32],
@@ -117,26 +120,23 @@ pub fn stitch(
     out_normals: &mut [f32],
     out_indices: &mut [u32],
     work: &mut [u64],
-) -> Stitched
-    ensures { left_stitch result (slices_of out_rows.new out_positions.new out_normals.new out_indices.new
+) -> Result<Sizes, Refusal>
+    ensures { left_stitch (numbered result) (slices_of out_rows.new out_positions.new out_normals.new out_indices.new
         work.new)
         ≡ stitch_answered (stitch_of key rows.now positions.now normals.now indices.now sag
         (slices_of out_rows.old out_positions.old out_normals.old out_indices.old work.old)) }
 {
-    let refusal = body_checks::first_failing(rows, positions, normals, indices, work.len());
-    if refusal == 0 {
-        return stitch_accepted(
-            rows,
-            positions,
-            normals,
-            indices,
-            sag,
-            out_rows,
-            out_positions,
-            out_normals,
-            out_indices,
-            work,
-        );
-    }
-    Stitched::Refused(refusal)
+    first_failing(rows, positions, normals, indices, work.len())?;
+    stitch_accepted(
+        rows,
+        positions,
+        normals,
+        indices,
+        sag,
+        out_rows,
+        out_positions,
+        out_normals,
+        out_indices,
+        work,
+    )
 }

@@ -1,5 +1,6 @@
 -- Laws of closing: the result of a body is refused, written or copied. Assumes nothing.
-use mathlib.Core.Path.{◌≡◌, refl, sym, ap, ◌∙◌}
+use Rattle.std.specs.Prelude.{Result, Ok, Err}
+use mathlib.Core.Path.{◌≡◌, refl, sym, ap, ◌∙◌, subst}
 use mathlib.Core.Bool.{true, false}
 use mathlib.Core.List.{List}
 use Prim.Native.Nat.{ℕ, ◌+◌, ◌*◌, ◌<◌, ◌≤◌}
@@ -12,13 +13,15 @@ use Rattle.float_steps.specs.Floats as Floats
 use Rattle.float_steps.specs.Patterns.{test_holds}
 use Rattle.float_spans.specs.Small.{Single}
 use Rattle.lists.specs.Lists.{written}
+use Rattle.refusals.specs.declared.Refusal.{Refusal}
+use Rattle.refusals.specs.Numbers.{number, numbered}
+use Rattle.stitch_definition.specs.declared.Sizes.{Sizes}
 use Rattle.point_rules.specs.Rule.{names}
 use Rattle.point_rules.specs.Points.{key}
 use Rattle.body_rows.specs.Body.{rows_of, patches_of, first_failing}
 use Rattle.body_checks.specs.Accepted.{passed_rows}
 use Rattle.stitch_splits.specs.declared.finder.Finder.{Finder}
-use Rattle.stitch_definition.specs.declared.Stitched.TheVariants.{Done, Refused}
-use Rattle.stitch_definition.specs.StitchedBody.{stitched_body}
+use Rattle.stitch_definition.specs.StitchedBody.{StitchedBody, stitched_body}
 use Rattle.stitch_copy.specs.Copied.{BodyRoom, BodyCopied, flat_rows, flat_positions, flat_normals, flat_indices, flat_table}
 use Rattle.stitch_count.specs.Counting.{BodyCounted}
 use Rattle.stitch_count.specs.Prepared.{Preparable, Prepared}
@@ -100,7 +103,7 @@ module _ {table : List ℕ} {ps ns : List Float} {is W : List ℕ} {v m : ℕ} (
       (e : refusal ≡ first_failing (result_checks (v + kept) (length is + 3 * kept) m (length R) (length P) (length N) (length I))) where
     -- the result is refused
     pub open_refused : (refusal ≡ 0 → ⊥)
-        → BodyStitched (stitched_body sag (names key ps) (patches_of (rows_of table) ps ns is)) R R P P N N I I (16 * length is + 16 * m + 4 * v) W X (Refused refusal)
+        → BodyStitched (stitched_body sag (names key ps) (patches_of (rows_of table) ps ns is)) R R P P N N I I (16 * length is + 16 * m + 4 * v) W X (Err refusal)
     open_refused n =
         record {
           same = λ work.
@@ -130,14 +133,14 @@ module _ {table : List ℕ} {ps ns : List Float} {is W : List ℕ} {v m : ℕ} (
 
     -- or copied, if there is no new vertex
     pub open_puttable : length X ≡ length E → refusal ≡ 0
-        → Puttable table ps ns is f.sag f.beyond f.v f.list f.count f.at f.ts f.flags f.order f.boxes f.top kept X R P N I
+        → Puttable table ps ns is f kept X R P N I
     open_puttable l z = let r = open_fits z in record { writable = open_writable l z; kept_is = sym (kept_there ns p c r.vertices r.indices) }
 
     -- it was
     pub open_done : {F R' : List ℕ} {P' N' : List Float} {I' : List ℕ} → length X ≡ length E → refusal ≡ 0
         → BodyWritten table ps ns is f.sag f.v f.list f.count f.at f.ts f.flags X F R R' P P' N N' I I'
         → BodyStitched (stitched_body sag (names key ps) (patches_of (rows_of table) ps ns is)) R R' P P' N N' I I' (16 * length is + 16 * m + 4 * v) W F
-        (Done (record { vertices = v + kept; indices = length is + 3 * kept; splits = found }))
+        (Ok (record { vertices = v + kept; indices = length is + 3 * kept; splits = found }))
     open_done {F} {R'} {P'} {N'} {I'} l z d =
         let r = open_fits z in
         let k = kept_is ns p c r.vertices r.indices in
@@ -155,7 +158,7 @@ module _ {table : List ℕ} {ps ns : List Float} {is W : List ℕ} {v m : ℕ} (
   module _ {refusal : ℕ} (R : List ℕ) (P N : List Float) (I : List ℕ) (e : refusal ≡ first_failing (result_checks v (length is) m (length R) (length P) (length N) (length I))) where
     -- the copy is refused
     pub nothing_refused : (refusal ≡ 0 → ⊥)
-        → BodyStitched (record { patches = patches_of (rows_of table) ps ns is; splits = 0 }) R R P P N N I I (16 * length is + 16 * m + 4 * v) W W (Refused refusal)
+        → BodyStitched (record { patches = patches_of (rows_of table) ps ns is; splits = 0 }) R R P P N N I I (16 * length is + 16 * m + 4 * v) W W (Err refusal)
     nothing_refused n =
         record {
           same = λ work. result_refused (record { patches = patches_of (rows_of table) ps ns is; splits = 0 }) (flat_rows (rows_of table) ps ns is) R P N I work g.vertices g.passed.all_indices_lem
@@ -180,7 +183,7 @@ module _ {table : List ℕ} {ps ns : List Float} {is W : List ℕ} {v m : ℕ} (
     -- it was
     pub nothing_done : {R' : List ℕ} {P' N' : List Float} {I' : List ℕ} → refusal ≡ 0 → BodyCopied table ps ns is R P N I R' P' N' I'
         → BodyStitched (record { patches = patches_of (rows_of table) ps ns is; splits = 0 }) R R' P P' N N' I I' (16 * length is + 16 * m + 4 * v) W W
-        (Done (record { vertices = v; indices = length is; splits = 0 }))
+        (Ok (record { vertices = v; indices = length is; splits = 0 }))
     nothing_done {R'} {P'} {N'} {I'} z d =
         record {
           same = λ work.
@@ -192,3 +195,8 @@ module _ {table : List ℕ} {ps ns : List Float} {is W : List ℕ} {v m : ℕ} (
               (d.indices ∙ ap (λ (xs : List ℕ). written xs I) (sym (flat_indices (rows_of table) ps ns is g.passed.all_indices_lem)));
           rest = refl;
         }
+
+-- a refusal passed on is told by its number
+pub body_told : {s : StitchedBody} {R R' : List ℕ} {P P' N N' : List Float} {I I' : List ℕ} {needed : ℕ} {W E : List ℕ} {r : Result Sizes Refusal} {e : Refusal} → r ≡ Err e
+    → BodyStitched s R R' P P' N N' I I' needed W E (Err (number e)) → BodyStitched s R R' P P' N N' I I' needed W E (numbered r)
+body_told {s} {R} {R'} {P} {P'} {N} {N'} {I} {I'} {needed} {W} {E} h b = subst (λ (a : Result Sizes ℕ). BodyStitched s R R' P P' N N' I I' needed W E a) (sym (ap numbered h)) b

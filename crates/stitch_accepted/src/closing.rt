@@ -1,16 +1,18 @@
 // The cracks of an accepted body closed, or the body copied, if the result passes its checks.
 
 ghost use Rattle.std.specs.Prelude.{◌+◌, ◌*◌, length};
+ghost use Rattle.refusals.specs.Numbers.{numbered};
 ghost use Rattle.point_rules.specs.Rule.{names};
 ghost use Rattle.point_rules.specs.Points.{key};
 ghost use Rattle.body_rows.specs.Body.{rows_of, patches_of};
 ghost use Rattle.stitch_definition.specs.StitchedBody.{stitched_body};
 ghost use Rattle.stitch_result_checks.specs.Stitched.{StitchReady, BodyStitched};
 
+use refusals::Refusal;
 use stitch_copy::{copy_body, put_body};
 use stitch_count::count_splits;
 use stitch_count::prepare::prepare;
-use stitch_definition::{Sizes, Stitched};
+use stitch_definition::Sizes;
 use stitch_result_checks::result_failing;
 use stitch_triangle::Tally;
 
@@ -28,20 +30,20 @@ pub fn stitch_open(
     w: &mut [u64],
     v: usize,
     m: usize,
-) -> Stitched
+) -> Result<Sizes, Refusal>
     requires { StitchReady rows.now positions.now normals.now indices.now w.old v m }
     ensures { BodyStitched (stitched_body sag (names key positions.now)
         (patches_of (rows_of rows.now) positions.now normals.now indices.now))
         out_rows.old out_rows.new out_positions.old out_positions.new out_normals.old
         out_normals.new
-        out_indices.old out_indices.new (16 * length indices.now + 16 * m + 4 * v) w.old w.new result }
+        out_indices.old out_indices.new (16 * length indices.now + 16 * m + 4 * v) w.old w.new (numbered result) }
 {
     let n = indices.len();
     let f = prepare(rows, positions, indices, w, v, m, sag);
     let t: Tally = count_splits(rows, positions, indices, w, f);
     let vertices = v + t.placed;
     let total = n + 3 * t.placed;
-    let failing = result_failing(
+    result_failing(
         vertices,
         total,
         m,
@@ -49,28 +51,25 @@ pub fn stitch_open(
         out_positions,
         out_normals,
         out_indices,
+    )?;
+    put_body(
+        rows,
+        positions,
+        normals,
+        indices,
+        w,
+        f,
+        t.placed,
+        out_rows,
+        out_positions,
+        out_normals,
+        out_indices,
     );
-    if failing == 0 {
-        put_body(
-            rows,
-            positions,
-            normals,
-            indices,
-            w,
-            f,
-            t.placed,
-            out_rows,
-            out_positions,
-            out_normals,
-            out_indices,
-        );
-        return Stitched::Done(Sizes {
-            vertices: vertices as u32,
-            indices: total as u32,
-            splits: t.found,
-        });
-    }
-    Stitched::Refused(failing)
+    Ok(Sizes {
+        vertices: vertices as u32,
+        indices: total as u32,
+        splits: t.found,
+    })
 }
 
 // A body of v vertices and m rows is copied if it passes the checks of the result.
@@ -86,7 +85,7 @@ pub fn stitch_nothing(
     w: &[u64],
     v: usize,
     m: usize,
-) -> Stitched
+) -> Result<Sizes, Refusal>
     requires { StitchReady rows.now positions.now normals.now indices.now w.now v m }
     ensures { BodyStitched (record {
       patches = patches_of (rows_of rows.now) positions.now normals.now
@@ -95,26 +94,23 @@ pub fn stitch_nothing(
     })
         out_rows.old out_rows.new out_positions.old out_positions.new out_normals.old
         out_normals.new
-        out_indices.old out_indices.new (16 * length indices.now + 16 * m + 4 * v) w.now w.now result }
+        out_indices.old out_indices.new (16 * length indices.now + 16 * m + 4 * v) w.now w.now (numbered result) }
 {
     let n = indices.len();
-    let refused = result_failing(v, n, m, out_rows, out_positions, out_normals, out_indices);
-    if refused == 0 {
-        copy_body(
-            rows,
-            positions,
-            normals,
-            indices,
-            out_rows,
-            out_positions,
-            out_normals,
-            out_indices,
-        );
-        return Stitched::Done(Sizes {
-            vertices: v as u32,
-            indices: n as u32,
-            splits: 0,
-        });
-    }
-    Stitched::Refused(refused)
+    result_failing(v, n, m, out_rows, out_positions, out_normals, out_indices)?;
+    copy_body(
+        rows,
+        positions,
+        normals,
+        indices,
+        out_rows,
+        out_positions,
+        out_normals,
+        out_indices,
+    );
+    Ok(Sizes {
+        vertices: v as u32,
+        indices: n as u32,
+        splits: 0,
+    })
 }

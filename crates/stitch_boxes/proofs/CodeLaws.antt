@@ -31,44 +31,8 @@ end_no h k = rw k
 abbrev made : Float → Float → Span
 made a b = record { low = a; high = b }
 
--- a span cut to what counts, by its ends
-pub inside_is : (u : Span) {a b : Float} → a ≡ start_of u.low → b ≡ end_of u.high → made a b ≡ inside u
-inside_is u {a} {b} h k = ap (λ (z : Float). made z b) h ∙ ap (made (start_of u.low)) k
-
 abbrev box : Span → Span → Span → Bounds
 box a b c = record { x = a; y = b; z = c }
-
--- a box by its spans
-pub box_is : {a b c a' b' c' : Span} → a ≡ a' → b ≡ b' → c ≡ c' → box a b c ≡ box a' b' c'
-box_is {a} {b} {c} {a'} {b'} {c'} h k l = ap (λ (z : Span). box z b c) h ∙ ap (λ (z : Span). box a' z c) k ∙ ap (box a' b') l
-
--- the box of nothing, by one empty span
-pub empty_is : {a : Span} → a ≡ empty → box a a a ≡ empty_box
-empty_is h = box_is h h h
-
--- the box of a point, by its spans
-pub point_is : (p : Vec3) {a b c : Span} → a ≡ one p.x → b ≡ one p.y → c ≡ one p.z → box a b c ≡ point_box p
-point_is p h k l = box_is h k l
-
--- a hull, by its parts
-pub hull_is : (A B : Bounds) {a b c : Span} → a ≡ hull A.x B.x → b ≡ hull A.y B.y → c ≡ hull A.z B.z → box a b c ≡ hull_v A B
-hull_is A B h k l = box_is h k l
-
--- the ways from p, by their spans
-pub less_is : (B : Bounds) (p : Vec3) {a b c : Span} → a ≡ less binary64 B.x p.x → b ≡ less binary64 B.y p.y → c ≡ less binary64 B.z p.z → box a b c ≡ less_v B p
-less_is B p h k l = box_is h k l
-
--- the products with d, by their spans
-pub dot_is : (B : Bounds) (d : Vec3) {a b c e g : Span} → a ≡ times binary64 B.x d.x → b ≡ times binary64 B.y d.y → c ≡ times binary64 B.z d.z
-    → e ≡ plus binary64 a b → g ≡ plus binary64 e c → g ≡ dot_v B d
-dot_is B d {a} {b} {c} {e} {g} h k l m n =
-    n ∙ ap (λ (z : Span). plus binary64 z c) (m ∙ ap (λ (z : Span). plus binary64 z b) h ∙ ap (plus binary64 (times binary64 B.x d.x)) k)
-    ∙ ap (plus binary64 (plus binary64 (times binary64 B.x d.x) (times binary64 B.y d.y))) l
-
--- one axis, step by step
-pub way_is : (w u : Span) (c : Float) {a b : Span} {z : Float} → a ≡ times binary64 u c → b ≡ minus binary64 w a → z ≡ least_square binary64 b
-    → z ≡ least_square binary64 (minus binary64 w (times binary64 u c))
-way_is w u c h k l = l ∙ ap (least_square binary64) (k ∙ ap (minus binary64 w) h)
 
 -- on one axis
 abbrev way : Span → Span → Float → Float

@@ -64,9 +64,9 @@ impl Bounds {
         let y = self.y;
         let z = self.z;
         Bounds {
-            x: x.less(p.x),
-            y: y.less(p.y),
-            z: z.less(p.z),
+            x: x - p.x,
+            y: y - p.y,
+            z: z - p.z,
         }
     }
 
@@ -77,10 +77,7 @@ impl Bounds {
         let x = self.x;
         let y = self.y;
         let z = self.z;
-        let a = x.times(d.x);
-        let b = y.times(d.y);
-        let c = z.times(d.z);
-        a.plus(b).plus(c)
+        x * d.x + y * d.y + z * d.z
     }
 }
 
@@ -118,7 +115,7 @@ fn inside(u: Span) -> Span
 fn least_way(w: Span, u: Span, c: f64) -> f64
     ensures { result ≡ least_square binary64 (minus binary64 w (times binary64 u c)) }
 {
-    w.minus(u.times(c)).least_square()
+    (w - u * c).least_square()
 }
 
 // The least square of the distance, for ways in w and parameters in u.
@@ -145,7 +142,7 @@ pub fn far(b: Bounds, s: Edge, beyond: f64) -> bool
     if least_off(w, along, all) > beyond {
         return true;
     }
-    let u = inside(w.dot(along).over(s.squared));
+    let u = inside(w.dot(along) / s.squared);
     let d = least_off(w, along, u);
     (u.low > u.high) | (d > beyond)
 }

@@ -1,6 +1,6 @@
 -- Laws of a body without a new vertex: what is written is the body itself. Assumes nothing.
 use mathlib.Core.Path.{◌≡◌, refl, sym, ap, ◌∙◌}
-use mathlib.Core.Bool.{false}
+use Rattle.std.specs.Prelude.{None}
 use mathlib.Core.List.{List, [], ◌∷◌, ◌++◌, append-nil, flat_map}
 use Prim.Native.Nat.{ℕ, suc, ◌+◌, ◌*◌, ◌%◌, ◌<◌}
 use native.Mathlib.Omega.{arith}
@@ -48,7 +48,7 @@ module _ (sag : Float) (ps : List Float) (nms gs : List ℕ) where
   row_indices_none base next (o ∷ p ∷ q ∷ flags) (a ∷ b ∷ c ∷ xs) e m z =
       let x = view_of sag ps nms gs base o p q (record { a = a; b = b; c = c }) in
       let rest = row_views sag ps nms gs base flags (triangles_of xs) in
-      ap (λ (C : List Entry). fan_go a false 0 (ring_after b c next C) ++ row_indices (next + length C) rest) (no_items x.kept (omega arith))
+      ap (λ (C : List Entry). fan_go a None (ring_after b c next C) ++ row_indices (next + length C) rest) (no_items x.kept (omega arith))
       ∙ ap (λ (ys : List ℕ). a ∷ b ∷ c ∷ ys) (row_indices_none base (next + 0) flags xs (omega arith) (omega arith) (omega arith))
 
 -- ---- all rows

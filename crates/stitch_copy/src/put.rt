@@ -1,6 +1,6 @@
 // The stitched body put into the second slices.
 
-ghost use Rattle.stitch_write.specs.Writing.{BodyWritten};
+ghost use Rattle.stitch_write.specs.ByFinder.{BodyWritten};
 ghost use Rattle.stitch_copy.specs.Put.{Puttable};
 
 use crate::copy::copy_body;
@@ -21,11 +21,9 @@ pub fn put_body(
     out_normals: &mut [f32],
     out_indices: &mut [u32],
 )
-    requires { Puttable rows.now positions.now normals.now indices.now f.sag f.beyond f.v f.list f.count f.at f.ts
-        f.flags f.order f.boxes f.top kept
+    requires { Puttable rows.now positions.now normals.now indices.now f kept
         w.old out_rows.old out_positions.old out_normals.old out_indices.old }
-    ensures { BodyWritten rows.now positions.now normals.now indices.now f.sag f.v f.list f.count
-        f.at f.ts f.flags
+    ensures { BodyWritten rows.now positions.now normals.now indices.now f
         w.old w.new out_rows.old out_rows.new out_positions.old out_positions.new
         out_normals.old out_normals.new out_indices.old out_indices.new }
 {

@@ -1,5 +1,5 @@
 -- The stitched body as the code makes it: each triangle with the entries that it keeps, and what they add to rows and slices. Assumes nothing.
-use Rattle.std.specs.Prelude.{false, not, ℕ, ◌+◌, ◌*◌, length, get_or, take, drop, eqb, Float}
+use Rattle.std.specs.Prelude.{None, false, not, ℕ, ◌+◌, ◌*◌, length, get_or, take, drop, eqb, Float}
 use mathlib.Core.List.{List, [], ◌∷◌, ◌++◌, flat_map}
 use Rattle.lists.specs.Lists.{sum_of}
 use Rattle.body_rows.specs.Body.{Row, Triangle, triangles_of}
@@ -67,7 +67,7 @@ row_normals ns base vs = flat_map (λ x. new_normals ns (base + x.a) (base + x.b
 -- the indices of a row's triangles, the first new vertex being `next`
 unfoldable pub row_indices : ℕ → List View → List ℕ
 row_indices next [] = []
-row_indices next (x ∷ xs) = fan_go x.a false 0 (ring_after x.b x.c next x.kept) ++ row_indices (next + length x.kept) xs
+row_indices next (x ∷ xs) = fan_go x.a None (ring_after x.b x.c next x.kept) ++ row_indices (next + length x.kept) xs
 
 -- a row with its new counts
 abbrev pub viewed_row : Row → List View → Row

@@ -3,18 +3,8 @@
 ghost use Rattle.std.specs.Prelude.{◌≡◌, get_or};
 ghost use Rattle.patch_geometry.specs.Geometry.{point_at};
 ghost use Rattle.stitch_projection.specs.Projection.{edge_of};
-ghost use Rattle.stitch_count.specs.Counting.{
-  EdgeReady,
-  SidesReady,
-  sides_in,
-  TriangleReady,
-  TriangleDone,
-  TriangleCounted,
-  RowReady,
-  RowCounted,
-  BodyReady,
-  BodyCounted,
-};
+ghost use Rattle.stitch_count.specs.Counting.{EdgeReady, SidesReady, sides_in};
+ghost use Rattle.stitch_count.specs.ByFinder.{TriangleReady, TriangleDone, TriangleCounted, RowReady, RowCounted, BodyReady, BodyCounted};
 
 use body_table_checks::too_many;
 use slice_fill::fill;
@@ -85,10 +75,8 @@ pub fn find_splits(
     base: usize,
     k: usize,
 ) -> Tally
-    requires { TriangleReady positions.now indices.now f.sag f.beyond n f.v f.list f.count f.at f.ts
-        f.flags f.order f.boxes f.top base k w.old }
-    ensures { TriangleDone positions.now indices.now f.sag f.v f.list f.count f.at f.ts f.flags base k
-        w.old w.new result.found result.placed }
+    requires { TriangleReady positions.now indices.now f n base k w.old }
+    ensures { TriangleDone positions.now indices.now f base k w.old w.new result }
 {
     let is_open = stitch_gather::any_set(w, f.flags + k);
     if is_open {
@@ -111,10 +99,8 @@ fn count_open(
     base: usize,
     k: usize,
 ) -> Tally
-    requires { TriangleReady positions.now indices.now f.sag f.beyond n f.v f.list f.count f.at f.ts
-        f.flags f.order f.boxes f.top base k w.old }
-    ensures { TriangleCounted positions.now indices.now f.sag f.v f.list f.count f.at f.ts f.flags base k
-        w.old w.new result.found result.placed }
+    requires { TriangleReady positions.now indices.now f n base k w.old }
+    ensures { TriangleCounted positions.now indices.now f base k w.old w.new result }
 {
     let r = find_splits(positions, indices, w, f, n, base, k);
     if r.found == 0 {
@@ -133,10 +119,8 @@ fn count_triangle(
     base: usize,
     k: usize,
 ) -> Tally
-    requires { TriangleReady positions.now indices.now f.sag f.beyond n f.v f.list f.count f.at f.ts
-        f.flags f.order f.boxes f.top base k w.old }
-    ensures { TriangleCounted positions.now indices.now f.sag f.v f.list f.count f.at f.ts f.flags base k
-        w.old w.new result.found result.placed }
+    requires { TriangleReady positions.now indices.now f n base k w.old }
+    ensures { TriangleCounted positions.now indices.now f base k w.old w.new result }
 {
     let is_open = stitch_gather::any_set(w, f.flags + k);
     if is_open {
@@ -159,67 +143,46 @@ fn count_row(
     vertices: usize,
     from: usize,
     to: usize,
-    found: u64,
-    kept: usize,
+    before: Tally,
 ) -> Tally
-    requires { RowReady positions.now indices.now f.sag f.beyond n f.v f.list f.count f.at f.ts
-        f.flags f.order f.boxes f.top base vertices from to found kept w.old }
-    ensures { RowCounted positions.now indices.now f.sag f.v f.list f.count f.at f.ts
-        f.flags base from to found kept
-        w.old w.new result.found result.placed }
+    requires { RowReady positions.now indices.now f n base vertices from to before w.old }
+    ensures { RowCounted positions.now indices.now f base from to before w.old w.new result }
 {
-    let mut total = found;
-    let mut new = kept;
-    let mut k = from;
-    while k < to {
-        if too_many(f.v + new, n + 3 * new) {
-            return Tally {
-                found: total,
-                placed: new,
-            };
+    let mut t = before;
+    for k in (from..to).step_by(3) {
+        if too_many(f.v + t.placed, n + 3 * t.placed) {
+            return t;
         }
         let r = count_triangle(positions, indices, w, f, n, base, k);
-        total += r.found;
-        new += r.placed;
-        k += 3;
+        t = Tally {
+            found: t.found + r.found,
+            placed: t.placed + r.placed,
+        };
     }
-    Tally {
-        found: total,
-        placed: new,
-    }
+    t
 }
 
 // The splits of all rows, counted one after another.
 fn count_rows(rows: &[u32], positions: &[f32], indices: &[u32], w: &mut [u64], f: Finder) -> Tally
-    requires { BodyReady rows.now positions.now indices.now f.sag f.beyond f.v f.list f.count f.at f.ts
-        f.flags f.order f.boxes f.top w.old }
-    ensures { BodyCounted rows.now positions.now indices.now f.sag f.v f.list f.count f.at f.ts
-        f.flags
-        w.old w.new result.found result.placed }
+    requires { BodyReady rows.now positions.now indices.now f w.old }
+    ensures { BodyCounted rows.now positions.now indices.now f w.old w.new result }
 {
     let n = indices.len();
     let m = body_rows::row_count(rows);
-    let mut total = 0u64;
-    let mut new = 0usize;
+    let mut t = Tally {
+        found: 0,
+        placed: 0,
+    };
     let mut base = 0usize;
     let mut i = 0usize;
-    let mut k = 0usize;
-    while k < m {
+    for k in 0..m {
         let vertices = body_rows::vertices(rows, k) as usize;
         let end = i + body_rows::indices(rows, k) as usize;
-        let r = count_row(
-            positions, indices, w, f, n, base, vertices, i, end, total, new,
-        );
-        total = r.found;
-        new = r.placed;
+        t = count_row(positions, indices, w, f, n, base, vertices, i, end, t);
         base += vertices;
         i = end;
-        k += 1;
     }
-    Tally {
-        found: total,
-        placed: new,
-    }
+    t
 }
 
 // The splits of all triangles, and how many new vertices they make; of a result that is too large only as many as show it. A body without a loose vertex has
@@ -231,11 +194,8 @@ pub fn count_splits(
     w: &mut [u64],
     f: Finder,
 ) -> Tally
-    requires { BodyReady rows.now positions.now indices.now f.sag f.beyond f.v f.list f.count f.at f.ts
-        f.flags f.order f.boxes f.top w.old }
-    ensures { BodyCounted rows.now positions.now indices.now f.sag f.v f.list f.count f.at f.ts
-        f.flags
-        w.old w.new result.found result.placed }
+    requires { BodyReady rows.now positions.now indices.now f w.old }
+    ensures { BodyCounted rows.now positions.now indices.now f w.old w.new result }
 {
     if f.count == 0 {
         return Tally {

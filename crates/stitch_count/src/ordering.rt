@@ -9,10 +9,8 @@ fn rank_vertices(w: &mut [u64], v: usize, list: usize, count: usize, order: usiz
     requires { RankReady v list count order w.old }
     ensures { Ranked list count order w.old w.new }
 {
-    let mut j = 0usize;
-    while j < count {
+    for j in 0..count {
         w[order + j] = j as u64 * EDGE_STEP + w[list + j];
-        j += 1;
     }
 }
 

@@ -17,27 +17,7 @@ use Rattle.stitch_entries.specs.PairEntries.{entry_of_words, pair_entry_at, clos
 
 -- ---- whether a pair is close to an entry
 
-module _ (W : List ℕ) (at ts j k : ℕ) {a b : ℕ} (f : a ≡ get_or W (ts + j) 0 / 4611686018427387904) (g : b ≡ get_or W (at + k) 0 / 262144) where
-  -- they are on one edge
-  pub close_same : {p q : Float} {r : Bool} → a ≡ b → p ≡ f64 (get_or W (ts + j) 0 % 4611686018427387904) → q ≡ f64 (get_or W (ts + k) 0) → r ≡ lt (absolute (sub p q)) near_last
-      → r ≡ close_to (entry_at W at ts k) (pair_entry_at W at ts j)
-  close_same {p} {q} {r} e u v h =
-      h ∙ rw (eq-eqb (get_or W (ts + j) 0 / 4611686018427387904) (get_or W (at + k) 0 / 262144) (sym f ∙ e ∙ g)) (λ i. lt (absolute (sub (u i) (v i))) near_last)
-
-  -- they are on two
-  pub close_other : (a ≡ b → ⊥) → false ≡ close_to (entry_at W at ts k) (pair_entry_at W at ts j)
-  close_other n = rw (ne_eqb (get_or W (ts + j) 0 / 4611686018427387904) (get_or W (at + k) 0 / 262144) (λ z. n (f ∙ z ∙ sym g)))
-
 -- ---- whether two pairs are close
-
-module _ (x y : ℕ) {a b : ℕ} (f : a ≡ y / 4611686018427387904) (g : b ≡ x / 4611686018427387904) where
-  -- they are on one edge
-  pub keys_same : {p q : Float} {r : Bool} → a ≡ b → p ≡ f64 (y % 4611686018427387904) → q ≡ f64 (x % 4611686018427387904) → r ≡ lt (absolute (sub p q)) near_last → r ≡ close_keys x y
-  keys_same e u v h = h ∙ rw (eq-eqb (y / 4611686018427387904) (x / 4611686018427387904) (sym f ∙ e ∙ g)) (λ i. lt (absolute (sub (u i) (v i))) near_last)
-
-  -- they are on two
-  pub keys_other : (a ≡ b → ⊥) → false ≡ close_keys x y
-  keys_other n = rw (ne_eqb (y / 4611686018427387904) (x / 4611686018427387904) (λ z. n (f ∙ z ∙ sym g)))
 
 -- ---- the last kept
 

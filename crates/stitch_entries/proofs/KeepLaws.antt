@@ -2,13 +2,18 @@
 use mathlib.Core.Path.{◌≡◌, refl, sym, ap, ◌∙◌, subst}
 use mathlib.Core.Bool.{Bool, true, false, true≢false}
 use mathlib.Core.List.{List, [], ◌∷◌, ◌++◌, map}
-use Prim.Native.Nat.{ℕ, zero, suc, ◌+◌, ◌<◌, ◌≤◌}
+use Prim.Native.Nat.{ℕ, zero, suc, ◌+◌, ◌-◌, ◌<◌, ◌≤◌}
 use native.Mathlib.Nat.{le_antisymm}
 use native.Mathlib.Decide.{ℕ_discrete}
 use native.Mathlib.Omega.{arith}
 use borrow.Author.Tests.{le-leb, leb-true, ltb-true, ltb-false}
 use lib.Dec.{leb, ltb}
-use lib.ListN.{length, get_or}
+use lib.ListN.{length, get_or, take, drop, length-drop}
+use lib.Seq.{length-take-le}
+use Rattle.std.specs.List.{list_all}
+use Rattle.std.proofs.lemmas.List.Elements.{All-get_or}
+use Rattle.std.proofs.lemmas.List.Sums.{AllPass-from_list_all}
+use Rattle.lists.specs.Stretches.{stretch_at}
 use Rattle.slice_pairs.specs.Rearranged.{Rearranged, same_then, same_turned, same_length, same_each}
 use Rattle.slice_pairs.specs.Rising.{Rises, rises_least, rises_only}
 use Rattle.slice_pairs.specs.Pairs.{pairs_of, pairs_in, pair_at, PairsHeld, PairsSorted, pairs_length, pairs_at}
@@ -17,7 +22,7 @@ use Rattle.stitch_pairs.specs.FoundPairs.{entry_of_pair}
 use Rattle.stitch_pairs.specs.Inserted.{insert_numbers, inserted_rises, inserted_same}
 use Rattle.stitch_pairs.specs.Words.{KeptOfPairs, KeptInOrder}
 use Rattle.stitch_entries.specs.PairEntries.{entry_of_words, entry_written, close_keys}
-use Rattle.stitch_entries.specs.LeastPairs.{SomePairs, LeastPair, CloseReady, AllClose}
+use Rattle.stitch_entries.specs.LeastPairs.{SomePairs, LeastPair}
 use Rattle.stitch_entries.proofs.EntryLaws.{words_pair}
 use Rattle.stitch_entries.proofs.DropLaws.{Unread, written_more, written_unread}
 
@@ -29,67 +34,11 @@ pub record Lowest (at ts n : ℕ) (W : List ℕ) (k j : ℕ) : Type 0 where
   pub some : 0 < j
   pub least : (i : ℕ) → i < j → pair_at W at ts k ≤ pair_at W at ts i
 
--- of the first
-pub lowest_none : {at ts n : ℕ} {W : List ℕ} → SomePairs at ts n W → Lowest at ts n W 0 1
-lowest_none {at} {ts} {n} {W} s = record { inside = s.some; some = omega arith; least = λ i l. only i l }
-  where
-    only : (i : ℕ) → i < 1 → pair_at W at ts 0 ≤ pair_at W at ts i
-    only zero l = omega arith
-    only (suc i) l = absurd (omega arith)
-
--- a number is the last before the next, or before that
-below_next : (i j : ℕ) → i < j + 1 → Dec (i ≡ j) → (P : ℕ → Type 0) → P j → ((i : ℕ) → i < j → P i) → P i
-below_next i j l (yes e) P p f = subst P (sym e) p
-below_next i j l (no n) P p f = f i (omega arith)
-
-module _ {at ts n : ℕ} {W : List ℕ} {k j : ℕ} (s : Lowest at ts n W k j) (l : j < n) {r : Bool} (c : r ≡ ltb (pair_at W at ts j) (pair_at W at ts k)) where
-  -- the next is lower
-  pub lowest_next : r ≡ true → Lowest at ts n W j (j + 1)
-  lowest_next y =
-      let h : pair_at W at ts j < pair_at W at ts k = ltb-true (pair_at W at ts j) (pair_at W at ts k) (sym c ∙ y) in
-      record {
-        inside = l;
-        some = omega arith;
-        least = λ i b. below_next i j b (ℕ_discrete i j) (λ z. pair_at W at ts j ≤ pair_at W at ts z) (omega arith) (λ z m. omega (arith, h, s.least z m));
-      }
-
-  -- it is not
-  pub lowest_same : r ≡ false → Lowest at ts n W k (j + 1)
-  lowest_same y =
-      let h : pair_at W at ts k ≤ pair_at W at ts j = ltb-false (pair_at W at ts j) (pair_at W at ts k) (sym c ∙ y) in
-      record {
-        inside = s.inside;
-        some = omega arith;
-        least = λ i b. below_next i j b (ℕ_discrete i j) (λ z. pair_at W at ts k ≤ pair_at W at ts z) h s.least;
-      }
-
--- of all
-pub lowest_all : {at ts n : ℕ} {W : List ℕ} {k j : ℕ} → Lowest at ts n W k j → n ≤ j → LeastPair at ts n W k
-lowest_all s l = record { inside = s.inside; least = λ i b. s.least i (omega arith) }
-
--- ---- all are close
-
--- the first j pairs are close to the one at place k
-pub record CloseSoFar (ts k : ℕ) (W : List ℕ) (j : ℕ) : Type 0 where
-  pub close : (i : ℕ) → i < j → close_keys (get_or W (ts + k) 0) (get_or W (ts + i) 0) ≡ true
-
-pub close_none : (ts k : ℕ) (W : List ℕ) → CloseSoFar ts k W 0
-close_none ts k W = record { close = λ i l. absurd (omega arith) }
-
--- one more is
-pub close_more : {ts k : ℕ} {W : List ℕ} {j : ℕ} → CloseSoFar ts k W j → {r : Bool} → r ≡ close_keys (get_or W (ts + k) 0) (get_or W (ts + j) 0) → r ≡ true → CloseSoFar ts k W (j + 1)
-close_more {ts} {k} {W} {j} s c y =
-    record { close = λ i b. below_next i j b (ℕ_discrete i j) (λ z. close_keys (get_or W (ts + k) 0) (get_or W (ts + z) 0) ≡ true) (sym c ∙ y) s.close }
-
--- all are
-pub close_all : {ts n k : ℕ} {W : List ℕ} {j : ℕ} → CloseSoFar ts k W j → n ≤ j → AllClose ts n k W true
-close_all s l = record { close = λ y i b. s.close i (omega arith) }
-
--- one is not
-pub close_not : (ts n k : ℕ) (W : List ℕ) → AllClose ts n k W false
-close_not ts n k W = record { close = λ y. absurd (true≢false (sym y)) }
-
 -- ---- what is kept of pairs that are all close to the least
+
+-- what holds of all words holds of the one at a place
+at_all : (p : ℕ → Bool) (xs : List ℕ) (j : ℕ) → list_all p xs ≡ true → j < length xs → p (get_or xs j 0) ≡ true
+at_all p xs j h l = All-get_or (λ z. p z ≡ true) xs j 0 l (AllPass-from_list_all p xs h)
 
 -- of entries that are all close to the last kept none is
 drop_all : (x : Entry) (ys : List ℕ) → ((j : ℕ) → j < length ys → close_to x (entry_of_pair (get_or ys j 0)) ≡ true) → drop_after x (map entry_of_pair ys) ≡ []
@@ -120,7 +69,7 @@ least_only (x ∷ xs) ys k u r l h f = ap (λ (e : Entry). e ∷ drop_after e (m
     others : (j : ℕ) → j < length xs → close_to (entry_of_pair m) (entry_of_pair (get_or xs j 0)) ≡ true
     others j b = same_each (λ z. close_to (entry_of_pair m) (entry_of_pair z)) 0 r f (suc j) (omega arith)
 
-module _ {at ts n : ℕ} {W : List ℕ} (h : PairsHeld at ts n W) (g : (i : ℕ) → get_or W i 0 < 18446744073709551616) {k : ℕ} (l : LeastPair at ts n W k) {r : Bool} (c : AllClose ts n k W r)
+module _ {at ts n : ℕ} {W : List ℕ} (h : PairsHeld at ts n W) (g : (i : ℕ) → get_or W i 0 < 18446744073709551616) {k : ℕ} (l : LeastPair at ts n W k) {r : Bool} (c : r ≡ list_all (close_keys (get_or W (ts + k) 0)) (take (ts + n - ts) (drop ts W)))
     (y : r ≡ true) where
   abbrev ys : List ℕ
   ys = pairs_in W at ts n
@@ -138,8 +87,16 @@ module _ {at ts n : ℕ} {W : List ℕ} (h : PairsHeld at ts n W) (g : (i : ℕ)
   words : (j : ℕ) → entry_of_pair (pair_at W at ts j) ≡ entry_of_words (get_or W (ts + j) 0) (get_or W (at + j) 0)
   words j = words_pair (get_or W (ts + j) 0) (get_or W (at + j) 0) (g (at + j))
 
+  -- the higher word of each is close to that of the least
+  key_close : (j : ℕ) → j < n → close_keys (get_or W (ts + k) 0) (get_or W (ts + j) 0) ≡ true
+  key_close j b =
+      let e : ts + n - ts ≡ n = omega arith in
+      ap (close_keys (get_or W (ts + k) 0)) (sym (stretch_at ts n W j 0 b))
+      ∙ at_all (close_keys (get_or W (ts + k) 0)) (take n (drop ts W)) j (ap (λ (m : ℕ). list_all (close_keys (get_or W (ts + k) 0)) (take m (drop ts W))) (sym e) ∙ sym c ∙ y)
+      (omega (arith, length-take-le n (drop ts W) (omega (arith, h.room, length-drop ts W))))
+
   all_close : (j : ℕ) → j < n → close_to (entry_of_pair (pair_at W at ts k)) (entry_of_pair (pair_at W at ts j)) ≡ true
-  all_close j b = (λ i. close_to (words k i) (words j i)) ∙ c.close y j b
+  all_close j b = (λ i. close_to (words k i) (words j i)) ∙ key_close j b
 
   kept_one : kept_entries (map entry_of_pair (insert_numbers [] ys)) ≡ entry_of_pair (pair_at W at ts k) ∷ []
   kept_one =

@@ -30,8 +30,3 @@ pub record PairPlace (at ts j kept : ℕ) (W : List ℕ) : Type 0 where
   pub behind : kept ≤ j
   pub lower : at + j < length W
   pub higher : ts + j < length W
-
--- what comparing the higher words of the pairs at places j and k asks
-pub record KeyPlaces (ts j k : ℕ) (W : List ℕ) : Type 0 where
-  pub first : ts + j < length W
-  pub second : ts + k < length W

@@ -8,7 +8,7 @@ ghost use Rattle.slice_pairs.specs.Pairs.{PairsHeld};
 ghost use Rattle.stitch_splits.specs.Splits.{near_last};
 ghost use Rattle.stitch_splits.specs.Entries.{close_to, entry_at, EntryPlaces};
 ghost use Rattle.stitch_pairs.specs.Words.{PairRoom, PairAppended, KeptOfPairs};
-ghost use Rattle.stitch_entries.specs.PairEntries.{pair_entry_at, entry_written, close_keys, close_to_last, KeyPlaces, PairPlace};
+ghost use Rattle.stitch_entries.specs.PairEntries.{pair_entry_at, entry_written, close_keys, close_to_last, PairPlace};
 
 use float_steps::{absolute_f64, bits_of_f64, f64_of_bits};
 use stitch_splits::EDGE_STEP;
@@ -42,20 +42,18 @@ pub fn append_pair(w: &mut [u64], at: usize, ts: usize, count: usize, e: u64, t:
     w[ts + count] = e * KEY_STEP + bits;
 }
 
-// The edge of the pair at place j.
-fn pair_edge(w: &[u64], ts: usize, j: usize) -> u64
-    requires { ts + j < length w.now }
-    ensures { result ≡ get_or w.now (ts + j) 0 / 4611686018427387904 }
+// The edge of the pair with that higher word.
+fn pair_edge(key: u64) -> u64
+    ensures { result ≡ key / 4611686018427387904 }
 {
-    w[ts + j] / KEY_STEP
+    key / KEY_STEP
 }
 
-// The parameter of the pair at place j.
-fn pair_parameter(w: &[u64], ts: usize, j: usize) -> f64
-    requires { ts + j < length w.now }
-    ensures { result ≡ f64 (get_or w.now (ts + j) 0 % 4611686018427387904) }
+// Its parameter.
+fn pair_parameter(key: u64) -> f64
+    ensures { result ≡ f64 (key % 4611686018427387904) }
 {
-    f64_of_bits(w[ts + j] % KEY_STEP)
+    f64_of_bits(key % KEY_STEP)
 }
 
 // Whether two parameters are closer than 1e-9.
@@ -71,19 +69,19 @@ fn is_close(w: &[u64], at: usize, ts: usize, j: usize, k: usize) -> bool
     requires { EntryPlaces at ts j k w.now }
     ensures { result ≡ close_to (entry_at w.now at ts k) (pair_entry_at w.now at ts j) }
 {
-    if pair_edge(w, ts, j) == entry_edge(w, at, k) {
-        return is_near(pair_parameter(w, ts, j), entry_parameter(w, ts, k));
+    let key = w[ts + j];
+    if pair_edge(key) == entry_edge(w, at, k) {
+        return is_near(pair_parameter(key), entry_parameter(w, ts, k));
     }
     false
 }
 
-// Whether the pairs at places j and k are on one edge and closer than 1e-9.
-pub fn are_close(w: &[u64], ts: usize, j: usize, k: usize) -> bool
-    requires { KeyPlaces ts j k w.now }
-    ensures { result ≡ close_keys (get_or w.now (ts + k) 0) (get_or w.now (ts + j) 0) }
+// Whether the pairs with those higher words are on one edge and closer than 1e-9.
+pub fn are_close(x: u64, y: u64) -> bool
+    ensures { result ≡ close_keys x y }
 {
-    if pair_edge(w, ts, j) == pair_edge(w, ts, k) {
-        return is_near(pair_parameter(w, ts, j), pair_parameter(w, ts, k));
+    if pair_edge(y) == pair_edge(x) {
+        return is_near(pair_parameter(y), pair_parameter(x));
     }
     false
 }
@@ -116,14 +114,10 @@ pub fn drop_close(w: &mut [u64], at: usize, ts: usize, count: usize) -> usize
     ensures { KeptOfPairs at ts count w.old w.new result }
 {
     let mut kept = 0usize;
-    let mut j = 0usize;
-    while j < count {
-        if close_to_last(w, at, ts, j, kept) {
-            j += 1;
-        } else {
+    for j in 0..count {
+        if !close_to_last(w, at, ts, j, kept) {
             keep_pair(w, at, ts, j, kept);
             kept += 1;
-            j += 1;
         }
     }
     kept

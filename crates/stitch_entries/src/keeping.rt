@@ -1,8 +1,11 @@
 // The entries kept of pairs in any order: where all are close to the least it alone is kept, and nothing is sorted.
 
+ghost use Rattle.std.specs.Prelude.{◌≡◌};
+ghost use Rattle.std.specs.List.{list_all};
 ghost use Rattle.slice_pairs.specs.Pairs.{PairsHeld};
 ghost use Rattle.stitch_pairs.specs.Words.{KeptInOrder};
-ghost use Rattle.stitch_entries.specs.LeastPairs.{SomePairs, LeastPair, CloseReady, AllClose};
+ghost use Rattle.stitch_entries.specs.LeastPairs.{SomePairs, LeastPair};
+ghost use Rattle.stitch_entries.specs.PairEntries.{close_keys};
 
 use crate::entries::{are_close, drop_close, keep_pair};
 use slice_pairs::{comes_before, sort_pairs};
@@ -13,32 +16,19 @@ fn least_pair(w: &[u64], at: usize, ts: usize, n: usize) -> usize
     ensures { LeastPair at ts n w.now result }
 {
     let mut k = 0usize;
-    let mut j = 1usize;
-    while j < n {
+    for j in 1..n {
         if comes_before(w, at, ts, j, k) {
             k = j;
-            j += 1;
-        } else {
-            j += 1;
         }
     }
     k
 }
 
-// Whether all of n pairs are on the edge of the one at place k and closer than 1e-9 to it.
-fn all_close(w: &[u64], ts: usize, n: usize, k: usize) -> bool
-    requires { CloseReady ts n k w.now }
-    ensures { AllClose ts n k w.now result }
+// Whether all pairs with those higher words are on the edge of one and closer than 1e-9 to it.
+fn all_close(key: u64, keys: &[u64]) -> bool
+    ensures { result ≡ list_all (close_keys key) keys.now }
 {
-    let mut j = 0usize;
-    while j < n {
-        if are_close(w, ts, j, k) {
-            j += 1;
-        } else {
-            return false;
-        }
-    }
-    true
+    keys.iter().all(|x| are_close(key, *x))
 }
 
 // The pairs are sorted, and close ones dropped.
@@ -60,7 +50,7 @@ pub fn keep_in_order(w: &mut [u64], at: usize, ts: usize, n: usize) -> usize
         return 0;
     }
     let k = least_pair(w, at, ts, n);
-    if all_close(w, ts, n, k) {
+    if all_close(w[ts + k], &w[ts..ts + n]) {
         keep_pair(w, at, ts, k, 0);
         return 1;
     }

@@ -11,7 +11,7 @@ fn past(at: usize, n: usize, end: usize) -> usize
     requires { at ≤ end }
     ensures { Place (at + n) end result }
 {
-    if n < end - at { at + n } else { end }
+    at + n.min(end - at)
 }
 
 // Where row k's indices start, but not past the end.
@@ -20,10 +20,8 @@ fn start_of(rows: &[u32], k: usize, end: usize) -> usize
     ensures { Place (indices_before (rows_of rows.now) k) end result }
 {
     let mut at = 0usize;
-    let mut j = 0usize;
-    while j < k {
+    for j in 0..k {
         at = past(at, body_rows::indices(rows, j) as usize, end);
-        j += 1;
     }
     at
 }

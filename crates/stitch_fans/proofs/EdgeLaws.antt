@@ -8,6 +8,7 @@ use lib.ListN.{length, get_or, take, drop, length-append, length-drop}
 use lib.Seq.{take-take, length-take-le}
 use lib.Dec.{eqb}
 use borrow.Author.Tests.{eq-eqb, ne_eqb}
+use Rattle.std.specs.Prelude.{None}
 use Rattle.stitch_splits.specs.Entries.{entries_of, entries_in}
 use Rattle.stitch_fans.specs.declared.fan.Fan.{Fan}
 use Rattle.stitch_rings.specs.Rings.{numbers_of, edges_of, ring_after}
@@ -157,7 +158,7 @@ module _ {a : ℕ} {W : List ℕ} {at count e next : ℕ} {f : Fan} {out : List 
 
 -- the state before the first vertex
 abbrev empty : ℕ → Fan
-empty o = record { o = o; last = 0; started = false }
+empty o = record { o = o; last = None }
 
 module _ {a b c next : ℕ} {W : List ℕ} {at kept o : ℕ} {out : List ℕ} (r : FanReady a b c next W at kept o out) {ts count : ℕ} (n : Held W ts kept count) where
   -- the words of the entries
@@ -217,7 +218,7 @@ module _ {a b c next : ℕ} {W : List ℕ} {at kept o : ℕ} {out : List ℕ} (r
               record {
                 fan_is = whole.written;
                 end_is = whole.end_is;
-                few = omega (arith, n.few, few, pushed.end_is, size, first_none a 0 Y (omega (arith, size)));
+                few = omega (arith, n.few, few, pushed.end_is, size, first_none a Y (omega (arith, size)));
               }
             where
               size : length Y ≡ length (edge_numbers 0 next X) + length (edge_numbers 1 next X) + length (edge_numbers 2 next X) + 2

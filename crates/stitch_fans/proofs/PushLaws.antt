@@ -1,6 +1,6 @@
 -- Vertices pushed: none, one, and one list behind another. Assumes nothing.
 use mathlib.Core.Path.{◌≡◌, refl, sym, ap, ◌∙◌, subst}
-use mathlib.Core.Bool.{Bool, true, false, cond}
+use Rattle.std.specs.Prelude.{Option, Some, None}
 use mathlib.Core.List.{List, [], ◌∷◌, ◌++◌, append_assoc}
 use Prim.Native.Nat.{ℕ, ◌+◌, ◌≤◌}
 use native.Mathlib.Omega.{arith}
@@ -31,22 +31,22 @@ pub pushed_then : {a : ℕ} {f g h : Fan} {xs ys A B C : List ℕ} → Pushed a 
 pushed_then {a} {f} {g} {h} {xs} {ys} {A} {B} {C} s t =
     record {
       written = subst (λ (v : List ℕ). Appended f.o v A C) (sym (s.behind ys)) (appended_then s.written s.end_is t.written);
-      end_is = omega (arith, s.end_is, t.end_is, ap length (s.behind ys), length-append (fan_go a f.started f.last xs) (fan_go a g.started g.last ys));
+      end_is = omega (arith, s.end_is, t.end_is, ap length (s.behind ys), length-append (fan_go a f.last xs) (fan_go a g.last ys));
       behind = λ more.
-          ap (fan_go a f.started f.last) (append_assoc xs ys more)
+          ap (fan_go a f.last) (append_assoc xs ys more)
           ∙ s.behind (ys ++ more)
-          ∙ ap (λ (v : List ℕ). fan_go a f.started f.last xs ++ v) (t.behind more)
-          ∙ sym (append_assoc (fan_go a f.started f.last xs) (fan_go a g.started g.last ys) (fan_go a h.started h.last more))
-          ∙ ap (λ (v : List ℕ). v ++ fan_go a h.started h.last more) (sym (s.behind ys));
+          ∙ ap (λ (v : List ℕ). fan_go a f.last xs ++ v) (t.behind more)
+          ∙ sym (append_assoc (fan_go a f.last xs) (fan_go a g.last ys) (fan_go a h.last more))
+          ∙ ap (λ (v : List ℕ). v ++ fan_go a h.last more) (sym (s.behind ys));
       moved = omega (arith, s.moved, t.moved, length-append xs ys);
       long = t.long ∙ s.long;
     }
 
 -- the first vertex, with which nothing is written
-pub pushed_first : (a : ℕ) (f : Fan) (x : ℕ) (out : List ℕ) → f.started ≡ false → Pushed a f (x ∷ []) out out (record { o = f.o; last = x; started = true })
+pub pushed_first : (a : ℕ) (f : Fan) (x : ℕ) (out : List ℕ) → f.last ≡ None → Pushed a f (x ∷ []) out out (record { o = f.o; last = Some x })
 unfolding fan_go
 pushed_first a f x out e =
-    subst (λ (s : Bool). Pushed a (record { o = f.o; last = f.last; started = s }) (x ∷ []) out out (record { o = f.o; last = x; started = true })) (sym e)
+    subst (λ (l : Option ℕ). Pushed a (record { o = f.o; last = l }) (x ∷ []) out out (record { o = f.o; last = Some x })) (sym e)
     (record {
       written = appended_none f.o out;
       end_is = omega arith;
@@ -56,22 +56,22 @@ pushed_first a f x out e =
     })
 
 -- a vertex behind another
-module _ {f : Fan} {out : List ℕ} (r : PushRoom f 1 out) (e : f.started ≡ true) where
+module _ {f : Fan} {last : ℕ} {out : List ℕ} (r : PushRoom f 1 out) (e : f.last ≡ Some last) where
   -- there is room for its triangle
   pub triangle_room : f.o + 3 ≤ length out
-  triangle_room = let z : ◌≡◌ {A = ℕ} (cond f.started 3 0) 3 = ap (λ (b : Bool). cond {A = ℕ} b 3 0) e in omega (arith, r.room, z)
+  triangle_room = let z : ◌≡◌ {A = ℕ} (elim f.last [ None ↦ 0 | Some x ↦ 3 ]) 3 = ap (λ (l : Option ℕ). elim l [ None ↦ 0 | Some x ↦ 3 ]) e in omega (arith, r.room, z)
 
-  pub pushed_next : (a x : ℕ) → Pushed a f (x ∷ []) out (set (set (set out f.o a) (f.o + 1) f.last) (f.o + 2) x) (record { o = f.o + 3; last = x; started = true })
+  pub pushed_next : (a x : ℕ) → Pushed a f (x ∷ []) out (set (set (set out f.o a) (f.o + 1) last) (f.o + 2) x) (record { o = f.o + 3; last = Some x })
   unfolding fan_go
   pushed_next a x =
-      subst (λ (v : List ℕ). Pushed a f (x ∷ []) out v (record { o = f.o + 3; last = x; started = true })) (sym (three_stored out f.o a f.last x))
+      subst (λ (v : List ℕ). Pushed a f (x ∷ []) out v (record { o = f.o + 3; last = Some x })) (sym (three_stored out f.o a last x))
       (subst
-      (λ (s : Bool). Pushed a (record { o = f.o; last = f.last; started = s }) (x ∷ []) out (sets out f.o (a ∷ f.last ∷ x ∷ [])) (record { o = f.o + 3; last = x; started = true }))
+      (λ (l : Option ℕ). Pushed a (record { o = f.o; last = l }) (x ∷ []) out (sets out f.o (a ∷ last ∷ x ∷ [])) (record { o = f.o + 3; last = Some x }))
       (sym e)
       (record {
         written = appended_sets (omega (arith, triangle_room)) refl;
         end_is = omega arith;
         behind = λ more. refl;
         moved = omega arith;
-        long = length-sets out f.o (a ∷ f.last ∷ x ∷ []);
+        long = length-sets out f.o (a ∷ last ∷ x ∷ []);
       }))

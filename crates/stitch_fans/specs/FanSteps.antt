@@ -1,5 +1,5 @@
 -- The fan written vertex by vertex: what pushing some vertices asks and leaves, and the vertices of an edge read from the words. Assumes nothing.
-use Rattle.std.specs.Prelude.{◌≡◌, cond, List, [], ◌∷◌, ◌++◌, ℕ, ◌+◌, ◌*◌, ◌/◌, ◌<◌, ◌≤◌, length, get_or, take, drop, eqb}
+use Rattle.std.specs.Prelude.{◌≡◌, cond, Some, None, List, [], ◌∷◌, ◌++◌, ℕ, ◌+◌, ◌*◌, ◌/◌, ◌<◌, ◌≤◌, length, get_or, take, drop, eqb}
 use Rattle.stitch_fans.specs.declared.fan.Fan.{Fan}
 use Rattle.stitch_rings.specs.Rings.{fan_go}
 use Rattle.slice_append.specs.Appended.{Appended}
@@ -15,7 +15,7 @@ edge_numbers e next (x ∷ xs) = picked e x next ++ edge_numbers e (next + 1) xs
 
 -- three places further than the fan's end, once a vertex was pushed: each vertex moves it on by three
 abbrev pub reach : Fan → ℕ
-reach f = f.o + cond f.started 3 0
+reach f = f.o + elim f.last [ None ↦ 0 | Some x ↦ 3 ]
 
 -- r of the `kept` words from ts on are there
 pub record Held (W : List ℕ) (ts kept r : ℕ) : Type 0 where
@@ -39,8 +39,8 @@ pub record EdgeReady (W : List ℕ) (at count e next : ℕ) (f : Fan) (out : Lis
 
 -- what pushing the vertices ys leaves: their triangles are written, and the new state adds to a fan what the old one adds behind them
 pub record Pushed (a : ℕ) (f : Fan) (ys out new : List ℕ) (g : Fan) : Type 0 where
-  pub written : Appended f.o (fan_go a f.started f.last ys) out new
-  pub end_is : g.o ≡ f.o + length (fan_go a f.started f.last ys)
-  pub behind : (more : List ℕ) → fan_go a f.started f.last (ys ++ more) ≡ fan_go a f.started f.last ys ++ fan_go a g.started g.last more
+  pub written : Appended f.o (fan_go a f.last ys) out new
+  pub end_is : g.o ≡ f.o + length (fan_go a f.last ys)
+  pub behind : (more : List ℕ) → fan_go a f.last (ys ++ more) ≡ fan_go a f.last ys ++ fan_go a g.last more
   pub moved : reach g ≡ reach f + 3 * length ys
   pub long : length new ≡ length out

@@ -6,12 +6,11 @@ ghost use Rattle.stitch_fans.specs.FanSteps.{picked, edge_numbers, Held, PushRoo
 
 use stitch_splits::EDGE_STEP;
 
-// The fan so far: where its next index goes, the vertex pushed last, and whether there was one.
+// The fan so far: where its next index goes, and the vertex pushed last, if there was one.
 #[derive(Clone, Copy)]
 struct Fan {
     o: usize,
-    last: u32,
-    started: bool,
+    last: Option<u32>,
 }
 
 // Vertex x is pushed: with the one before it, if there was one, it makes a triangle from corner a.
@@ -20,20 +19,17 @@ fn push(out: &mut [u32], a: u32, f: Fan, x: u32) -> Fan
     ensures { Pushed a f (x ∷ []) out.old out.new result }
 {
     let o = f.o;
-    if f.started {
-        out[o] = a;
-        out[o + 1] = f.last;
-        out[o + 2] = x;
-        return Fan {
-            o: o + 3,
-            last: x,
-            started: true,
-        };
-    }
-    Fan {
-        o: o,
-        last: x,
-        started: true,
+    match f.last {
+        None => Fan { o, last: Some(x) },
+        Some(last) => {
+            out[o] = a;
+            out[o + 1] = last;
+            out[o + 2] = x;
+            Fan {
+                o: o + 3,
+                last: Some(x),
+            }
+        }
     }
 }
 
@@ -63,10 +59,8 @@ fn push_edge(
     ensures { Pushed a f (edge_numbers e next (take count (drop at w.now))) out.old out.new result }
 {
     let mut g = f;
-    let mut j = 0usize;
-    while j < count {
+    for j in 0..count {
         g = push_if(w, at + j, e, out, a, g, (next + j) as u32);
-        j += 1;
     }
     g
 }
@@ -75,14 +69,7 @@ fn push_edge(
 fn held(w: &[u64], ts: usize, kept: usize) -> usize
     ensures { Held w.now ts kept result }
 {
-    let n = w.len();
-    if n <= ts {
-        return 0;
-    }
-    if n - ts < kept {
-        return n - ts;
-    }
-    kept
+    w.len().saturating_sub(ts).min(kept)
 }
 
 // The fan of the triangle a, b, c with `kept` new vertices, the first of which has the number `next`, is written from place o on; the answer is where it ends.
@@ -102,11 +89,7 @@ pub fn append_fan(
     ensures { FanWritten a b c next w.now at ts kept o out.old out.new result }
 {
     let count = held(w, ts, kept);
-    let empty = Fan {
-        o: o,
-        last: 0,
-        started: false,
-    };
+    let empty = Fan { o, last: None };
     let f0 = push_edge(w, at, count, 0, next, out, a, empty);
     let fb = push(out, a, f0, b);
     let f1 = push_edge(w, at, count, 1, next, out, a, fb);

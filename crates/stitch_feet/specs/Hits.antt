@@ -1,18 +1,14 @@
 -- The hit at a footing is the definition's. Assumes nothing.
-use Rattle.std.specs.Prelude.{◌≡◌, Bool, not, ◌&&◌, Float}
+use Rattle.std.specs.Prelude.{◌≡◌, Bool, not, ◌&&◌, Float, Option, Some, None}
 use Rattle.std.proofs.Math.Path.{refl}
 use Rattle.std.proofs.Math.Bool.{true, false, cond}
-use Rattle.std.proofs.Math.Option.{Option, none, some}
+use Rattle.std.proofs.Math.Option as Math
 use Rattle.std.specs.Float.Ieee.{lt, eq}
 use Rattle.patch_geometry.specs.declared.Vec3.{Vec3}
 use Rattle.patch_geometry.specs.Geometry.{div, sub_v, scale, dot, length_v, zero64}
 use Rattle.stitch_projection.specs.declared.Edge.{Edge}
 use Rattle.stitch_projection.specs.declared.Hit.{Hit}
 use Rattle.stitch_feet.specs.declared.Foot.{Foot}
-use Rattle.stitch_feet.specs.declared.Footing.{Footing}
-use Rattle.stitch_feet.specs.declared.Footing.TheVariants as Footing
-use Rattle.stitch_feet.specs.declared.Projection.{Projection}
-use Rattle.stitch_feet.specs.declared.Projection.TheVariants as Projection
 use Rattle.stitch_projection.specs.Projection.{near_end, far_end, project}
 use Rattle.stitch_feet.specs.Answers.{footing}
 
@@ -25,9 +21,9 @@ abbrev pub foot_to : Edge → Vec3 → Float → Foot
 foot_to s w d = let t = div d s.squared in record { t = t; off = sub_v w (scale s.along t) }
 
 -- the hit at a footing, if there is one
-abbrev pub hit_of : Footing → Option Hit
-hit_of Footing.Outside = none
-hit_of (Footing.Inside f) = some (record { t = f.t; distance = length_v f.off })
+abbrev pub hit_of : Option Foot → Math.Option Hit
+hit_of None = Math.none
+hit_of (Some f) = Math.some (record { t = f.t; distance = length_v f.off })
 
 module _ (s : Edge) (r : Vec3) where
   -- the definition's hit is that at the footing
@@ -38,6 +34,6 @@ module _ (s : Edge) (r : Vec3) where
       let d = dot w s.along in
       go (foot_to s w d) (between s (div d s.squared))
     where
-      go : (f : Foot) (b : Bool) → hit_of (cond b (Footing.Inside f) Footing.Outside) ≡ cond b (some (record { t = f.t; distance = length_v f.off })) none
+      go : (f : Foot) (b : Bool) → hit_of (cond b (Some f) None) ≡ cond b (Math.some (record { t = f.t; distance = length_v f.off })) Math.none
       go f true = refl
       go f false = refl

@@ -2,7 +2,7 @@
 #![tactic(auto)]
 
 ghost use Rattle.std.specs.Prelude.{◌≡◌};
-ghost use Rattle.stitch_feet.specs.Answers.{footing, projected};
+ghost use Rattle.stitch_feet.specs.Answers.{footing, as_option};
 ghost use Rattle.stitch_projection.specs.Projection.{project};
 
 use patch_geometry::Vec3;
@@ -15,53 +15,35 @@ pub struct Foot {
     pub off: Vec3,
 }
 
-// Whether a point projects into an edge, and where.
-#[derive(Clone, Copy)]
-pub enum Footing {
-    Outside,
-    Inside(Foot),
-}
-
-// Whether a point projects into an edge, and its hit.
-#[derive(Clone, Copy)]
-pub enum Projection {
-    Outside,
-    Inside(Hit),
-}
-
 // Where r projects into an edge, if it has a length and 1e-6 < t < 1 − 1e-6.
-pub fn foot_of(s: Edge, r: Vec3) -> Footing
+pub fn foot_of(s: Edge, r: Vec3) -> Option<Foot>
     ensures { result ≡ footing s r }
 {
     let squared = s.squared;
     if squared == 0.0 {
-        return Footing::Outside;
+        return None;
     }
     let start = s.start;
     let along = s.along;
-    let w = r.sub(start);
+    let w = r - start;
     let t = w.dot(along) / squared;
     if t > 0.000001 {
         if t < 0.999999 {
-            let off = w.sub(along.scale(t));
-            return Footing::Inside(Foot { t, off });
+            let off = w - along * t;
+            return Some(Foot { t, off });
         }
     }
-    Footing::Outside
+    None
 }
 
 // The hit of r on an edge.
-pub fn project(s: Edge, r: Vec3) -> Projection
-    ensures { result ≡ projected (project s r) }
+pub fn project(s: Edge, r: Vec3) -> Option<Hit>
+    ensures { result ≡ as_option (project s r) }
 {
-    match foot_of(s, r) {
-        Footing::Outside => Projection::Outside,
-        Footing::Inside(f) => {
-            let off = f.off;
-            Projection::Inside(Hit {
-                t: f.t,
-                distance: off.length(),
-            })
-        }
-    }
+    let f = foot_of(s, r)?;
+    let off = f.off;
+    Some(Hit {
+        t: f.t,
+        distance: off.length(),
+    })
 }

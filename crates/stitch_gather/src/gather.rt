@@ -91,10 +91,8 @@ fn gather_row(
     ensures { RowGathered indices.now v at count base from to flags w.old w.new result }
 {
     let mut found = count;
-    let mut k = from;
-    while k < to {
+    for k in (from..to).step_by(3) {
         found = gather_triangle(indices, w, v, at, found, base, k, flags);
-        k += 3;
     }
     found
 }
@@ -115,14 +113,12 @@ fn gather_rows(
     let mut found = 0usize;
     let mut base = 0usize;
     let mut i = 0usize;
-    let mut k = 0usize;
-    while k < m {
+    for k in 0..m {
         let vertices = body_rows::vertices(rows, k) as usize;
         let end = i + body_rows::indices(rows, k) as usize;
         found = gather_row(indices, w, v, at, found, base, vertices, i, end, flags);
         base += vertices;
         i = end;
-        k += 1;
     }
     found
 }

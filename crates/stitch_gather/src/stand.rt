@@ -39,9 +39,7 @@ pub fn list_standing(w: &mut [u64], v: usize, at: usize, ts: usize, n: usize)
     requires { ListReady v at ts n w.old }
     ensures { ListStood v at ts n w.old w.new }
 {
-    let mut j = 0usize;
-    while j < n {
+    for j in 0..n {
         put_standing(w, v, at, ts, j);
-        j += 1;
     }
 }

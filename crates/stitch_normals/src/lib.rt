@@ -19,7 +19,7 @@ pub struct Normal {
 pub fn mixed_normal(na: Vec3, nb: Vec3, t: f64) -> Normal
     ensures { normal_of result ≡ mixed na nb t }
 {
-    let m = na.scale(1.0 - t).add(nb.scale(t));
+    let m = na * (1.0 - t) + nb * t;
     let l = float_steps::larger_f64(m.length(), 1e-30);
     Normal {
         x: float_narrow::narrow_f64(m.x / l),

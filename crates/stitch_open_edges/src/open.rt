@@ -46,17 +46,13 @@ fn count_at(w: &[u64], at: usize, n: usize, i: usize) -> u64
 }
 
 // The flag of use i: 1 if its ends differ and its edge has no other use, else 0.
+#[tactic(auto, unfolding(stitch_loose_points::specs::Open::flag_by))]
 fn flag_at(w: &[u64], at: usize, n: usize, i: usize) -> u64
     requires { FlagReady w.now at n i }
     ensures { result ≡ flag_in w.now at n i }
 {
-    if w[at + RUNS_AFTER_FIRSTS * n + i] == EQUAL_ENDS {
-        return 0;
-    }
-    if count_at(w, at, n, i) == 1 {
-        return 1;
-    }
-    0
+    let is_open = w[at + RUNS_AFTER_FIRSTS * n + i] != EQUAL_ENDS && count_at(w, at, n, i) == 1;
+    u64::from(is_open)
 }
 
 // The run of each of n uses becomes its flag: first uses stand at `at`, counts and runs behind them.
@@ -64,10 +60,8 @@ fn mark_uses(w: &mut [u64], at: usize, n: usize)
     requires { FlagsReady w.old at n }
     ensures { FlagsSet w.old at n w.new }
 {
-    let mut i = 0usize;
-    while i < n {
+    for i in 0..n {
         w[at + RUNS_AFTER_FIRSTS * n + i] = flag_at(w, at, n, i);
-        i += 1;
     }
 }
 

@@ -20,7 +20,8 @@ use Rattle.patch_geometry.specs.Geometry.{point_at}
 use Rattle.stitch_splits.specs.declared.sides.Sides.{Sides}
 use Rattle.stitch_splits.specs.Entries.{Entry, after, insert_entry}
 use Rattle.stitch_splits.specs.Filters.{map_option}
-use Rattle.stitch_splits.specs.Found.{Spot, found_only, spot_of, with_spot, with_vertex, entries_on}
+use Rattle.stitch_splits.specs.declared.sides.Spot.{Spot}
+use Rattle.stitch_splits.specs.Found.{found_only, spot_of, with_spot, with_vertex, entries_on}
 use Rattle.stitch_pairs.specs.FoundPairs.{ranked_at, ranked_from, place_key, found_word, found_pair, found_pairs, entry_of_pair}
 use Rattle.stitch_pairs.specs.BitOrder.{Inside, inside_order, inside_bits}
 use Rattle.stitch_pairs.specs.Spots.{SpotInside, SpotsInside, spot_inside}

@@ -12,7 +12,8 @@ use Rattle.stitch_projection.specs.declared.Edge.{Edge}
 use Rattle.stitch_projection.specs.declared.Hit.{Hit}
 use Rattle.stitch_projection.specs.Projection.{project, near_end, far_end}
 use Rattle.stitch_splits.specs.declared.sides.Sides.{Sides}
-use Rattle.stitch_splits.specs.Found.{Spot, nearer_spot, spot_of}
+use Rattle.stitch_splits.specs.declared.sides.Spot.{Spot}
+use Rattle.stitch_splits.specs.Found.{nearer_spot, spot_of}
 use Rattle.stitch_pairs.specs.BitOrder.{Inside, inside_bits}
 
 -- a hit has such a parameter

@@ -25,7 +25,7 @@ pub struct Hit {
 pub fn edge_of(p: Vec3, q: Vec3) -> Edge
     ensures { result ≡ edge_of p q }
 {
-    let d = q.sub(p);
+    let d = q - p;
     Edge {
         start: p,
         along: d,

@@ -1,11 +1,13 @@
 // Checks 33 and 32: the size of the result, and room for it in the slices to write.
 
 ghost use Rattle.std.specs.Prelude.{◌≡◌, length, ◌≤◌};
+ghost use Rattle.refusals.specs.Numbers.{failing};
 ghost use Rattle.body_rows.specs.Body.{first_failing};
 ghost use Rattle.stitch_result_checks.specs.Results.{SmallResult, result_checks, too_short};
 
 use body_rows::ROW_WIDTH;
 use body_table_checks::{MOST_INDICES, MOST_VERTICES};
+use refusals::Refusal;
 
 // 32: whether a slice to write is shorter than the result needs.
 fn too_short(
@@ -34,7 +36,7 @@ fn too_short(
     out_indices.len() < indices
 }
 
-// The number of the first of the checks 33 and 32 that fails for a result of so many vertices, indices and rows, or 0.
+// The first of the checks 33 and 32 that fails for a result of so many vertices, indices and rows, as a refusal.
 pub fn result_failing(
     vertices: usize,
     indices: usize,
@@ -43,17 +45,17 @@ pub fn result_failing(
     out_positions: &[f32],
     out_normals: &[f32],
     out_indices: &[u32],
-) -> u32
+) -> Result<(), Refusal>
     requires { rows ≤ 4096 }
-    ensures { result ≡ first_failing (result_checks vertices indices rows
+    ensures { failing result ≡ first_failing (result_checks vertices indices rows
         (length out_rows.now) (length out_positions.now) (length out_normals.now)
         (length out_indices.now)) }
 {
     if vertices > MOST_VERTICES {
-        return 33;
+        return Err(Refusal::StitchedLimit);
     }
     if indices > MOST_INDICES {
-        return 33;
+        return Err(Refusal::StitchedLimit);
     }
     if too_short(
         vertices,
@@ -64,7 +66,7 @@ pub fn result_failing(
         out_normals,
         out_indices,
     ) {
-        return 32;
+        return Err(Refusal::Output);
     }
-    0
+    Ok(())
 }

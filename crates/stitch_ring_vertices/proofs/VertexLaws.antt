@@ -22,33 +22,6 @@ use Rattle.stitch_ring_vertices.specs.VertexSteps.{PointReady}
 
 -- ---- the corners of an edge
 
--- an edge that is neither of the first two runs from the third of the corners
-pub start_last : (a b c e : ℕ) → (e ≡ 0 → ⊥) → (e ≡ 1 → ⊥) → c ≡ start_of a b c e
-start_last a b c zero n m = absurd (n refl)
-start_last a b c (suc zero) n m = absurd (m refl)
-start_last a b c (suc (suc e)) n m = refl
-
--- the normal of the corner from which edge e runs is there
-pub corner_inside : {ns : List Float} {a b c : ℕ} → Corners ns a b c → (e : ℕ) {p : ℕ} → p ≡ start_of a b c e → 3 * p + 2 < length ns
-corner_inside {ns} {a} {b} {c} k e h = subst (λ (n : ℕ). 3 * n + 2 < length ns) (sym h) (at e)
-  where
-    at : (e : ℕ) → 3 * start_of a b c e + 2 < length ns
-    at zero = k.in_a
-    at (suc zero) = k.in_b
-    at (suc (suc e)) = k.in_c
-
--- the corners from the second on, to which the edges run
-pub next_corners : {ns : List Float} {a b c : ℕ} → Corners ns a b c → Corners ns b c a
-next_corners k = record { in_a = k.in_b; in_b = k.in_c; in_c = k.in_a }
-
--- the normal mixed from those of an edge's ends
-pub normal_is : (ns : List Float) (a b c e : ℕ) (t : Float) {p q : ℕ} {na nb : Vec3} {r : Normal} → p ≡ start_of a b c e → q ≡ end_of a b c e → na ≡ vertex_at ns (3 * p) → nb ≡ vertex_at ns (3 * q)
-    → normal_of r ≡ mixed na nb t → normal_of r ≡ mixed (point_at ns (start_of a b c e)) (point_at ns (end_of a b c e)) t
-normal_is ns a b c e t {p} {q} {na} {nb} ep eq en em k =
-    k
-    ∙ ap (λ (x : Vec3). mixed x nb t) (en ∙ ap (point_at ns) ep)
-    ∙ ap (λ (x : Vec3). mixed (point_at ns (start_of a b c e)) x t) (em ∙ ap (point_at ns) eq)
-
 -- ---- one entry more
 
 -- the position of one entry more

@@ -59,11 +59,9 @@ pub fn append_positions(
     requires { VerticesReady positions.now w.now at ts kept o out.old }
     ensures { Appended o (new_positions positions.now (entries_in w.now at ts kept)) out.old out.new }
 {
-    let mut j = 0usize;
-    while j < kept {
+    for j in 0..kept {
         let g = entry_vertex(w, at, j);
         copy_point(positions, g, out, o + 3 * j);
-        j += 1;
     }
 }
 
@@ -71,26 +69,11 @@ pub fn append_positions(
 fn start_of(a: usize, b: usize, c: usize, e: u64) -> usize
     ensures { result ≡ start_of a b c e }
 {
-    if e == 0 {
-        return a;
+    match e {
+        0 => a,
+        1 => b,
+        _ => c,
     }
-    if e == 1 {
-        return b;
-    }
-    c
-}
-
-// The corner to which it runs.
-fn end_of(a: usize, b: usize, c: usize, e: u64) -> usize
-    ensures { result ≡ end_of a b c e }
-{
-    if e == 0 {
-        return b;
-    }
-    if e == 1 {
-        return c;
-    }
-    a
 }
 
 // The normal at parameter t of edge e, mixed from those of its ends.
@@ -99,7 +82,7 @@ fn edge_normal(normals: &[f32], a: usize, b: usize, c: usize, e: u64, t: f64) ->
     ensures { normal_of result ≡ mixed (point_at normals.now (start_of a b c e)) (point_at normals.now (end_of a b c e)) t }
 {
     let p = start_of(a, b, c, e);
-    let q = end_of(a, b, c, e);
+    let q = start_of(b, c, a, e);
     let na = vertex(normals, 3 * p);
     let nb = vertex(normals, 3 * q);
     mixed_normal(na, nb, t)
@@ -121,12 +104,10 @@ pub fn append_normals(
     requires { NormalsReady normals.now a b c w.now at ts kept o out.old }
     ensures { Appended o (new_normals normals.now a b c (entries_in w.now at ts kept)) out.old out.new }
 {
-    let mut j = 0usize;
-    while j < kept {
+    for j in 0..kept {
         let e = entry_edge(w, at, j);
         let t = entry_parameter(w, ts, j);
         let n = edge_normal(normals, a, b, c, e, t);
         put_three(out, o + 3 * j, n.x, n.y, n.z);
-        j += 1;
     }
 }

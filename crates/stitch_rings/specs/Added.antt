@@ -1,5 +1,5 @@
 -- What a triangle's new vertices and fan add to the slices of the stitched body. Assumes nothing.
-use Rattle.std.specs.Prelude.{◌≡◌, false, List, ℕ, ◌+◌, ◌*◌, ◌%◌, ◌<◌, ◌≤◌, length, get_or, Float}
+use Rattle.std.specs.Prelude.{◌≡◌, None, List, ℕ, ◌+◌, ◌*◌, ◌%◌, ◌<◌, ◌≤◌, length, get_or, Float}
 use Rattle.stitch_splits.specs.Entries.{entries_in}
 use Rattle.stitch_rings.specs.Rings.{ring_after, fan_go}
 use Rattle.slice_append.specs.Appended.{Appended}
@@ -28,6 +28,6 @@ pub record FanReady (a b c next : ℕ) (W : List ℕ) (at kept o : ℕ) (out : L
 
 -- what it leaves: the triangles of the fan from corner a, from place o on, and behind them all as it was; the answer is where they end
 pub record FanWritten (a b c next : ℕ) (W : List ℕ) (at ts kept o : ℕ) (out new : List ℕ) (r : ℕ) : Type 0 where
-  pub fan_is : Appended o (fan_go a false 0 (ring_after b c next (entries_in W at ts kept))) out new
-  pub end_is : r ≡ o + length (fan_go a false 0 (ring_after b c next (entries_in W at ts kept)))
+  pub fan_is : Appended o (fan_go a None (ring_after b c next (entries_in W at ts kept))) out new
+  pub end_is : r ≡ o + length (fan_go a None (ring_after b c next (entries_in W at ts kept)))
   pub few : r ≤ o + 3 * kept + 3

@@ -1,5 +1,5 @@
 -- The ring of a split triangle: its corners with the new vertices between them, what these are, and the fan. Assumes nothing.
-use Rattle.std.specs.Prelude.{Bool, true, false, cond, List, [], ◌∷◌, ◌++◌, map, ℕ, zero, suc, ◌+◌, ◌*◌, get_or, eqb, Float}
+use Rattle.std.specs.Prelude.{Bool, true, false, cond, Option, Some, None, List, [], ◌∷◌, ◌++◌, map, ℕ, zero, suc, ◌+◌, ◌*◌, get_or, eqb, Float}
 use Rattle.std.specs.Float.{nan}
 use Rattle.patch_geometry.specs.Geometry.{point_at}
 use Rattle.stitch_projection.specs.Projection.{mixed}
@@ -57,8 +57,8 @@ ring_after b c next xs = numbers_of 0 next (edges_of xs) ++ (b ∷ numbers_of 1 
 
 -- ---- the fan as it is written: one vertex after another, each with the one before it
 
--- the triangles that the vertices of a list add to a fan from corner a, behind the vertex `last` if there was one
-unfoldable pub fan_go : ℕ → Bool → ℕ → List ℕ → List ℕ
-fan_go a started last [] = []
-fan_go a false last (y ∷ ys) = fan_go a true y ys
-fan_go a true last (y ∷ ys) = a ∷ last ∷ y ∷ fan_go a true y ys
+-- the triangles that the vertices of a list add to a fan from corner a, behind the last vertex if there was one
+unfoldable pub fan_go : ℕ → Option ℕ → List ℕ → List ℕ
+fan_go a last [] = []
+fan_go a None (y ∷ ys) = fan_go a (Some y) ys
+fan_go a (Some last) (y ∷ ys) = a ∷ last ∷ y ∷ fan_go a (Some y) ys

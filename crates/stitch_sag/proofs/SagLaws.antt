@@ -1,11 +1,12 @@
 -- The distance within the sag, with and without its root. Assumes nothing.
 use mathlib.Core.Path.{◌≡◌, refl, sym, ap, ◌∙◌, subst}
 use mathlib.Core.Bool.{Bool, true, false, not, ◌&&◌, ◌||◌, cond}
-use mathlib.Core.Option.{Option, none, some}
+use mathlib.Core.Option as Math
 use lib.Dec.{T}
 use lib.Ieee as Ieee
 use lib.Ieee.{Float, inf, binary64, fits, lt, eq}
 use lib.Ieee.Fits.{add-fits, mul-fits}
+use Rattle.std.specs.Prelude.{Option, Some, None}
 use Rattle.float_sqrt.specs.Roots.{sqrt}
 use Rattle.float_sqrt.specs.RootOrder.{not_above_infinity, below_root}
 use Rattle.patch_geometry.specs.declared.Vec3.{Vec3}
@@ -13,8 +14,6 @@ use Rattle.patch_geometry.specs.Geometry.{sub, mul, div, sub_v, scale, dot, leng
 use Rattle.stitch_projection.specs.declared.Edge.{Edge}
 use Rattle.stitch_projection.specs.declared.Hit.{Hit}
 use Rattle.stitch_feet.specs.declared.Foot.{Foot}
-use Rattle.stitch_feet.specs.declared.Footing.{Footing}
-use Rattle.stitch_feet.specs.declared.Footing.TheVariants as Footing
 use Rattle.stitch_projection.specs.Projection.{near_end, far_end, within_sag}
 use Rattle.stitch_feet.specs.Answers.{footing}
 use Rattle.stitch_sag.specs.Beyond.{Beyond, Ruled}
@@ -36,20 +35,20 @@ beyond_infinity sag = record { far = λ x f l. absurd (not_above_infinity x (sub
 
 module _ (sag : Float) (s : Edge) (r : Vec3) where
   -- the verdict at a footing
-  abbrev near_at : Footing → Bool
-  near_at o = elim (hit_of o) [ none ↦ false | some h ↦ not (lt sag h.distance) ]
+  abbrev near_at : Option Foot → Bool
+  near_at o = elim (hit_of o) [ Math.none ↦ false | Math.some h ↦ not (lt sag h.distance) ]
 
-  module _ {o : Footing} (e : o ≡ footing s r) where
+  module _ {o : Option Foot} (e : o ≡ footing s r) where
     -- the definition's verdict is that at the footing
     near_foot : near_at o ≡ within_sag sag s r
     unfolding within_sag
-    near_foot = ap near_at e ∙ ap (λ (h : Option Hit). elim h [ none ↦ false | some h ↦ not (lt sag h.distance) ]) (hit_foot s r)
+    near_foot = ap near_at e ∙ ap (λ (h : Math.Option Hit). elim h [ Math.none ↦ false | Math.some h ↦ not (lt sag h.distance) ]) (hit_foot s r)
 
     -- no footing isn't near
-    pub within_outside : o ≡ Footing.Outside → false ≡ within_sag sag s r
+    pub within_outside : o ≡ None → false ≡ within_sag sag s r
     within_outside g = ap near_at (sym g) ∙ near_foot
 
-    module _ (f : Foot) {d : Float} (g : o ≡ Footing.Inside f) (h : d ≡ dot f.off f.off) where
+    module _ (f : Foot) {d : Float} (g : o ≡ Some f) (h : d ≡ dot f.off f.off) where
       -- the root decides
       pub within_root : {q : Float} → q ≡ sqrt d → not (lt sag q) ≡ within_sag sag s r
       unfolding length_v
@@ -64,21 +63,21 @@ module _ (sag : Float) (s : Edge) (r : Vec3) where
 module _ (s : Edge) (r : Vec3) {w : Vec3} {k : Float} (e : w ≡ sub_v r s.start) (m : k ≡ dot w s.along) where
   -- the footing by the way and the product that the code makes
   there : cond (not (eq s.squared zero64) && lt near_end (div k s.squared) && lt (div k s.squared) far_end)
-      (Footing.Inside (record { t = div k s.squared; off = sub_v w (scale s.along (div k s.squared)) })) Footing.Outside ≡ footing s r
+      (Some (record { t = div k s.squared; off = sub_v w (scale s.along (div k s.squared)) })) None ≡ footing s r
   unfolding footing
   there = ap (at w) m ∙ ap (λ (w : Vec3). at w (dot w s.along)) e
     where
-      at : Vec3 → Float → Footing
+      at : Vec3 → Float → Option Foot
       at w k =
           cond (not (eq s.squared zero64) && lt near_end (div k s.squared) && lt (div k s.squared) far_end)
-          (Footing.Inside (record { t = div k s.squared; off = sub_v w (scale s.along (div k s.squared)) })) Footing.Outside
+          (Some (record { t = div k s.squared; off = sub_v w (scale s.along (div k s.squared)) })) None
 
   -- the sign of the product of both distances
   pub ruled_sign : (b : Float) → lt (mul (sub (div k s.squared) near_end) (sub far_end (div k s.squared))) zero64 ≡ true → Ruled b s r false
   unfolding Ieee.of_bits
   ruled_sign b h = record {
     out = λ sag y z. sym (within_outside sag s r refl
-        (sym there ∙ outside (Footing.Inside (record { t = div k s.squared; off = sub_v w (scale s.along (div k s.squared)) })) (not (eq s.squared zero64))
+        (sym there ∙ outside (Some (record { t = div k s.squared; off = sub_v w (scale s.along (div k s.squared)) })) (not (eq s.squared zero64))
         (lt near_end (div k s.squared))
         (lt (div k s.squared) far_end) both));
   }
@@ -86,7 +85,7 @@ module _ (s : Edge) (r : Vec3) {w : Vec3} {k : Float} (e : w ≡ sub_v r s.start
       both : lt near_end (div k s.squared) ≡ true → lt (div k s.squared) far_end ≡ true → ⊥
       both p q = between_plain binary64 near_end (div k s.squared) far_end p q h
 
-      outside : (f : Footing) (a c d : Bool) → (c ≡ true → d ≡ true → ⊥) → cond (a && c && d) f Footing.Outside ≡ Footing.Outside
+      outside : (f : Option Foot) (a c d : Bool) → (c ≡ true → d ≡ true → ⊥) → cond (a && c && d) f None ≡ None
       outside f true true true n = absurd (n refl refl)
       outside f true true false n = refl
       outside f true false d n = refl
@@ -106,7 +105,7 @@ module _ (s : Edge) (r : Vec3) {w : Vec3} {k : Float} (e : w ≡ sub_v r s.start
       square : d ≡ dot off off
       square = ed ∙ ap (λ (o : Vec3). dot o o) (eo ∙ ap (sub_v w) eu)
 
-      go : (sag : Float) → Beyond sag b → lt b d ≡ true → (c : Bool) → cond c (Footing.Inside (record { t = div k s.squared; off = off })) Footing.Outside ≡ footing s r → within_sag sag s r ≡ false
+      go : (sag : Float) → Beyond sag b → lt b d ≡ true → (c : Bool) → cond c (Some (record { t = div k s.squared; off = off })) None ≡ footing s r → within_sag sag s r ≡ false
       go sag y l true g = sym (within_beyond sag s r g (record { t = div k s.squared; off = off }) refl square y l)
       go sag y l false g = sym (within_outside sag s r g refl)
 

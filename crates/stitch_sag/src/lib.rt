@@ -6,7 +6,7 @@ ghost use Rattle.stitch_sag.specs.Beyond.{Beyond, Ruled};
 ghost use Rattle.stitch_projection.specs.Projection.{within_sag};
 
 use patch_geometry::Vec3;
-use stitch_feet::{Footing, foot_of};
+use stitch_feet::foot_of;
 use stitch_projection::Edge;
 
 // The lowest sag that is squared: the square of a much lower one would vanish.
@@ -38,8 +38,8 @@ pub fn within_sag(s: Edge, r: Vec3, sag: f64, beyond: f64) -> bool
     ensures { result ≡ within_sag sag s r }
 {
     match foot_of(s, r) {
-        Footing::Outside => false,
-        Footing::Inside(f) => {
+        None => false,
+        Some(f) => {
             let off = f.off;
             let d = off.dot(off);
             if d > beyond {
@@ -57,10 +57,10 @@ pub fn may_hit(s: Edge, r: Vec3, beyond: f64) -> bool
 {
     let start = s.start;
     let along = s.along;
-    let w = r.sub(start);
+    let w = r - start;
     let t = w.dot(along) / s.squared;
     let outside = (t - 0.000001) * (0.999999 - t) < 0.0;
-    let off = w.sub(along.scale(t));
+    let off = w - along * t;
     let d = off.dot(off);
     !(outside | (d > beyond))
 }

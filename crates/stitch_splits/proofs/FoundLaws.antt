@@ -14,7 +14,8 @@ use Rattle.stitch_loose_points.specs.Listed.{loose_of}
 use Rattle.stitch_splits.specs.declared.sides.Sides.{Sides}
 use Rattle.stitch_splits.specs.Splits.{Placed, sides_of, place, kept_on, split_triangle}
 use Rattle.stitch_splits.specs.Entries.{Entry, insert_entry, kept_entries}
-use Rattle.stitch_splits.specs.Found.{sides_from, found_only, Spot, spot_of, with_spot, with_vertex, entries_on, triangle_found, triangle_kept}
+use Rattle.stitch_splits.specs.declared.sides.Spot.{Spot}
+use Rattle.stitch_splits.specs.Found.{sides_from, found_only, spot_of, with_spot, with_vertex, entries_on, triangle_found, triangle_kept}
 use Rattle.stitch_splits.specs.Filters.{map_option, filter_map_append}
 use Rattle.stitch_splits.specs.Cells.{cells_name}
 use Rattle.stitch_splits.proofs.FoundPoints.{found_points, found_count_lem}

@@ -3,3 +3,4 @@ pub mod FoundLaws
 pub mod FoundPoints
 pub mod Places
 pub mod Sorted
+pub mod SideCases

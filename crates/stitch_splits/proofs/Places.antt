@@ -16,7 +16,8 @@ use Rattle.stitch_loose_points.specs.Loose.{Facet}
 use Rattle.stitch_splits.specs.declared.sides.Sides.{Sides}
 use Rattle.stitch_splits.specs.Splits.{Side, side_of, sides_of, Placed, nearer, place_on, place_from, place}
 use Rattle.stitch_splits.specs.Entries.{Entry}
-use Rattle.stitch_splits.specs.Found.{sides_from, Spot, nearer_spot, spot_of}
+use Rattle.stitch_splits.specs.declared.sides.Spot.{Spot}
+use Rattle.stitch_splits.specs.Found.{sides_from, nearer_spot, spot_of}
 use Rattle.stitch_splits.specs.Filters.{map_option, filter_map_map}
 
 module _ (f : Facet) (r : Vec3) where

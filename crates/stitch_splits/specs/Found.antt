@@ -10,6 +10,7 @@ use Rattle.stitch_projection.specs.Projection.{edge_of, project, within_sag}
 use Rattle.stitch_loose_points.specs.Loose.{Corner, Facet}
 use Rattle.stitch_splits.specs.declared.sides.TriangleEdge.{TriangleEdge}
 use Rattle.stitch_splits.specs.declared.sides.Sides.{Sides}
+use Rattle.stitch_splits.specs.declared.sides.Spot.{Spot}
 use Rattle.stitch_splits.specs.Entries.{Entry, insert_entry, kept_entries}
 
 -- an edge of a triangle as the code holds it
@@ -41,12 +42,6 @@ unfoldable pub found_only : Float → Sides → ℕ → ℕ → Vec3 → Bool
 found_only sag s zero name r = counts_on sag s 0 name r
 found_only sag s (suc zero) name r = counts_on sag s 1 name r && not (counts_on sag s 0 name r)
 found_only sag s (suc (suc e)) name r = counts_on sag s 2 name r && not (counts_on sag s 0 name r) && not (counts_on sag s 1 name r)
-
--- where a point is placed: an edge, the parameter and the distance
-pub record Spot : Type 0 where
-  pub e : ℕ
-  pub t : Float
-  pub distance : Float
 
 -- the nearer of a place and a hit on edge e: the first on ties
 abbrev pub nearer_spot : Option Spot → ℕ → Option Hit → Option Spot

@@ -8,19 +8,6 @@ use Rattle.stitch_projection.specs.Projection.{within_sag}
 use Rattle.stitch_splits.specs.declared.sides.Sides.{Sides}
 use Rattle.stitch_splits.specs.Found.{counts, side_of, counts_on, found_only}
 
-module _ (s : Sides) {e : ℕ} where
-  pub side_0 : e ≡ 0 → s.first ≡ side_of s e
-  unfolding side_of
-  side_0 z = ap (side_of s) (sym z)
-
-  pub side_1 : e ≡ 1 → s.second ≡ side_of s e
-  unfolding side_of
-  side_1 z = ap (side_of s) (sym z)
-
-  pub side_2 : e ≤ 2 → (e ≡ 0 → ⊥) → (e ≡ 1 → ⊥) → s.third ≡ side_of s e
-  unfolding side_of
-  side_2 l n m = let z : 2 ≡ e = omega arith in ap (side_of s) z
-
 -- what does not count for an edge is not found on it
 not_found : (sag : Float) (s : Sides) (e name : ℕ) (r : Vec3) → counts sag (side_of s e) name r ≡ false → found_only sag s e name r ≡ false
 unfolding side_of counts_on found_only

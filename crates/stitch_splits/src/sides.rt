@@ -22,19 +22,23 @@ pub struct Sides {
     pub third: TriangleEdge,
 }
 
+// Where a point is placed: an edge, the parameter along it, and the distance from it.
+#[derive(Clone, Copy)]
+pub struct Spot {
+    pub e: u64,
+    pub t: f64,
+    pub distance: f64,
+}
+
 // The edge from corner e.
+#[tactic(auto, unfolding(crate::specs::Found::side_of))]
 pub fn side_of(s: Sides, e: u64) -> TriangleEdge
     requires { e ≤ 2 }
     ensures { result ≡ side_of s e }
 {
-    if e == 0 {
-        let first = s.first;
-        return first;
+    match e {
+        0 => s.first,
+        1 => s.second,
+        _ => s.third,
     }
-    if e == 1 {
-        let second = s.second;
-        return second;
-    }
-    let third = s.third;
-    third
 }

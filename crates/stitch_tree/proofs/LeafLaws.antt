@@ -2,6 +2,7 @@
 use mathlib.Core.Path.{◌≡◌, refl, sym, ap, ◌∙◌, subst}
 use mathlib.Core.List.{List}
 use Prim.Native.Nat.{ℕ, ◌+◌, ◌*◌, ◌/◌, ◌<◌, ◌≤◌}
+use Rattle.std.specs.Prelude.{min}
 use native.Mathlib.Omega.{arith}
 use native.Mathlib.Decide.{ℕ_discrete}
 use lib.ListN.{length, get_or, take, drop}
@@ -11,7 +12,7 @@ use Rattle.stitch_boxes.specs.declared.Bounds.{Bounds}
 use Rattle.stitch_boxes.specs.Boxes.{Within}
 use Rattle.stitch_boxes.specs.Points.{BoxEnds}
 use Rattle.lists.specs.Stretches.{front_at, front_less, rest_less}
-use Rattle.stitch_tree.specs.Nodes.{point_of, box_at, BoxPut, Pointed, PointsBounded, Lesser, LeafReady, LeafBounded, LeavesReady, LeavesBounded}
+use Rattle.stitch_tree.specs.Nodes.{point_of, box_at, BoxPut, Pointed, PointsBounded, LeafReady, LeafBounded, LeavesReady, LeavesBounded}
 use Rattle.stitch_tree.proofs.WordLaws.{box_front}
 use Rattle.stitch_tree.proofs.PointLaws.{pointed_front}
 
@@ -20,25 +21,6 @@ pub within_same : {A B : Bounds} {p q : Vec3} → A ≡ B → p ≡ q → Within
 within_same {A} {B} {p} {q} e f h = subst (λ (C : Bounds). Within C p) (sym e) (subst (Within B) (sym f) h)
 
 -- ---- one leaf
-
-module _ {ps : List Float} {v order n i k end : ℕ} {W : List ℕ} (g : LeafReady ps v order n i k W) (m : Lesser n (8 * i + 8) end) where
-  -- its words are of points
-  pub leaf_pointed : Pointed ps v (order + 8 * i) (order + end) W
-  leaf_pointed = record {
-    all = g.words.all;
-    points = g.words.points;
-    below = λ j a b. g.words.below j (omega arith) (omega (arith, m.left));
-    room = omega (arith, g.words.room, m.left);
-  }
-
-  -- and its box is written
-  pub leaf_bounded : {b : Bounds} {E : List ℕ} → PointsBounded ps (order + 8 * i) (order + end) W b → BoxPut k b W E → LeafBounded ps order n i k W E
-  leaf_bounded p o = record {
-    ends = subst BoxEnds (sym o.is) p.ends;
-    holds = λ j l e. within_same o.is refl (p.holds (order + j) (omega arith) (let h = m.above j l (omega arith) in omega arith));
-    front = o.front;
-    rest = o.rest;
-  }
 
 -- ---- all leaves
 

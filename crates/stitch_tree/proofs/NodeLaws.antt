@@ -30,43 +30,43 @@ node_bounded {boxes} {k} {W} {E} g e f m o = record {
 
 -- ---- all nodes
 
--- the nodes above k have their boxes: W became E
+-- the nodes from k on have their boxes: W became E
 pub record NodesBounding (boxes leaves : ℕ) (W : List ℕ) (k : ℕ) (E : List ℕ) : Type 0 where
-  pub low : k < leaves
-  pub hulls : (q : ℕ) → k < q → q < leaves → Halved boxes E q
+  pub low : k ≤ leaves
+  pub hulls : (q : ℕ) → k ≤ q → q < leaves → Halved boxes E q
   pub front : take boxes E ≡ take boxes W
   pub rest : drop (boxes + 6 * leaves) E ≡ drop (boxes + 6 * leaves) W
   pub long : length E ≡ length W
 
 module _ {boxes leaves : ℕ} {W : List ℕ} (g : NodesReady boxes leaves W) where
   -- none has
-  pub nodes_none : NodesBounding boxes leaves W (leaves - 1) W
-  nodes_none = record { low = omega (arith, g.some); hulls = λ q l h. absurd (omega arith); front = refl; rest = refl; long = refl }
+  pub nodes_none : NodesBounding boxes leaves W leaves W
+  nodes_none = record { low = omega arith; hulls = λ q l h. absurd (omega arith); front = refl; rest = refl; long = refl }
 
   module _ {k : ℕ} {E : List ℕ} (c : NodesBounding boxes leaves W k E) where
-    -- the next may have
-    pub node_ready : 0 < k → NodeReady boxes k E
-    node_ready l = record { inner = l; room = omega (arith, g.room, c.low, c.long) }
+    -- the one before may have
+    pub node_ready : 1 < k → NodeReady boxes (k - 1) E
+    node_ready l = record { inner = omega arith; room = omega (arith, g.room, c.low, c.long) }
 
     -- and has
-    pub nodes_more : {F : List ℕ} → 0 < k → NodeBounded boxes k E F → length F ≡ length E → NodesBounding boxes leaves W (k - 1) F
+    pub nodes_more : {F : List ℕ} → 1 < k → NodeBounded boxes (k - 1) E F → length F ≡ length E → NodesBounding boxes leaves W (k - 1) F
     nodes_more {F} l o e = record {
       low = omega (arith, c.low);
-      hulls = λ q a h. halved q a h (ℕ_discrete q k);
-      front = front_less boxes (boxes + 6 * k) E F o.front (omega arith) ∙ c.front;
-      rest = rest_less (boxes + 6 * (k + 1)) (boxes + 6 * leaves) E F o.rest (omega (arith, c.low)) ∙ c.rest;
+      hulls = λ q a h. halved q a h (ℕ_discrete q (k - 1));
+      front = front_less boxes (boxes + 6 * (k - 1)) E F o.front (omega arith) ∙ c.front;
+      rest = rest_less (boxes + 6 * (k - 1 + 1)) (boxes + 6 * leaves) E F o.rest (omega (arith, c.low)) ∙ c.rest;
       long = e ∙ c.long;
     }
       where
-        kept : (q : ℕ) → k < q → box_at F (boxes + 6 * q) ≡ box_at E (boxes + 6 * q)
-        kept q l = box_rest E F (boxes + 6 * (k + 1)) (boxes + 6 * q) o.rest (omega arith)
+        kept : (q : ℕ) → k ≤ q → box_at F (boxes + 6 * q) ≡ box_at E (boxes + 6 * q)
+        kept q h = box_rest E F (boxes + 6 * (k - 1 + 1)) (boxes + 6 * q) o.rest (omega arith)
 
-        halved : (q : ℕ) → k - 1 < q → q < leaves → Dec (q ≡ k) → Halved boxes F q
+        halved : (q : ℕ) → k - 1 ≤ q → q < leaves → Dec (q ≡ k - 1) → Halved boxes F q
         halved q a h (yes z) = subst (Halved boxes F) (sym z) o.hull
         halved q a h (no z) =
-            let b : k < q = omega arith in
+            let b : k ≤ q = omega arith in
             kept q b ∙ c.hulls q b h ∙ sym (hull_same (kept (2 * q) (omega arith)) (kept (2 * q + 1) (omega arith)))
 
     -- all have
-    pub nodes_all : k ≤ 0 → NodesBounded boxes leaves W E
+    pub nodes_all : k ≤ 1 → NodesBounded boxes leaves W E
     nodes_all l = record { hulls = λ q a h. c.hulls q (omega arith) h; front = c.front; rest = c.rest }

@@ -9,10 +9,12 @@ use lib.Seq.{length-take-le}
 use lib.Dec.{ltb}
 use lib.Ieee.{Float}
 use borrow.Author.Tests.{lt-ltb, ltb-true}
+use Rattle.std.specs.Prelude.{min, swap}
+use Rattle.std.proofs.lemmas.List.Edits.{swap_is}
 use Rattle.lists.specs.Stretches.{front_less, rest_less, stretch_at}
 use Rattle.slice_pairs.specs.Rearranged.{Rearranged, same_self, same_then, same_each}
 use Rattle.slice_pairs.specs.Swaps.{swapped, swapped_long, swap_same, swap_front, swap_rest}
-use Rattle.stitch_tree.specs.Nodes.{CoordinateHeld, Pointed, Lesser}
+use Rattle.stitch_tree.specs.Nodes.{CoordinateHeld, Pointed}
 use Rattle.stitch_tree.proofs.PointLaws.{point_held}
 use Rattle.stitch_tree.specs.Ordering.{Permuted, Stretch, PartReady, Parted, BlocksReady, OrderReady}
 
@@ -117,11 +119,12 @@ module _ {ps : List Float} {v from to axis : ℕ} {W : List ℕ} (g : PartReady 
     next_held = coordinate_held (part_ready from to c.permuted (omega arith) g.stretch.ordered (omega arith)) (omega (arith, c.low, c.high)) l
 
     -- and is
-    pub parting_more : (step : ℕ) {F : List ℕ} → step ≤ 1 → F ≡ swapped E cut j → Parting from to W (cut + step) (j + 1) F
+    pub parting_more : (step : ℕ) {F : List ℕ} → step ≤ 1 → F ≡ swap E cut j → Parting from to W (cut + step) (j + 1) F
     parting_more step s e = record {
       permuted =
           permuted_then c.permuted
-          (permuted_swap cut j c.low (omega (arith, c.high)) (omega (arith, c.low, c.high)) l (omega (arith, g.stretch.words.room, c.permuted.long)) e);
+          (permuted_swap cut j c.low (omega (arith, c.high)) (omega (arith, c.low, c.high)) l (omega (arith, g.stretch.words.room, c.permuted.long))
+          (e ∙ sym (swap_is E cut j 0 (omega (arith, c.high, g.stretch.words.room, c.permuted.long)) (omega (arith, g.stretch.words.room, c.permuted.long)))));
       low = omega (arith, c.low);
       high = omega (arith, c.high);
       here = omega arith;
@@ -182,17 +185,17 @@ module _ {ps : List Float} {v order n half : ℕ} {W : List ℕ} (g : BlocksRead
   halving_none = record { permuted = permuted_self order (order + n) W; small = omega arith }
 
   module _ {a : ℕ} {E : List ℕ} (c : Halving order n half W a E) (l : a + half < n) where
-    module _ {b : ℕ} (m : Lesser n (a + 2 * half) b) where
+    module _ {b : ℕ} (m : b ≡ min n (a + 2 * half)) where
       -- the next may be
       pub halve_ready : Stretch ps v (order + a) (order + b) E
       halve_ready = record {
-        words = pointed_within (order + a) (order + b) (pointed_permuted g.words (omega arith) c.permuted) (omega arith) (omega (arith, m.left));
-        ordered = let h = m.above a (omega arith) (omega (arith, g.some)) in omega arith;
+        words = pointed_within (order + a) (order + b) (pointed_permuted g.words (omega arith) c.permuted) (omega arith) (omega (arith, m));
+        ordered = omega (arith, g.some);
       }
 
       -- and is
       pub halving_more : {F : List ℕ} → Permuted (order + a) (order + b) E F → Halving order n half W (a + 2 * half) F
-      halving_more p = record { permuted = permuted_then c.permuted (permuted_within p (omega arith) (omega (arith, m.left))); small = omega arith }
+      halving_more p = record { permuted = permuted_then c.permuted (permuted_within p (omega arith) (omega (arith, m))); small = omega arith }
 
 -- ---- all
 

@@ -34,30 +34,6 @@ pub record Rising (n h room : ℕ) : Type 0 where
   pub low : h ≤ 17
   pub least : (b : ℕ) → 12 ≤ b → 3 * n ≤ b → 12 * 2 ^ h ≤ b
 
--- one leaf
-pub rising_none : (n : ℕ) → Rising n 0 8
-rising_none n = record { is = refl; some = omega arith; low = omega arith; least = λ b l h. omega arith }
-
-module _ {n h room : ℕ} (f : n ≤ 786432) (c : Rising n h room) where
-  -- a level more
-  pub rising_more : room < n → Rising n (h + 1) (2 * room)
-  rising_more l =
-      let e : 2 ^ (h + 1) ≡ 2 * 2 ^ h = ap (λ (k : ℕ). 2 ^ k) (add-one h) ∙ power h in
-      record {
-        is = omega (arith, c.is, e);
-        some = omega (arith, c.some);
-        low = low (dec_lt h 17);
-        least = λ b p q. omega (arith, c.is, e);
-      }
-    where
-      low : Dec (h < 17) → h + 1 ≤ 17
-      low (yes p) = omega arith
-      low (no p) = let q : 2 ^ 17 ≤ 2 ^ h = pow_mono {i = 17} {j = h} (omega arith) in absurd (omega (arith, c.is))
-
-  -- it has room
-  pub rising_all : n ≤ room → HeightOf n h
-  rising_all l = record { few = omega (arith, c.is); low = c.low; least = c.least }
-
 -- ---- what the steps ask
 
 module _ {ps : List Float} {v order n boxes top leaves : ℕ} {W : List ℕ} (g : TreeReady ps v order n boxes W) (t : HeightOf n top) (p : leaves ≡ 2 ^ top) where

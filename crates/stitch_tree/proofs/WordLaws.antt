@@ -21,20 +21,12 @@ made a b = record { low = a; high = b }
 pub span_is : {a b c d : Float} → a ≡ c → b ≡ d → made a b ≡ made c d
 span_is {a} {b} {c} {d} h k = ap (λ (z : Float). made z b) h ∙ ap (made c) k
 
--- as it is read
-pub span_read : (W : List ℕ) (k : ℕ) {a b : Float} → a ≡ f64 (get_or W k 0) → b ≡ f64 (get_or W (k + 1) 0) → made a b ≡ span_at W k
-span_read W k h l = span_is h l
-
 abbrev box : Span → Span → Span → Bounds
 box a b c = record { x = a; y = b; z = c }
 
 -- a box by its spans
 pub box_is : {a b c x y z : Span} → a ≡ x → b ≡ y → c ≡ z → box a b c ≡ box x y z
 box_is {a} {b} {c} {x} {y} {z} h k l = ap (λ (s : Span). box s b c) h ∙ ap (λ (s : Span). box x s c) k ∙ ap (box x y) l
-
--- as it is read
-pub box_read : (W : List ℕ) (k : ℕ) {a b c : Span} → a ≡ span_at W k → b ≡ span_at W (k + 2) → c ≡ span_at W (k + 4) → box a b c ≡ box_at W k
-box_read W k h l m = box_is h l m
 
 -- ---- what is as it was
 

@@ -55,12 +55,6 @@ pub record PointsBounded (ps : List Float) (from to : ℕ) (W : List ℕ) (r : B
   pub ends : BoxEnds r
   pub holds : (j : ℕ) → from ≤ j → j < to → Within r (point_of ps (get_or W j 0))
 
--- the lower of two numbers
-pub record Lesser (a b r : ℕ) : Type 0 where
-  pub left : r ≤ a
-  pub right : r ≤ b
-  pub above : (x : ℕ) → x < a → x < b → x < r
-
 -- what bounding leaf i of the n words from `order` on asks; its box is to stand at k
 pub record LeafReady (ps : List Float) (v order n i k : ℕ) (W : List ℕ) : Type 0 where
   pub words : Pointed ps v order (order + n) W

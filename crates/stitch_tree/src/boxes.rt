@@ -6,7 +6,6 @@ ghost use Rattle.stitch_tree.specs.Nodes.{
   box_at,
   SpanPut,
   BoxPut,
-  Lesser,
   LeafReady,
   LeafBounded,
   LeavesReady,
@@ -73,16 +72,6 @@ fn put_box(w: &mut [u64], k: usize, b: Bounds)
     put_span(w, k + 4, z.low, z.high);
 }
 
-// The lower of two numbers.
-pub fn lesser(a: usize, b: usize) -> usize
-    ensures { Lesser a b result }
-{
-    if a < b {
-        return a;
-    }
-    b
-}
-
 // The box of leaf i of the n words from `order` on is written at k; one without a word holds nothing.
 fn bound_leaf(
     positions: &[f32],
@@ -97,7 +86,7 @@ fn bound_leaf(
     ensures { LeafBounded positions.now order n i k w.old w.new }
 {
     let first = LEAF * i;
-    let end = lesser(n, first + LEAF);
+    let end = n.min(first + LEAF);
     let b = bound_points(positions, w, v, order + first, order + end);
     put_box(w, k, b);
 }
@@ -115,10 +104,8 @@ pub fn bound_leaves(
     requires { LeavesReady positions.now v order n boxes leaves w.old }
     ensures { LeavesBounded positions.now order n boxes leaves w.old w.new }
 {
-    let mut i = 0usize;
-    while i < leaves {
+    for i in 0..leaves {
         bound_leaf(positions, w, v, order, n, i, boxes + BOX * (leaves + i));
-        i += 1;
     }
 }
 
@@ -137,9 +124,7 @@ pub fn bound_nodes(w: &mut [u64], boxes: usize, leaves: usize)
     requires { NodesReady boxes leaves w.old }
     ensures { NodesBounded boxes leaves w.old w.new }
 {
-    let mut k = leaves - 1;
-    while k > 0 {
+    for k in (1..leaves).rev() {
         bound_node(w, boxes, k);
-        k -= 1;
     }
 }

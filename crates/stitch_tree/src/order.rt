@@ -5,10 +5,8 @@ ghost use Rattle.std.specs.Prelude.{◌+◌, ◌<◌, ◌≤◌};
 ghost use Rattle.stitch_tree.specs.Ordering.{Permuted, Stretch, PartReady, Parted, BlocksReady, OrderReady};
 
 use crate::LEAF;
-use crate::boxes::lesser;
 use crate::points::{bound_points, coordinate};
 use float_spans::Span;
-use slice_pairs::swap_words;
 use stitch_boxes::Bounds;
 
 // A stretch is parted at most so often: then the middle of its span is one of its ends.
@@ -19,10 +17,8 @@ fn extent(positions: &[f32], w: &[u64], v: usize, from: usize, to: usize, axis: 
     requires { PartReady positions.now v from to axis w.now }
 {
     let mut s = Span::empty();
-    let mut j = from;
-    while j < to {
+    for j in from..to {
         s = s.hull(Span::one(coordinate(positions, w, v, j, axis)));
-        j += 1;
     }
     s
 }
@@ -50,10 +46,7 @@ fn widest(b: Bounds) -> usize
 fn step_below(x: f64, pivot: f64) -> usize
     ensures { result ≤ 1 }
 {
-    if x < pivot {
-        return 1;
-    }
-    0
+    usize::from(x < pivot)
 }
 
 // The words whose points are below the pivot come first; the answer is where the others begin.
@@ -70,12 +63,10 @@ fn part(
     ensures { Parted from to w.old w.new result }
 {
     let mut cut = from;
-    let mut j = from;
-    while j < to {
+    for j in from..to {
         let step = step_below(coordinate(positions, w, v, j, axis), pivot);
-        swap_words(w, cut, j);
+        w.swap(cut, j);
         cut += step;
-        j += 1;
     }
     cut
 }
@@ -95,14 +86,12 @@ fn settle(
 {
     let mut a = from;
     let mut b = to;
-    let mut rounds = 0usize;
-    while rounds < ROUNDS {
+    for _ in 0..ROUNDS {
         let s = extent(positions, w, v, a, b, axis);
         if s.low >= s.high {
             return;
         }
         let cut = part(positions, w, v, a, b, axis, 0.5 * s.low + 0.5 * s.high);
-        rounds += 1;
         if middle < cut {
             b = cut;
         } else {
@@ -127,7 +116,7 @@ fn halve_blocks(positions: &[f32], w: &mut [u64], v: usize, order: usize, n: usi
 {
     let mut a = 0usize;
     while a + half < n {
-        let b = lesser(n, a + 2 * half);
+        let b = n.min(a + 2 * half);
         halve(positions, w, v, order + a, order + b, order + a + half);
         a += 2 * half;
     }

@@ -29,10 +29,8 @@ pub fn bound_points(positions: &[f32], w: &[u64], v: usize, from: usize, to: usi
     ensures { PointsBounded positions.now from to w.now result }
 {
     let mut b = Bounds::empty();
-    let mut j = from;
-    while j < to {
+    for j in from..to {
         b = b.hull(Bounds::point(point_at(positions, w, v, j)));
-        j += 1;
     }
     b
 }

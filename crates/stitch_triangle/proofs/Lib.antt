@@ -1,5 +1,4 @@
 -- The laws that the proofs of this crate cite, by subject.
-pub mod FindingLaws
 pub mod PlacingLaws
 pub mod NodeLaws
 pub mod SearchLaws

@@ -95,20 +95,13 @@ raising_more {leaf} {height} {top} {h} r l n =
     even : (x : ℕ) → (x % 2 ≡ 1 → ⊥) → x % 2 ≡ 0
     even x n = omega arith
 
+-- none of them had a second half
+pub raising_end : {leaf height top h : ℕ} → Raising leaf height top h → top ≤ h → Raised leaf height top top
+raising_end {leaf} {height} {top} {h} r l =
+    let e : h ≡ top = omega (arith, r.low) in
+    record { low = omega arith; first = λ z. subst (λ (k : ℕ). leaf % 2 ^ k ≡ 0) e (r.first z) }
+
 pub raising_done : {leaf height top h : ℕ} → Raising leaf height top h → Raised leaf height top h
 raising_done r = record { low = r.low; first = r.first }
 
 -- ---- its box
-
-module _ {boxes leaf height top : ℕ} {W : List ℕ} (g : BoxReady boxes leaf height top W) where
-  -- the box of the node is there
-  pub box_inside : {k n : ℕ} → k ≡ 2 ^ top → n ≡ (k + leaf) / 2 ^ height → boxes + 6 * n + 6 ≤ length W
-  box_inside {k} {n} ek en = under n (2 ^ top) (subst (λ (m : ℕ). n ≡ (m + leaf) / 2 ^ height) ek en) (node_low g.node) g.room
-    where
-      under : (n t : ℕ) → n ≡ (2 ^ top + leaf) / 2 ^ height → (2 ^ top + leaf) / 2 ^ height < 2 * t → boxes + 12 * t ≤ length W → boxes + 6 * n + 6 ≤ length W
-      under n t e l r = omega arith
-
--- what is said of it is said of the node's box
-pub box_far : (W : List ℕ) (s : Edge) (boxes leaf height top : ℕ) (beyond : Float) {k : ℕ} {b : Bounds} {r : Bool} → k ≡ 2 ^ top
-    → b ≡ box_at W (boxes + 6 * ((k + leaf) / 2 ^ height)) → r ≡ far b s beyond → r ≡ far (box_at W (boxes + 6 * ((2 ^ top + leaf) / 2 ^ height))) s beyond
-box_far W s boxes leaf height top beyond {k} {b} {r} ek eb er = er ∙ (λ i. far (eb i) s beyond) ∙ (λ i. far (box_at W (boxes + 6 * ((ek i + leaf) / 2 ^ height))) s beyond)

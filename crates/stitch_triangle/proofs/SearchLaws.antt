@@ -2,13 +2,15 @@
 use mathlib.Core.Path.{◌≡◌, refl, sym, ap, ◌∙◌, subst}
 use mathlib.Core.Bool.{Bool, true, false, not, cond}
 use mathlib.Core.List.{List, [], ◌∷◌, ◌++◌, append-nil, append_assoc}
-use mathlib.Core.Option.{Option, none, some}
+use mathlib.Core.Option as Math
+use mathlib.Core.Option.{none, some}
 use Prim.Native.Nat.{ℕ, zero, suc, ◌+◌, ◌-◌, ◌*◌, ◌/◌, ◌%◌, ◌^◌, ◌<◌, ◌≤◌}
 use native.Mathlib.Omega.{arith}
 use native.Mathlib.Decide.{dec_lt}
 use lib.ListN.{length, get_or, take, drop, length-append, length-drop}
 use lib.Seq.{get_or-take, get_or-drop, take-suc, take-add, take_all, length-take-le}
 use lib.Ieee.{Float}
+use Rattle.std.specs.Prelude.{Option, Some, None}
 use Rattle.lists.specs.Lists.{count_if, filter_map}
 use Rattle.lists.specs.Stretches.{stretch_at, stretch_kept, front_at, front_less, rest_less}
 use Rattle.slice_pairs.specs.Rearranged.{count_append}
@@ -21,15 +23,13 @@ use Rattle.stitch_sag.specs.Beyond.{Ruled}
 use Rattle.stitch_splits.specs.declared.sides.TriangleEdge.{TriangleEdge}
 use Rattle.stitch_splits.specs.declared.sides.Sides.{Sides}
 use Rattle.stitch_splits.specs.Filters.{map_option, filter_map_append}
-use Rattle.stitch_splits.specs.Found.{Spot, side_of, found_only, spot_of}
+use Rattle.stitch_splits.specs.declared.sides.Spot.{Spot}
+use Rattle.stitch_splits.specs.Found.{side_of, found_only, spot_of}
 use Rattle.stitch_splits.specs.SideLaws.{closed_finds_none, far_is_not_found}
 use Rattle.stitch_pairs.specs.FoundPairs.{place_key, found_word, found_pair, found_pairs}
 use Rattle.stitch_pairs.specs.Spots.{spot_key}
 use Rattle.stitch_pairs.specs.Words.{PairRoom, PairAppended}
-use Rattle.stitch_triangle.specs.declared.placing.Placing.{Placing}
-use Rattle.stitch_triangle.specs.declared.placing.Place.{Place}
-use Rattle.stitch_triangle.specs.declared.placing.Place.TheVariants.{Nowhere, On}
-use Rattle.stitch_triangle.specs.Placing.{place_as}
+use Rattle.stitch_feet.specs.Answers.{as_option}
 use Rattle.stitch_triangle.specs.Triangle.{is_found, Ordered, PointReady, TryReady, FoundIn, block_of, BlockReady, BlockEnd}
 
 -- ---- words one after another
@@ -95,44 +95,29 @@ module _ {ps : List Float} {sag : Float} {s : Sides} {v e at ts : ℕ} where
 
 -- ---- a look at one vertex
 
-module _ {ps : List Float} {v order count j : ℕ} {W : List ℕ} (t : PointReady ps v order count j W) where
-  pub word_inside : order + j < length W
-  word_inside = omega (arith, t.inside, t.ordered.room)
-
-  module _ {g : ℕ} (eg : g ≡ get_or W (order + j) 0 % 262144) where
-    pub coordinates_there : 3 * g + 2 < length ps
-    coordinates_there = omega (arith, eg, t.ordered.below j t.inside, t.ordered.all)
-
-    -- what is ruled out is the point of the vertex
-    pub ruled_there : {b : Float} {s : Edge} {r : Vec3} {o : Bool} → r ≡ vertex_at ps (3 * g) → Ruled b s r o → Ruled b s (point_at ps (get_or W (order + j) 0 % 262144)) o
-    ruled_there {b} {s} {r} {o} er d = subst (λ (r : Vec3). Ruled b s r o) (er ∙ ap (point_at ps) eg) d
-
 -- ---- one vertex tried
 
 -- no answer is made of no place alone
-no_spot : (o : Option Spot) → Nowhere ≡ place_as o → o ≡ none
+no_spot : (o : Math.Option Spot) → None ≡ as_option o → o ≡ none
 no_spot none z = refl
 no_spot (some q) z = absurd (let n : ◌≡◌ {A = ℕ} 0 1 = cc in omega arith)
 
 -- an answer is made of its place
-some_spot : (o : Option Spot) (p : Placing) → On p ≡ place_as o → o ≡ some (record { e = p.e; t = p.t; distance = p.distance })
+some_spot : (o : Math.Option Spot) (p : Spot) → Some p ≡ as_option o → o ≡ some p
 some_spot none p z = absurd (let n : ◌≡◌ {A = ℕ} 0 1 = cc in omega arith)
-some_spot (some q) p z = let same : record { e = q.e; t = q.t; distance = q.distance } ≡ p = cc in ap (λ (x : Placing). some (record { e = x.e; t = x.t; distance = x.distance })) same
+some_spot (some q) p z = let same : q ≡ p = cc in ap (λ (x : Spot). some x) same
 
 -- the pairs of one word
-unfoldable pairs_of_one : Option ℕ → List ℕ
+unfoldable pairs_of_one : Math.Option ℕ → List ℕ
 pairs_of_one none = []
 pairs_of_one (some y) = y ∷ []
 
-one_shape : (y : Option ℕ) → elim y [ none ↦ [] | some y ↦ y ∷ [] ] ≡ pairs_of_one y
+one_shape : (y : Math.Option ℕ) → elim y [ none ↦ [] | some y ↦ y ∷ [] ] ≡ pairs_of_one y
 unfolding pairs_of_one
 one_shape none = refl
 one_shape (some y) = refl
 
 module _ {ps : List Float} {sag beyond : Float} {v order count j e at ts found placed : ℕ} {W : List ℕ} (t : TryReady ps sag beyond v order count j e at ts found placed W) where
-  pub try_word : order + j < length W
-  try_word = omega (arith, t.inside, t.ordered.room)
-
   -- the word of its pair fits
   pub word_fits : e * 274877906944 + get_or W (order + j) 0 < 18446744073709551616
   word_fits = omega (arith, t.edge, t.ordered.small j t.inside)
@@ -166,12 +151,12 @@ module _ {ps : List Float} {sag beyond : Float} {v order count j e at ts found p
       spot_there = ap (spot_of s) (er ∙ ap (point_at ps) eg)
 
       -- its pairs, if it is found and if not
-      one_pair : (c : Bool) (q : Option Spot) → c ≡ b → q ≡ spot_of s r
+      one_pair : (c : Bool) (q : Math.Option Spot) → c ≡ b → q ≡ spot_of s r
           → found_pairs sag ps (take v W) s e (word ∷ []) ≡ pairs_of_one (cond c (map_option (λ p. pair_of (place_key p.e p.t) (found_word e word)) q) none)
       unfolding found_pairs found_pair filter_map pairs_of_one
       one_pair c q ec eq = go (is_found sag ps (take v W) s e word) (spot_of s (point_at ps (word % 262144))) (sym (ec ∙ test)) (sym (eq ∙ spot_there))
         where
-          go : (x : Bool) (y : Option Spot) → x ≡ c → y ≡ q
+          go : (x : Bool) (y : Math.Option Spot) → x ≡ c → y ≡ q
               → elim (cond x (map_option (λ p. pair_of (place_key p.e p.t) (found_word e word)) y) none) [ none ↦ [] | some y ↦ y ∷ [] ]
               ≡ pairs_of_one (cond c (map_option (λ p. pair_of (place_key p.e p.t) (found_word e word)) q) none)
           go x y ex ey = one_shape (cond x (map_option (λ p. pair_of (place_key p.e p.t) (found_word e word)) y) none)
@@ -190,7 +175,7 @@ module _ {ps : List Float} {sag beyond : Float} {v order count j e at ts found p
           look (suc k) l = absurd (omega arith)
 
       -- it is found, and projects into no edge
-      pub tried_nowhere : {p : Place} → b ≡ true → p ≡ place_as (spot_of s r) → p ≡ Nowhere → FoundIn ps sag s v e at ts found placed (word ∷ []) W W (found + 1) placed
+      pub tried_nowhere : {p : Option Spot} → b ≡ true → p ≡ as_option (spot_of s r) → p ≡ None → FoundIn ps sag s v e at ts found placed (word ∷ []) W W (found + 1) placed
       unfolding pairs_of_one
       tried_nowhere {p} f q n =
           record {
@@ -206,9 +191,9 @@ module _ {ps : List Float} {sag beyond : Float} {v order count j e at ts found p
           }
 
       -- it is found and placed
-      module _ {p : Place} {k : Placing} (f : b ≡ true) (q : p ≡ place_as (spot_of s r)) (n : p ≡ On k) where
+      module _ {p : Option Spot} {k : Spot} (f : b ≡ true) (q : p ≡ as_option (spot_of s r)) (n : p ≡ Some k) where
         abbrev spot : Spot
-        spot = record { e = k.e; t = k.t; distance = k.distance }
+        spot = k
 
         spot_is : spot_of s r ≡ some spot
         spot_is = some_spot (spot_of s r) k (sym n ∙ q)
@@ -243,13 +228,6 @@ pub record Trying (ps : List Float) (sag : Float) (s : Sides) (v order count fro
   pub high : j ≤ end
   pub so_far : FoundIn ps sag s v e at ts found placed (take (j - from) (drop from (take count (drop order W)))) W E total entries
   pub long : length E ≡ length W
-
--- where a block ends
-pub end_short : {from count : ℕ} → from ≤ count → count - from < 8 → BlockEnd from count count
-end_short l h = record { inside = l; low = omega arith; short = omega arith; whole = λ z. absurd (omega arith) }
-
-pub end_whole : {from count : ℕ} → from ≤ count → (count - from < 8 → ⊥) → BlockEnd from count (from + 8)
-end_whole l h = record { inside = omega arith; low = omega arith; short = omega arith; whole = λ z. refl }
 
 -- a stretch in front of what was written is kept, word by word
 pub ordered_kept : {ps : List Float} {v order count at : ℕ} {W E : List ℕ} → Ordered ps v order count W → order + count ≤ at → take at E ≡ take at W → length E ≡ length W → Ordered ps v order count E

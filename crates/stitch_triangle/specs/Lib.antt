@@ -1,4 +1,4 @@
 -- What finding, placing and splitting a triangle ask and leave.
 pub mod Finding
-pub mod Placing
 pub mod Triangle
+pub mod ByFinder

@@ -14,49 +14,24 @@ fn counts_for(s: TriangleEdge, name: u64, r: Vec3, sag: f64, beyond: f64) -> boo
     ensures { result ≡ counts sag s name r }
 {
     let apart = s.is_open & (name != s.start) & (name != s.end);
-    if apart {
-        return stitch_sag::within_sag(s.edge, r, sag, beyond);
-    }
-    false
-}
-
-// Whether a point counts for the edge from corner 1, and not for the one before it.
-fn found_second(s: Sides, name: u64, r: Vec3, sag: f64, beyond: f64) -> bool
-    requires { Beyond sag beyond }
-    ensures { result ≡ found_only sag s 1 name r }
-{
-    let second = counts_for(s.second, name, r, sag, beyond);
-    if second {
-        let first = counts_for(s.first, name, r, sag, beyond);
-        return !first;
-    }
-    false
-}
-
-// Whether a point counts for the edge from corner 2, and for none before it.
-fn found_third(s: Sides, name: u64, r: Vec3, sag: f64, beyond: f64) -> bool
-    requires { Beyond sag beyond }
-    ensures { result ≡ found_only sag s 2 name r }
-{
-    let third = counts_for(s.third, name, r, sag, beyond);
-    if third {
-        let first = counts_for(s.first, name, r, sag, beyond);
-        let second = counts_for(s.second, name, r, sag, beyond);
-        return !first & !second;
-    }
-    false
+    apart && stitch_sag::within_sag(s.edge, r, sag, beyond)
 }
 
 // Whether a point counts for edge e, and for none before it.
+#[tactic(auto, unfolding(stitch_splits::specs::Found::found_only, stitch_splits::specs::Found::counts_on))]
 pub fn found_on(s: Sides, e: u64, name: u64, r: Vec3, sag: f64, beyond: f64) -> bool
     requires { FindReady sag beyond e }
     ensures { result ≡ found_only sag s e name r }
 {
-    if e == 0 {
-        return counts_for(s.first, name, r, sag, beyond);
+    match e {
+        0 => counts_for(s.first, name, r, sag, beyond),
+        1 => {
+            counts_for(s.second, name, r, sag, beyond) && !counts_for(s.first, name, r, sag, beyond)
+        }
+        _ => {
+            counts_for(s.third, name, r, sag, beyond)
+                && !counts_for(s.first, name, r, sag, beyond)
+                && !counts_for(s.second, name, r, sag, beyond)
+        }
     }
-    if e == 1 {
-        return found_second(s, name, r, sag, beyond);
-    }
-    found_third(s, name, r, sag, beyond)
 }

@@ -4,63 +4,47 @@ ghost use Rattle.std.specs.Prelude.{◌≡◌};
 ghost use Rattle.std.proofs.Math.Option.{some};
 ghost use Rattle.stitch_projection.specs.Projection.{project};
 ghost use Rattle.stitch_splits.specs.Found.{nearer_spot, spot_of};
-ghost use Rattle.stitch_triangle.specs.Placing.{place_as, spot_as};
+ghost use Rattle.stitch_feet.specs.Answers.{as_option, of_option};
 
 use patch_geometry::Vec3;
-use stitch_feet::Projection;
 use stitch_projection::Hit;
-use stitch_splits::Sides;
-
-// An edge, the parameter along it, and the distance from it.
-#[derive(Clone, Copy)]
-pub struct Placing {
-    pub e: u64,
-    pub t: f64,
-    pub distance: f64,
-}
-
-// Whether a point projects into an edge of the triangle, and where it is placed.
-#[derive(Clone, Copy)]
-pub enum Place {
-    Nowhere,
-    On(Placing),
-}
+use stitch_splits::{Sides, Spot};
 
 // The nearer of a place and a hit on edge e: the first on ties.
-fn nearer_hit(best: Place, e: u64, h: Hit) -> Place
-    ensures { result ≡ place_as (nearer_spot (spot_as best) e (some h)) }
+fn nearer_hit(best: Option<Spot>, e: u64, h: Hit) -> Option<Spot>
+    ensures { result ≡ as_option (nearer_spot (of_option best) e (some h)) }
 {
-    let hit = Placing {
+    let hit = Spot {
         e: e,
         t: h.t,
         distance: h.distance,
     };
     match best {
-        Place::Nowhere => Place::On(hit),
-        Place::On(b) => {
+        None => Some(hit),
+        Some(b) => {
             if h.distance < b.distance {
-                return Place::On(hit);
+                return Some(hit);
             }
-            Place::On(b)
+            Some(b)
         }
     }
 }
 
 // The nearer of a place and where a point projects on edge e.
-fn nearer(best: Place, e: u64, edge: stitch_projection::Edge, r: Vec3) -> Place
-    ensures { result ≡ place_as (nearer_spot (spot_as best) e (project edge r)) }
+fn nearer(best: Option<Spot>, e: u64, edge: stitch_projection::Edge, r: Vec3) -> Option<Spot>
+    ensures { result ≡ as_option (nearer_spot (of_option best) e (project edge r)) }
 {
     match stitch_feet::project(edge, r) {
-        Projection::Outside => best,
-        Projection::Inside(h) => nearer_hit(best, e, h),
+        None => best,
+        Some(h) => nearer_hit(best, e, h),
     }
 }
 
 // Where a point is placed: on the nearest of all three edges that it projects into.
-pub fn place_on(s: Sides, r: Vec3) -> Place
-    ensures { result ≡ place_as (spot_of s r) }
+pub fn place_on(s: Sides, r: Vec3) -> Option<Spot>
+    ensures { result ≡ as_option (spot_of s r) }
 {
-    let first = nearer(Place::Nowhere, 0, s.first.edge, r);
+    let first = nearer(None, 0, s.first.edge, r);
     let second = nearer(first, 1, s.second.edge, r);
     nearer(second, 2, s.third.edge, r)
 }

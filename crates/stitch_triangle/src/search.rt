@@ -5,21 +5,11 @@ ghost use Rattle.patch_geometry.specs.Geometry.{point_at};
 ghost use Rattle.stitch_sag.specs.Beyond.{Ruled};
 ghost use Rattle.stitch_boxes.specs.Boxes.{far};
 ghost use Rattle.stitch_tree.specs.Nodes.{box_at};
-ghost use Rattle.stitch_triangle.specs.Triangle.{
-  PointReady,
-  TryReady,
-  FoundIn,
-  block_of,
-  BlockReady,
-  BlockEnd,
-  BoxReady,
-  RaiseReady,
-  Raised,
-  FindOn,
-};
+ghost use Rattle.stitch_triangle.specs.Triangle.{block_of, BlockEnd, RaiseReady, Raised};
+ghost use Rattle.stitch_triangle.specs.ByFinder.{PointReady, TryReady, FoundIn, BlockReady, BoxReady, FindOn};
 
 use crate::finding::found_on;
-use crate::placing::{Place, place_on};
+use crate::placing::place_on;
 use stitch_entries::append_pair;
 use stitch_projection::Edge;
 use stitch_splits::{EDGE_STEP, Finder, Sides, side_of};
@@ -53,7 +43,7 @@ fn vertex_at(w: &[u64], order: usize, j: usize) -> usize
 
 // Whether the vertex of word j may be within the sag of an edge.
 fn may_split(positions: &[f32], w: &[u64], s: Edge, f: Finder, j: usize) -> bool
-    requires { PointReady positions.now f.v f.order f.count j w.now }
+    requires { PointReady positions.now f j w.now }
     ensures { Ruled f.beyond s (point_at positions.now (get_or w.now (f.order + j) 0 % 262144)) result }
 {
     let g = vertex_at(w, f.order, j);
@@ -71,9 +61,8 @@ fn try_vertex(
     e: u64,
     t: Tally,
 ) -> Tally
-    requires { TryReady positions.now f.sag f.beyond f.v f.order f.count j e f.at f.ts t.found t.placed w.old }
-    ensures { FoundIn positions.now f.sag s f.v e f.at f.ts t.found t.placed (get_or w.old (f.order + j) 0 ∷ [])
-        w.old w.new result.found result.placed }
+    requires { TryReady positions.now f j e t w.old }
+    ensures { FoundIn positions.now s f e t (get_or w.old (f.order + j) 0 ∷ []) w.old w.new result }
 {
     let o = w[f.order + j];
     let g = vertex_at(w, f.order, j);
@@ -82,13 +71,13 @@ fn try_vertex(
     let here = found_on(s, e, name, r, f.sag, f.beyond);
     if here {
         match place_on(s, r) {
-            Place::Nowhere => {
+            None => {
                 return Tally {
                     found: t.found + 1,
                     placed: t.placed,
                 };
             }
-            Place::On(p) => {
+            Some(p) => {
                 append_pair(w, f.at, f.ts, t.placed, p.e, p.t, e * FINDER_STEP + o);
                 return Tally {
                     found: t.found + 1,
@@ -105,10 +94,7 @@ fn block_end(from: usize, count: usize) -> usize
     requires { from ≤ count }
     ensures { BlockEnd from count result }
 {
-    if count - from < BLOCK {
-        return count;
-    }
-    from + BLOCK
+    from + BLOCK.min(count - from)
 }
 
 // The vertices of the block at place `from` that may be within the sag of edge e are tried on it.
@@ -119,27 +105,17 @@ fn try_block(
     f: Finder,
     from: usize,
     e: u64,
-    found: u64,
-    placed: usize,
+    before: Tally,
 ) -> Tally
-    requires { BlockReady positions.now f.sag f.beyond f.v f.order f.count from e f.at f.ts found placed w.old }
-    ensures { FoundIn positions.now f.sag s f.v e f.at f.ts found placed (block_of w.old f.order f.count from)
-        w.old w.new result.found result.placed }
+    requires { BlockReady positions.now f from e before w.old }
+    ensures { FoundIn positions.now s f e before (block_of w.old f.order f.count from) w.old w.new result }
 {
     let tried = side_of(s, e);
     let end = block_end(from, f.count);
-    let mut t = Tally {
-        found: found,
-        placed: placed,
-    };
-    let mut j = from;
-    while j < end {
-        let may = may_split(positions, w, tried.edge, f, j);
-        if may {
+    let mut t = before;
+    for j in from..end {
+        if may_split(positions, w, tried.edge, f, j) {
             t = try_vertex(positions, w, s, f, j, e, t);
-            j += 1;
-        } else {
-            j += 1;
         }
     }
     t
@@ -147,7 +123,7 @@ fn try_block(
 
 // Whether the points of 2 ^ height leaves from `leaf` on are all far from an edge.
 fn is_far(w: &[u64], s: Edge, f: Finder, leaf: usize, height: u32) -> bool
-    requires { BoxReady f.boxes leaf height f.top w.now }
+    requires { BoxReady f leaf height w.now }
     ensures { result ≡ far (box_at w.now (f.boxes + 6 * ((2 ^ f.top + leaf) / 2 ^ height))) s f.beyond }
 {
     let leaves = float_steps::power(f.top as u64) as usize;
@@ -161,24 +137,19 @@ fn raised(leaf: usize, height: u32, top: u32) -> u32
     requires { RaiseReady height top }
     ensures { Raised leaf height top result }
 {
-    let mut h = height;
-    while h < top {
+    for h in height..top {
         if (leaf >> h) % 2 == 1 {
             return h;
         }
-        h += 1;
     }
-    h
+    top
 }
 
 // The height that the search begins at: the boxes of the tree's top are far from hardly any edge.
 fn first_height(top: u32) -> u32
     ensures { result ≤ top }
 {
-    if top < TOP_LEVELS {
-        return 0;
-    }
-    top - TOP_LEVELS
+    top.saturating_sub(TOP_LEVELS)
 }
 
 // All loose vertices that may be within the sag of edge e, if it is open, are tried on it.
@@ -188,18 +159,13 @@ pub fn find_all(
     s: Sides,
     f: Finder,
     e: u64,
-    found: u64,
-    placed: usize,
+    before: Tally,
 ) -> Tally
-    requires { FindOn positions.now f.sag f.beyond s f.v f.order f.count f.boxes f.top e f.at f.ts found placed w.old }
-    ensures { FoundIn positions.now f.sag s f.v e f.at f.ts found placed (take f.count (drop f.order w.old))
-        w.old w.new result.found result.placed }
+    requires { FindOn positions.now s f e before w.old }
+    ensures { FoundIn positions.now s f e before (take f.count (drop f.order w.old)) w.old w.new result }
 {
     let side = side_of(s, e);
-    let mut t = Tally {
-        found: found,
-        placed: placed,
-    };
+    let mut t = before;
     if !side.is_open {
         return t;
     }
@@ -214,7 +180,7 @@ pub fn find_all(
         } else if height > 0 {
             height -= 1;
         } else {
-            t = try_block(positions, w, s, f, BLOCK * leaf, e, t.found, t.placed);
+            t = try_block(positions, w, s, f, BLOCK * leaf, e, t);
             leaf += 1;
             height = raised(leaf, 0, highest);
         }

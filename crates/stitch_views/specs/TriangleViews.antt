@@ -1,5 +1,5 @@
 -- A triangle's view says what the definition finds and keeps of it: new vertices, their normals, and the fan. Assumes nothing.
-use Rattle.std.specs.Prelude.{◌≡◌, Bool, true, false, not, length, eqb, Float}
+use Rattle.std.specs.Prelude.{◌≡◌, None, Bool, true, false, not, length, eqb, Float}
 use Rattle.std.proofs.Math.Path.{refl, ap}
 use Rattle.std.proofs.Common.{◌∙◌}
 use mathlib.Core.List.{List, [], ◌∷◌, ◌++◌, map, flat_map}
@@ -147,7 +147,7 @@ module _ {ps : List Float} {n : ℕ} {s : SplitTriangle} {x : View} (h : Seen ps
       ap (flat_map (new_normal ts)) h.kept ∙ entry_normals at ps x.kept
 
   -- and the same fan
-  pub seen_fan : (next : ℕ) → fan (ring s.facet s.kept next) ≡ fan_go x.a false 0 (ring_after x.b x.c next x.kept)
+  pub seen_fan : (next : ℕ) → fan (ring s.facet s.kept next) ≡ fan_go x.a None (ring_after x.b x.c next x.kept)
   unfolding ring
   seen_fan next =
       let f = s.facet in

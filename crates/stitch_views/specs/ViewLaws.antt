@@ -1,5 +1,5 @@
 -- The body that the code makes is the definition's stitched body. Assumes nothing.
-use Rattle.std.specs.Prelude.{◌≡◌, Bool, false, ℕ, suc, ◌+◌, ◌*◌, ◌≤◌, ◌<◌, get_or, take, drop, Float}
+use Rattle.std.specs.Prelude.{◌≡◌, None, Bool, false, ℕ, suc, ◌+◌, ◌*◌, ◌≤◌, ◌<◌, get_or, take, drop, Float}
 use Rattle.std.proofs.Math.Path.{refl, ap}
 use Rattle.std.proofs.Common.{sym, ◌∙◌, subst, arith, drop-drop}
 use mathlib.Core.List.{List, [], ◌∷◌, ◌++◌, map, map-map, flat_map}
@@ -60,7 +60,7 @@ unfolding fanned row_indices
 row_indices_lem next none = refl
 row_indices_lem next (one {s} {x} {ss} {xs} h r) =
     (λ k. seen_fan h next k ++ fanned (next + seen_count h k) ss)
-    ∙ ap (λ (l : List ℕ). fan_go x.a false 0 (ring_after x.b x.c next x.kept) ++ l) (row_indices_lem (next + length x.kept) r)
+    ∙ ap (λ (l : List ℕ). fan_go x.a None (ring_after x.b x.c next x.kept) ++ l) (row_indices_lem (next + length x.kept) r)
 
 -- a row's patch as the code makes it, of its own positions and normals and its views
 abbrev viewed_patch : List Float → List Float → ℕ → Row → List Float → List Float → List View → Patch

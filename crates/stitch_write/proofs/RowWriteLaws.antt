@@ -1,6 +1,6 @@
 -- Laws of writing one row: its own vertices, then triangle after triangle. Assumes nothing.
 use mathlib.Core.Path.{◌≡◌, refl, sym, ap, ◌∙◌, subst}
-use mathlib.Core.Bool.{false}
+use Rattle.std.specs.Prelude.{None}
 use mathlib.Core.List.{List, [], ◌∷◌, ◌++◌, flat_map, append_assoc, append-nil}
 use Prim.Native.Nat.{ℕ, ◌+◌, ◌-◌, ◌*◌, ◌%◌, ◌<◌, ◌≤◌}
 use native.Mathlib.Nat.{add-zero}
@@ -17,7 +17,6 @@ use Rattle.stitch_rings.specs.Rings.{new_positions, new_normals, ring_after, fan
 use Rattle.slice_append.specs.Appended.{Appended, appended_none, appended_twice, appended_long}
 use Rattle.stitch_count.specs.Views.{View, row_views, kept_in, row_positions, row_normals, row_indices}
 use Rattle.stitch_count.specs.Counting.{sides_in, views_in, RowReady}
-use Rattle.slice_append.specs.Ready.{StretchReady}
 use Rattle.stitch_write.specs.Lengths.{kept_edges, fan_length, positions_length, normals_length, row_positions_length, row_normals_length}
 use Rattle.stitch_write.specs.Writing.{kept_at, fan_at, TriangleWritable, TriangleWritten, RowWritable, RowWritten}
 use Rattle.stitch_count.specs.RowLaws.{Reached, triangle_ready, three, view, views_here, names_are, list_is, sides_are}
@@ -61,7 +60,7 @@ indices_append : (next : ℕ) (xs ys : List View) → row_indices next (xs ++ ys
 unfolding row_indices kept_in sum_of
 indices_append next [] ys = ap (λ (m : ℕ). row_indices m ys) (sym (add-zero next))
 indices_append next (x ∷ xs) ys =
-    let f = fan_go x.a false 0 (ring_after x.b x.c next x.kept) in
+    let f = fan_go x.a None (ring_after x.b x.c next x.kept) in
     let e : next + length x.kept + kept_in xs ≡ next + (length x.kept + kept_in xs) = omega arith in
     ap (λ (l : List ℕ). f ++ l) (indices_append (next + length x.kept) xs ys)
     ∙ sym (append_assoc f (row_indices (next + length x.kept) xs) (row_indices (next + length x.kept + kept_in xs) ys))
@@ -69,10 +68,10 @@ indices_append next (x ∷ xs) ys =
 
 -- the indices of one triangle more
 indices_more : (next : ℕ) (xs : List View) (x : View)
-    → row_indices next (xs ++ x ∷ []) ≡ row_indices next xs ++ fan_go x.a false 0 (ring_after x.b x.c (next + kept_in xs) x.kept)
+    → row_indices next (xs ++ x ∷ []) ≡ row_indices next xs ++ fan_go x.a None (ring_after x.b x.c (next + kept_in xs) x.kept)
 unfolding row_indices
 indices_more next xs x =
-    let f = fan_go x.a false 0 (ring_after x.b x.c (next + kept_in xs) x.kept) in
+    let f = fan_go x.a None (ring_after x.b x.c (next + kept_in xs) x.kept) in
     indices_append next xs (x ∷ []) ∙ ap (λ (l : List ℕ). row_indices next xs ++ l) (append-nil f)
 
 -- a front of the views has no more indices than all
@@ -106,13 +105,25 @@ module _ {ps ns : List Float} {is : List ℕ} {sag beyond : Float} {n v list cou
     (g : RowWritable ps ns is sag beyond n v list count at ts flags order boxes top base vertices from to vo io W P N I) where
   -- ---- the row's own vertices
 
-  -- the stretch of its positions
-  pub own_positions : StretchReady ps (3 * base) (3 * (base + vertices)) P (3 * vo)
-  own_positions = record { order = omega arith; inside = omega (arith, g.vertices_low, g.stands.all); room = omega (arith, g.room_positions) }
+  -- its positions are there
+  pub own_positions : 3 * (base + vertices) ≤ length ps
+  own_positions = omega (arith, g.vertices_low, g.stands.all)
 
-  -- the stretch of its normals
-  pub own_normals : StretchReady ns (3 * base) (3 * (base + vertices)) N (3 * vo)
-  own_normals = record { order = omega arith; inside = omega (arith, g.vertices_low, g.all); room = omega (arith, g.room_normals) }
+  -- and its normals
+  pub own_normals : 3 * (base + vertices) ≤ length ns
+  own_normals = omega (arith, g.vertices_low, g.all)
+
+  -- such a stretch has three numbers for each vertex
+  stretch_long : (xs : List Float) → 3 * (base + vertices) ≤ length xs → length (take (3 * (base + vertices) - 3 * base) (drop (3 * base) xs)) ≡ 3 * (base + vertices) - 3 * base
+  stretch_long xs h = length-take-le (3 * (base + vertices) - 3 * base) (drop (3 * base) xs) (omega (arith, h, length-drop (3 * base) xs))
+
+  -- there is room for the positions
+  pub positions_room : 3 * vo + length (take (3 * (base + vertices) - 3 * base) (drop (3 * base) ps)) ≤ length P
+  positions_room = omega (arith, stretch_long ps own_positions, g.room_positions)
+
+  -- and for the normals
+  pub normals_room : 3 * vo + length (take (3 * (base + vertices) - 3 * base) (drop (3 * base) ns)) ≤ length N
+  normals_room = omega (arith, stretch_long ns own_normals, g.room_normals)
 
   -- such a stretch, in the contract's words
   own : (xs : List Float) {X Y : List Float} → Appended (3 * vo) (take (3 * (base + vertices) - 3 * base) (drop (3 * base) xs)) X Y → Appended (3 * vo) (take (3 * vertices) (drop (3 * base) xs)) X Y

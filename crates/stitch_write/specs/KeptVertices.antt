@@ -9,7 +9,8 @@ use Rattle.patch_geometry.specs.Geometry.{sub, point_at}
 use Rattle.stitch_splits.specs.declared.sides.Sides.{Sides}
 use Rattle.stitch_splits.specs.Splits.{near_last}
 use Rattle.stitch_splits.specs.Entries.{Entry, entries_of, entries_in, after, insert_entry, drop_after, kept_entries}
-use Rattle.stitch_splits.specs.Found.{found_only, Spot, spot_of, with_spot, with_vertex, entries_on, triangle_kept}
+use Rattle.stitch_splits.specs.declared.sides.Spot.{Spot}
+use Rattle.stitch_splits.specs.Found.{found_only, spot_of, with_spot, with_vertex, entries_on, triangle_kept}
 
 -- entries of vertices below v
 abbrev pub AllBelow : ℕ → List Entry → Type 0

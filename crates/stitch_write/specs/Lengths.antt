@@ -1,5 +1,5 @@
 -- How many numbers the new vertices and the fan of a triangle are, and those of a row. Assumes nothing.
-use Rattle.std.specs.Prelude.{◌≡◌, Bool, true, false, ◌&&◌, cond, ℕ, zero, suc, ◌+◌, ◌*◌, ◌%◌, ◌≤◌, length, get_or, eqb, Float}
+use Rattle.std.specs.Prelude.{◌≡◌, Bool, true, false, None, ◌&&◌, cond, ℕ, zero, suc, ◌+◌, ◌*◌, ◌%◌, ◌≤◌, length, get_or, eqb, Float}
 use Rattle.std.proofs.Math.Path.{refl}
 use mathlib.Core.List.{List, [], ◌∷◌, ◌++◌, flat_map}
 use Rattle.std.proofs.Math.Option.{Option, none, some}
@@ -16,7 +16,8 @@ use Rattle.stitch_projection.specs.Projection.{project, mixed}
 use Rattle.stitch_splits.specs.declared.sides.Sides.{Sides}
 use Rattle.stitch_splits.specs.Splits.{near_last}
 use Rattle.stitch_splits.specs.Entries.{Entry, after, insert_entry, drop_after, kept_entries}
-use Rattle.stitch_splits.specs.Found.{found_only, Spot, nearer_spot, spot_of, with_spot, with_vertex, entries_on, triangle_kept}
+use Rattle.stitch_splits.specs.declared.sides.Spot.{Spot}
+use Rattle.stitch_splits.specs.Found.{found_only, nearer_spot, spot_of, with_spot, with_vertex, entries_on, triangle_kept}
 use Rattle.stitch_splits.specs.Places.{OnEdges}
 use Rattle.stitch_rings.specs.Rings.{coordinates_at, new_positions, new_normals, start_of, end_of, numbers_of, edges_of, ring_after, fan_go}
 use Rattle.stitch_count.specs.Views.{sides_at, View, row_views, kept_in, row_positions, row_normals, row_indices}
@@ -128,11 +129,11 @@ ring_length b c next C o =
     omega (arith, length-append (A ++ B) D, length-append A B, numbers_length next C o)
 
 -- The fan has a triangle for each entry, and one more.
-pub fan_length : (a b c next : ℕ) (C : List Entry) → OnEdges C → length (fan_go a false 0 (ring_after b c next C)) ≡ 3 * length C + 3
+pub fan_length : (a b c next : ℕ) (C : List Entry) → OnEdges C → length (fan_go a None (ring_after b c next C)) ≡ 3 * length C + 3
 fan_length a b c next C o =
     let long = ring_length b c next C o in
     let some_there : 1 ≤ length (ring_after b c next C) = omega arith in
-    omega (arith, first_none a 0 (ring_after b c next C) some_there)
+    omega (arith, first_none a (ring_after b c next C) some_there)
 
 -- A new vertex has three coordinates.
 pub positions_length : (ps : List Float) (C : List Entry) → length (new_positions ps C) ≡ 3 * length C
@@ -166,7 +167,7 @@ on_length : (next : ℕ) (vs : List View) → AllOn vs → length (row_indices n
 unfolding row_indices kept_in sum_of
 on_length next [] o = refl
 on_length next (x ∷ vs) o =
-    let f = fan_go x.a false 0 (ring_after x.b x.c next x.kept) in
+    let f = fan_go x.a None (ring_after x.b x.c next x.kept) in
     let n = next + length x.kept in
     omega (arith, length-append f (row_indices n vs), fan_length x.a x.b x.c next x.kept o.0, on_length n vs o.1)
 

@@ -4,3 +4,4 @@ pub mod Lengths
 pub mod KeptVertices
 pub mod BodyLengths
 pub mod Writing
+pub mod ByFinder

@@ -1,5 +1,5 @@
 -- The stitched body written to the second slices: a triangle, a row, all rows. Assumes nothing.
-use Rattle.std.specs.Prelude.{◌≡◌, false, List, ◌++◌, ℕ, ◌+◌, ◌-◌, ◌*◌, ◌%◌, ◌<◌, ◌≤◌, length, get_or, take, drop, Float}
+use Rattle.std.specs.Prelude.{◌≡◌, None, List, ◌++◌, ℕ, ◌+◌, ◌-◌, ◌*◌, ◌%◌, ◌<◌, ◌≤◌, length, get_or, take, drop, Float}
 use Rattle.lists.specs.Lists.{sum_of, written}
 use Rattle.body_rows.specs.Body.{row_width, rows_of, table_of}
 use Rattle.stitch_splits.specs.Entries.{Entry}
@@ -15,7 +15,7 @@ kept_at ps is sag v list count flags base k W = triangle_kept sag ps (take v W) 
 
 -- the fan of the triangle at index k, the first new vertex being `next`
 abbrev pub fan_at : List ℕ → ℕ → ℕ → List Entry → List ℕ
-fan_at is k next C = fan_go (get_or is k 0) false 0 (ring_after (get_or is (k + 1) 0) (get_or is (k + 2) 0) next C)
+fan_at is k next C = fan_go (get_or is k 0) None (ring_after (get_or is (k + 1) 0) (get_or is (k + 2) 0) next C)
 
 -- what writing the triangle at index k asks: normals as many as positions, numbers that fit, and room for its vertices behind vo and its indices behind io
 pub record TriangleWritable (ps ns : List Float) (is : List ℕ) (sag beyond : Float) (n v list count at ts flags order boxes top base k next vo io : ℕ) (W : List ℕ) (P N : List Float)

@@ -1,9 +1,9 @@
 // The stitched body written to the second slices.
 
-ghost use Rattle.stitch_write.specs.Writing.{TriangleWritable, TriangleWritten, RowWritable, RowWritten, BodyWritable, BodyWritten};
+ghost use Rattle.stitch_write.specs.ByFinder.{TriangleWritable, TriangleWritten, RowWritable, RowWritten, BodyWritable, BodyWritten};
 
 use crate::table::put_counts;
-use slice_append::append_stretch;
+use slice_append::put;
 use stitch_count::find_splits;
 use stitch_splits::Finder;
 use stitch_triangle::Tally;
@@ -15,8 +15,7 @@ pub struct Ends {
     pub indices: usize,
 }
 
-// The new vertices and the fan of the triangle at index k are written: vertices from vo on, the first of which has the number `next` in its patch, indices from
-// io on.
+// The new vertices and the fan of the triangle at index k are written behind the ends `before`; the first of the vertices has the number `next` in its patch.
 fn write_triangle(
     positions: &[f32],
     normals: &[f32],
@@ -30,23 +29,28 @@ fn write_triangle(
     out_positions: &mut [f32],
     out_normals: &mut [f32],
     out_indices: &mut [u32],
-    vo: usize,
-    io: usize,
+    before: Ends,
 ) -> Ends
-    requires { TriangleWritable positions.now normals.now indices.now f.sag f.beyond n f.v f.list f.count f.at f.ts
-        f.flags f.order f.boxes f.top base k next vo io
+    requires { TriangleWritable positions.now normals.now indices.now f n base k next before
         w.old out_positions.old out_normals.old out_indices.old }
-    ensures { TriangleWritten positions.now normals.now indices.now f.sag f.v f.list f.count f.at f.ts
-        f.flags base k next vo io
+    ensures { TriangleWritten positions.now normals.now indices.now f base k next before
         w.old w.new out_positions.old out_positions.new out_normals.old out_normals.new
-        out_indices.old out_indices.new result.vertices result.indices }
+        out_indices.old out_indices.new result }
 {
     let a = stitch_gather::corner(indices, base, f.v, k);
     let b = stitch_gather::corner(indices, base, f.v, k + 1);
     let c = stitch_gather::corner(indices, base, f.v, k + 2);
     let r: Tally = find_splits(positions, indices, w, f, n, base, k);
     let kept = r.placed;
-    stitch_ring_vertices::append_positions(positions, w, f.at, f.ts, kept, out_positions, 3 * vo);
+    stitch_ring_vertices::append_positions(
+        positions,
+        w,
+        f.at,
+        f.ts,
+        kept,
+        out_positions,
+        3 * before.vertices,
+    );
     stitch_ring_vertices::append_normals(
         normals,
         a,
@@ -57,7 +61,7 @@ fn write_triangle(
         f.ts,
         kept,
         out_normals,
-        3 * vo,
+        3 * before.vertices,
     );
     let end = stitch_fans::append_fan(
         w,
@@ -69,15 +73,15 @@ fn write_triangle(
         indices[k + 2],
         next,
         out_indices,
-        io,
+        before.indices,
     );
     Ends {
-        vertices: vo + kept,
+        vertices: before.vertices + kept,
         indices: end,
     }
 }
 
-// One row is written: its own vertices from vo on, then the new ones, and its indices from io on.
+// One row is written behind the ends `before`: its own vertices, then the new ones, and its indices.
 fn write_row(
     positions: &[f32],
     normals: &[f32],
@@ -92,28 +96,24 @@ fn write_row(
     out_positions: &mut [f32],
     out_normals: &mut [f32],
     out_indices: &mut [u32],
-    vo: usize,
-    io: usize,
+    before: Ends,
 ) -> Ends
-    requires { RowWritable positions.now normals.now indices.now f.sag f.beyond n f.v f.list f.count f.at f.ts
-        f.flags f.order f.boxes f.top base vertices from to vo io
+    requires { RowWritable positions.now normals.now indices.now f n base vertices from to before
         w.old out_positions.old out_normals.old out_indices.old }
-    ensures { RowWritten positions.now normals.now indices.now f.sag f.v f.list f.count f.at f.ts
-        f.flags base vertices from to vo io
+    ensures { RowWritten positions.now normals.now indices.now f base vertices from to before
         w.old w.new out_positions.old out_positions.new out_normals.old out_normals.new
-        out_indices.old out_indices.new result.vertices result.indices }
+        out_indices.old out_indices.new result }
 {
     let first = 3 * base;
     let last = 3 * (base + vertices);
-    append_stretch(positions, first, last, out_positions, 3 * vo);
-    append_stretch(normals, first, last, out_normals, 3 * vo);
+    put(out_positions, 3 * before.vertices, &positions[first..last]);
+    put(out_normals, 3 * before.vertices, &normals[first..last]);
     let mut ends = Ends {
-        vertices: vo + vertices,
-        indices: io,
+        vertices: before.vertices + vertices,
+        indices: before.indices,
     };
-    let mut k = from;
-    while k < to {
-        let next = ends.vertices - vo;
+    for k in (from..to).step_by(3) {
+        let next = ends.vertices - before.vertices;
         ends = write_triangle(
             positions,
             normals,
@@ -127,10 +127,8 @@ fn write_row(
             out_positions,
             out_normals,
             out_indices,
-            ends.vertices,
-            ends.indices,
+            ends,
         );
-        k += 3;
     }
     ends
 }
@@ -148,11 +146,9 @@ pub fn write_body(
     out_normals: &mut [f32],
     out_indices: &mut [u32],
 )
-    requires { BodyWritable rows.now positions.now normals.now indices.now f.sag f.beyond f.v f.list f.count f.at f.ts
-        f.flags f.order f.boxes f.top
+    requires { BodyWritable rows.now positions.now normals.now indices.now f
         w.old out_rows.old out_positions.old out_normals.old out_indices.old }
-    ensures { BodyWritten rows.now positions.now normals.now indices.now f.sag f.v f.list f.count
-        f.at f.ts f.flags
+    ensures { BodyWritten rows.now positions.now normals.now indices.now f
         w.old w.new out_rows.old out_rows.new out_positions.old out_positions.new
         out_normals.old out_normals.new out_indices.old out_indices.new }
 {
@@ -164,8 +160,7 @@ pub fn write_body(
     };
     let mut base = 0usize;
     let mut i = 0usize;
-    let mut k = 0usize;
-    while k < m {
+    for k in 0..m {
         let vertices = body_rows::vertices(rows, k) as usize;
         let end = i + body_rows::indices(rows, k) as usize;
         let r = write_row(
@@ -182,8 +177,7 @@ pub fn write_body(
             out_positions,
             out_normals,
             out_indices,
-            ends.vertices,
-            ends.indices,
+            ends,
         );
         let more_vertices = (r.vertices - ends.vertices) as u32;
         let more_indices = (r.indices - ends.indices) as u32;
@@ -191,6 +185,5 @@ pub fn write_body(
         ends = r;
         base += vertices;
         i = end;
-        k += 1;
     }
 }

@@ -17,8 +17,7 @@ use Rattle.body_patch_checks.specs.PatchTests.{not_finite}
 use Rattle.body_rows.specs.Body.{check, first_failing, row_width}
 use Rattle.body_rows.specs.Checks.{clear_first, first_here, first_next, first_none, first_stop}
 use Rattle.slice_append.specs.Appended.{Appended, appended_written}
-use Rattle.stl_definition.specs.declared.StlRead.{StlRead}
-use Rattle.stl_definition.specs.declared.StlRead.TheVariants as Read
+use Rattle.std.specs.Prelude.{Result, Ok, Err}
 use Rattle.stl_definition.specs.Answers.{left_read, slices}
 use Rattle.stl_definition.specs.CallLaws.{Readable, slices_decide}
 use Rattle.stl_definition.specs.File.{facet_bytes, head_bytes, header_bytes}
@@ -128,7 +127,7 @@ module _ (file : List ℕ) (r : Readable file) {n : ℕ} (e : n ≡ word_at file
     at t = elim t [ true ↦ refuse_read 75 out | false ↦ write_corners (count_of file) (file_corners file) out ]
 
     -- the slices are too short
-    pub short_left : b ≡ true → left_read (Read.Refused 75) out ≡ fitted file out
+    pub short_left : b ≡ true → left_read (Err 75) out ≡ fitted file out
     unfolding fitted refuse_read at
     short_left q = ap at (sym (sym room_is ∙ q))
 
@@ -150,10 +149,10 @@ module _ (file : List ℕ) (r : Readable file) {n : ℕ} (e : n ≡ word_at file
           indices = ltb-false (length out.indices) (3 * n) (or_right (x || y || z) w all);
         }
 
-    pub mesh_left_lem : b ≡ false → {v : ℕ} {new : ReadSlices} → MeshPut file n out new v → left_read (Read.Done v) new ≡ fitted file out
+    pub mesh_left_lem : b ≡ false → {v : ℕ} {new : ReadSlices} → MeshPut file n out new v → left_read (Ok v) new ≡ fitted file out
     unfolding fitted write_corners file_corners at
     mesh_left_lem q p =
-        (λ i. left_read (Read.Done (p.count i)) (p.left i))
+        (λ i. left_read (Ok (p.count i)) (p.left i))
         ∙ (λ i. write_corners (counted i) (facet_corners (counted i) (drop head_bytes file)) out)
         ∙ ap at (sym (sym room_is ∙ q))
 
@@ -177,7 +176,7 @@ module _ (file : List ℕ) (out : ReadSlices) {n : ℕ} (en : n ≡ first_failin
   answer m = elim (eqb m 0) [ true ↦ write_corners (count_of file) (file_corners file) out | false ↦ refuse_read m out ]
 
   -- a file that does not pass
-  pub read_refused : (n ≡ 0 → ⊥) → left_read (Read.Refused n) out ≡ read_of file out
+  pub read_refused : (n ≡ 0 → ⊥) → left_read (Err n) out ≡ read_of file out
   unfolding read_of refuse_read answer read_checks file_checks
   read_refused f =
       let e : n ≡ first_failing (read_checks file out) = en ∙ first_stop (file_checks file) (check 75 (no_room (count_of file) out) ∷ []) (λ q. f (en ∙ q)) in
@@ -196,11 +195,11 @@ module _ (file : List ℕ) (out : ReadSlices) {n : ℕ} (en : n ≡ first_failin
       last true = refl
       last false = refl
 
-  pub read_left : n ≡ 0 → (r : StlRead) (new : ReadSlices) → left_read r new ≡ fitted file out → left_read r new ≡ read_of file out
+  pub read_left : n ≡ 0 → (r : Result ℕ ℕ) (new : ReadSlices) → left_read r new ≡ fitted file out → left_read r new ≡ read_of file out
   read_left z r new e = e ∙ is_fitted z
 
   -- can be written again
-  pub read_back : ((i : ℕ) → Fits w8 (get_or file i 0)) → n ≡ 0 → (r : StlRead) (new : ReadSlices) → left_read r new ≡ fitted file out → (left_read r new).refusal ≡ 0 → WritesBack file (left_read r new)
+  pub read_back : ((i : ℕ) → Fits w8 (get_or file i 0)) → n ≡ 0 → (r : Result ℕ ℕ) (new : ReadSlices) → left_read r new ≡ fitted file out → (left_read r new).refusal ≡ 0 → WritesBack file (left_read r new)
   read_back b z r new e q =
       let same = read_left z r new e in
       subst (WritesBack file) (sym same) (writes_back file out (λ i h. omega (arith, b i)) (sym (ap (λ (a : AfterRead). a.refusal) same) ∙ q))

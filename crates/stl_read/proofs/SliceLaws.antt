@@ -5,15 +5,10 @@ use Prim.Native.Nat.{ℕ, ◌+◌, ◌≤◌, ◌<◌}
 use native.Mathlib.Nat.{zero-add}
 use native.Mathlib.Omega.{arith}
 use lib.ListN.{length, set}
-use Rattle.slice_append.specs.Appended.{Appended, appended_then}
+use Rattle.slice_append.specs.Appended.{Appended}
 use Rattle.stl_definition.specs.CornerLaws.{numbers_length, numbers_more}
 use Rattle.stl_definition.specs.FrontLaws.{Front, front_none, front_more, front_all, stored}
 use Rattle.stl_definition.specs.Read.{numbers_from}
-use Rattle.stl_definition.specs.Write.{one_row}
-
--- twice three numbers are a row
-pub row_put : {n : ℕ} {E A W : List ℕ} → Appended 0 (0 ∷ 0 ∷ 0 ∷ []) E A → Appended 3 (n ∷ n ∷ 0 ∷ []) A W → Appended 0 (one_row n n) E W
-row_put p q = appended_then p refl q
 
 -- the first k of n numbers are written: E became W
 abbrev pub Numbered : ℕ → ℕ → List ℕ → List ℕ → Type 0

@@ -52,10 +52,8 @@ pub fn any_not_finite(file: &[u8], n: usize) -> bool
     ensures { result ≡ any not_finite (facet_corners n (drop head_bytes file.now)) }
 {
     let mut found = false;
-    let mut t = 0usize;
-    while t < n {
+    for t in 0..n {
         found = found | facet_not_finite(file, HEAD_BYTES + FACET_BYTES * t + NORMAL_BYTES);
-        t += 1;
     }
     found
 }
@@ -90,14 +88,12 @@ pub fn put_corners(file: &[u8], n: usize, positions: &mut [f32])
     requires { CornersReady file.now n positions.old }
     ensures { Appended 0 (facet_corners n (drop head_bytes file.now)) positions.old positions.new }
 {
-    let mut t = 0usize;
-    while t < n {
+    for t in 0..n {
         put_facet(
             file,
             HEAD_BYTES + FACET_BYTES * t + NORMAL_BYTES,
             positions,
             9 * t,
         );
-        t += 1;
     }
 }

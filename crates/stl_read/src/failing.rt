@@ -3,34 +3,36 @@
 ghost use Rattle.std.specs.Prelude.{◌≡◌, ◌||◌, ◌*◌, ◌≤◌, ltb};
 ghost use Rattle.body_rows.specs.Body.{first_failing, row_width};
 ghost use Rattle.stl_definition.specs.Read.{most_triangles};
+ghost use Rattle.refusals.specs.Numbers.{failing};
 ghost use Rattle.stl_read.specs.Ready.{file_checks};
 
 use crate::corners::any_not_finite;
 use crate::words::word_at;
 use body_rows::ROW_WIDTH;
+use refusals::Refusal;
 use stl_definition::{FACET_BYTES, HEAD_BYTES, HEADER_BYTES};
 
 // The most triangles that are read.
 const MOST_TRIANGLES: usize = 32000;
 
-// The number of the first of the checks 72 to 74 that fails, or 0.
-pub fn file_failing(file: &[u8]) -> u32
-    ensures { result ≡ first_failing (file_checks file.now) }
+// The first of the checks 72 to 74 that fails, as a refusal.
+pub fn file_failing(file: &[u8]) -> Result<(), Refusal>
+    ensures { failing result ≡ first_failing (file_checks file.now) }
 {
     if file.len() < HEAD_BYTES {
-        return 72;
+        return Err(Refusal::FileLength);
     }
     let n = word_at(file, HEADER_BYTES) as usize;
     if file.len() != HEAD_BYTES + FACET_BYTES * n {
-        return 72;
+        return Err(Refusal::FileLength);
     }
     if MOST_TRIANGLES < n {
-        return 73;
+        return Err(Refusal::FileTriangles);
     }
     if any_not_finite(file, n) {
-        return 74;
+        return Err(Refusal::FileCorner);
     }
-    0
+    Ok(())
 }
 
 // 75: whether slices of these lengths are too short for n triangles.

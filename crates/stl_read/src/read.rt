@@ -1,6 +1,7 @@
 // The call: the file checked, then read into the lent slices.
 
 ghost use Rattle.std.specs.Prelude.{◌≡◌};
+ghost use Rattle.refusals.specs.Numbers.{numbered};
 ghost use Rattle.stl_definition.specs.Answers.{left_read, slices};
 ghost use Rattle.stl_definition.specs.CallLaws.{Readable};
 ghost use Rattle.stl_definition.specs.Promises.{WritesBack};
@@ -9,13 +10,11 @@ ghost use Rattle.stl_read.specs.Ready.{MeshPut, MeshReady, fitted};
 
 use crate::corners::put_corners;
 use crate::failing::{file_failing, no_room};
-use crate::slices::{fill_floats, put_numbers, put_row};
+use crate::slices::{put_numbers, put_row};
 use crate::words::word_at;
 use float_steps::f32_of_bits;
-use stl_definition::{HEADER_BYTES, StlRead};
-
-// The refusal of slices too short.
-const NO_ROOM: u32 = 75;
+use refusals::Refusal;
+use stl_definition::HEADER_BYTES;
 
 // The n triangles of a file are written to the front of the slices, as one row; answers its vertices.
 fn put_mesh(
@@ -33,7 +32,7 @@ fn put_mesh(
     let vertices = 3 * n;
     put_row(rows, vertices as u32);
     put_corners(file, n, positions);
-    fill_floats(normals, 9 * n, f32_of_bits(0));
+    normals[..9 * n].fill(f32_of_bits(0));
     put_numbers(indices, vertices);
     vertices as u32
 }
@@ -45,17 +44,16 @@ fn read_checked(
     positions: &mut [f32],
     normals: &mut [f32],
     indices: &mut [u32],
-) -> StlRead
+) -> Result<u32, Refusal>
     requires { Readable file.now }
-    ensures { left_read result (slices rows.new positions.new normals.new indices.new)
+    ensures { left_read (numbered result) (slices rows.new positions.new normals.new indices.new)
         ≡ fitted file.now (slices rows.old positions.old normals.old indices.old) }
 {
     let n = word_at(file, HEADER_BYTES) as usize;
     if no_room(rows.len(), positions.len(), normals.len(), indices.len(), n) {
-        return StlRead::Refused(NO_ROOM);
+        return Err(Refusal::ReadRoom);
     }
-    let vertices = put_mesh(file, n, rows, positions, normals, indices);
-    StlRead::Done(vertices)
+    Ok(put_mesh(file, n, rows, positions, normals, indices))
 }
 
 // A file is read into the front of the slices, as one row whose vertices are three to a triangle; a refusal leaves the slices as they were. What was read can
@@ -66,15 +64,12 @@ pub fn read_stl(
     positions: &mut [f32],
     normals: &mut [f32],
     indices: &mut [u32],
-) -> StlRead
-    ensures indices_after { left_read result (slices rows.new positions.new normals.new indices.new)
+) -> Result<u32, Refusal>
+    ensures indices_after { left_read (numbered result) (slices rows.new positions.new normals.new indices.new)
         ≡ read_of file.now (slices rows.old positions.old normals.old indices.old) }
-    ensures writes_back { (left_read result (slices rows.new positions.new normals.new indices.new)).refusal ≡ 0
-        → WritesBack file.now (left_read result (slices rows.new positions.new normals.new indices.new)) }
+    ensures writes_back { (left_read (numbered result) (slices rows.new positions.new normals.new indices.new)).refusal ≡ 0
+        → WritesBack file.now (left_read (numbered result) (slices rows.new positions.new normals.new indices.new)) }
 {
-    let n = file_failing(file);
-    if n != 0 {
-        return StlRead::Refused(n);
-    }
+    file_failing(file)?;
     read_checked(file, rows, positions, normals, indices)
 }

@@ -1,32 +1,19 @@
 // The row, the normals and the indices of what was read.
 
-ghost use Rattle.std.specs.Prelude.{◌≤◌, ◌<◌, length, replicate};
+ghost use Rattle.std.specs.Prelude.{◌≤◌, ◌<◌, length};
 ghost use Rattle.body_rows.specs.Body.{row_width};
 ghost use Rattle.slice_append.specs.Appended.{Appended};
 ghost use Rattle.stl_definition.specs.Read.{numbers_from};
 ghost use Rattle.stl_definition.specs.Write.{one_row};
 
-use slice_append::put_three;
+use slice_append::put;
 
 // One row of shell, face and bin 0, with n vertices and n indices, is written to the front of `rows`.
 pub fn put_row(rows: &mut [u32], n: u32)
     requires { row_width ≤ length rows.old }
     ensures { Appended 0 (one_row n n) rows.old rows.new }
 {
-    put_three(rows, 0, 0, 0, 0);
-    put_three(rows, 3, n, n, 0);
-}
-
-// The first n numbers become x.
-pub fn fill_floats(s: &mut [f32], n: usize, x: f32)
-    requires { n ≤ length s.old }
-    ensures { Appended 0 (replicate n x) s.old s.new }
-{
-    let mut k = 0usize;
-    while k < n {
-        s[k] = x;
-        k += 1;
-    }
+    put(rows, 0, &[0, 0, 0, n, n, 0]);
 }
 
 // The first n indices become 0, 1, 2 and so on.
@@ -35,9 +22,7 @@ pub fn put_numbers(indices: &mut [u32], n: usize)
     requires n_bound { n < 4294967296 }
     ensures { Appended 0 (numbers_from 0 n) indices.old indices.new }
 {
-    let mut k = 0usize;
-    while k < n {
+    for k in 0..n {
         indices[k] = k as u32;
-        k += 1;
     }
 }

@@ -15,8 +15,7 @@ use Rattle.body_rows.specs.Body.{check, first_failing}
 use Rattle.body_rows.specs.Checks.{first_stop}
 use Rattle.body_refusals.specs.BodyChecks.{lone_checks}
 use Rattle.slice_append.specs.Appended.{Appended, appended_then, appended_written}
-use Rattle.stl_definition.specs.declared.StlWritten.{StlWritten}
-use Rattle.stl_definition.specs.declared.StlWritten.TheVariants as Written
+use Rattle.std.specs.Prelude.{Result, Ok, Err}
 use Rattle.stl_definition.specs.Answers.{left_written}
 use Rattle.stl_definition.specs.Bytes.{word}
 use Rattle.stl_definition.specs.ByteLaws.{F32s}
@@ -85,14 +84,14 @@ file_put ps is {E} {A} {W} p q =
 -- ---- the answers
 
 -- a slice too short
-pub short_left : (ps : List Float) (is E : List ℕ) → length E < file_length is → left_written (Written.Refused file_too_long) E ≡ fitted ps is E
+pub short_left : (ps : List Float) (is E : List ℕ) → length E < file_length is → left_written (Err file_too_long) E ≡ fitted ps is E
 unfolding fitted
 short_left ps is E h = rw (lt-ltb (length E) (file_length is) h, fitted)
 
 -- one with room
-pub file_left_lem : (ps : List Float) (is E : List ℕ) {W : List ℕ} → file_length is ≤ length E → W ≡ written (file_of 3 ps is) E → left_written (Written.Done (file_length is)) W ≡ fitted ps is E
+pub file_left_lem : (ps : List Float) (is E : List ℕ) {W : List ℕ} → file_length is ≤ length E → W ≡ written (file_of 3 ps is) E → left_written (Ok (file_length is)) W ≡ fitted ps is E
 unfolding fitted
-file_left_lem ps is E h e = ap (λ (l : List ℕ). left_written (Written.Done (file_length is)) l) e ∙ rw (le-ltb (length E) (file_length is) h, fitted)
+file_left_lem ps is E h e = ap (λ (l : List ℕ). left_written (Ok (file_length is)) l) e ∙ rw (le-ltb (length E) (file_length is) h, fitted)
 
 module _ (ps ns : List Float) (is : List ℕ) {n : ℕ} (en : n ≡ first_failing (lone_checks ps ns is)) where
   -- the checks of the mesh
@@ -129,17 +128,17 @@ module _ (ps ns : List Float) (is : List ℕ) {n : ℕ} (en : n ≡ first_failin
       last true = refl
       last false = refl
 
-  pub mesh_left_lem : n ≡ 0 → (r : StlWritten) (E W : List ℕ) → left_written r W ≡ fitted ps is E → left_written r W ≡ write_of (in_two ps ns) is E
+  pub mesh_left_lem : n ≡ 0 → (r : Result ℕ ℕ) (E W : List ℕ) → left_written r W ≡ fitted ps is E → left_written r W ≡ write_of (in_two ps ns) is E
   mesh_left_lem z r E W e = e ∙ is_fitted z E
 
   -- what was written reads back
-  pub mesh_back : F32s ps → n ≡ 0 → (r : StlWritten) (E W : List ℕ) → left_written r W ≡ fitted ps is E → (left_written r W).refusal ≡ 0 → ReadsBack ps ns is (file_left (left_written r W))
+  pub mesh_back : F32s ps → n ≡ 0 → (r : Result ℕ ℕ) (E W : List ℕ) → left_written r W ≡ fitted ps is E → (left_written r W).refusal ≡ 0 → ReadsBack ps ns is (file_left (left_written r W))
   mesh_back f z r E W e q =
       let same = mesh_left_lem z r E W e in
       subst (λ (w : AfterWrite). ReadsBack ps ns is (file_left w)) (sym same) (reads_back ps ns is E f (sym (ap (λ (w : AfterWrite). w.refusal) same) ∙ q))
 
   -- a mesh that does not pass
-  pub mesh_refused : (E : List ℕ) → (n ≡ 0 → ⊥) → left_written (Written.Refused n) E ≡ write_of (in_two ps ns) is E
+  pub mesh_refused : (E : List ℕ) → (n ≡ 0 → ⊥) → left_written (Err n) E ≡ write_of (in_two ps ns) is E
   unfolding write_of write_checks
   mesh_refused E f =
       let e : n ≡ first_failing (write_checks (in_two ps ns) is (length E)) = checks_are ∙ first_stop (mesh_checks (in_two ps ns) is) _ (λ q. f (checks_are ∙ q)) in

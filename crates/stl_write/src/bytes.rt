@@ -1,6 +1,6 @@
 // Words and zeros written as bytes.
 
-ghost use Rattle.std.specs.Prelude.{◌++◌, ◌+◌, ◌*◌, ◌≤◌, length, replicate};
+ghost use Rattle.std.specs.Prelude.{◌++◌, ◌+◌, ◌*◌, ◌≤◌, length};
 ghost use Rattle.slice_append.specs.Appended.{Appended};
 ghost use Rattle.stl_definition.specs.Bytes.{word, word_bytes};
 
@@ -23,16 +23,4 @@ pub fn put_words(out: &mut [u8], o: usize, a: u32, b: u32, c: u32)
     put_word(out, o, a);
     put_word(out, o + 4, b);
     put_word(out, o + 8, c);
-}
-
-// The first n bytes become 0.
-pub fn clear_bytes(out: &mut [u8], n: usize)
-    requires { n ≤ length out.old }
-    ensures { Appended 0 (replicate n 0) out.old out.new }
-{
-    let mut k = 0usize;
-    while k < n {
-        out[k] = 0;
-        k += 1;
-    }
 }

@@ -10,22 +10,21 @@ ghost use Rattle.stl_definition.specs.File.{file_of, head_bytes, header_bytes, t
 ghost use Rattle.stl_definition.specs.Promises.{ReadsBack};
 ghost use Rattle.stl_definition.specs.StepLaws.{facets_front};
 ghost use Rattle.stl_definition.specs.Write.{in_two, write_of};
+ghost use Rattle.refusals.specs.Numbers.{numbered};
 ghost use Rattle.stl_write.specs.Ready.{Checked, Writable, fitted};
 
-use crate::bytes::{clear_bytes, put_word};
+use crate::bytes::put_word;
 use crate::facet::put_triangle;
 use body_checks::lone_failing;
-use stl_definition::{FACET_BYTES, HEAD_BYTES, HEADER_BYTES, StlWritten};
-
-// The refusal of a slice too short for the file.
-const FILE_TOO_LONG: u32 = 71;
+use refusals::Refusal;
+use stl_definition::{FACET_BYTES, HEAD_BYTES, HEADER_BYTES};
 
 // The header, which is zero, and the count are written to the front of `out`.
 fn put_head(out: &mut [u8], count: u32)
     requires { head_bytes ≤ length out.old }
     ensures { Appended 0 (replicate header_bytes 0 ++ word count) out.old out.new }
 {
-    clear_bytes(out, HEADER_BYTES);
+    out[..HEADER_BYTES].fill(0);
     put_word(out, HEADER_BYTES, count);
 }
 
@@ -36,10 +35,8 @@ fn put_facets(positions: &[f32], indices: &[u32], out: &mut [u8])
         out.old out.new }
 {
     let n = indices.len() / 3;
-    let mut t = 0usize;
-    while t < n {
+    for t in 0..n {
         put_triangle(positions, indices, t, out);
-        t += 1;
     }
 }
 
@@ -53,28 +50,30 @@ fn put_file(positions: &[f32], indices: &[u32], out: &mut [u8])
 }
 
 // The file of a mesh that was checked is written to the front of a slice that has room for it.
-fn write_checked(positions: &[f32], indices: &[u32], out: &mut [u8]) -> StlWritten
+fn write_checked(positions: &[f32], indices: &[u32], out: &mut [u8]) -> Result<u64, Refusal>
     requires { Checked positions.now indices.now }
-    ensures { left_written result out.new ≡ fitted positions.now indices.now out.old }
+    ensures { left_written (numbered result) out.new ≡ fitted positions.now indices.now out.old }
 {
     let length = HEAD_BYTES + FACET_BYTES * (indices.len() / 3);
     if out.len() < length {
-        return StlWritten::Refused(FILE_TOO_LONG);
+        return Err(Refusal::FileRoom);
     }
     put_file(positions, indices, out);
-    StlWritten::Done(length as u64)
+    Ok(length as u64)
 }
 
 // The file of a mesh is written to the front of a slice, and reads back; a refusal leaves the slice as it was.
-pub fn write_stl(positions: &[f32], normals: &[f32], indices: &[u32], out: &mut [u8]) -> StlWritten
-    ensures out_after { left_written result out.new
+pub fn write_stl(
+    positions: &[f32],
+    normals: &[f32],
+    indices: &[u32],
+    out: &mut [u8],
+) -> Result<u64, Refusal>
+    ensures out_after { left_written (numbered result) out.new
         ≡ write_of (in_two positions.now normals.now) indices.now out.old }
-    ensures reads_back { (left_written result out.new).refusal ≡ 0 → ReadsBack positions.now normals.now indices.now
-        (file_left (left_written result out.new)) }
+    ensures reads_back { (left_written (numbered result) out.new).refusal ≡ 0 → ReadsBack positions.now normals.now indices.now
+        (file_left (left_written (numbered result) out.new)) }
 {
-    let n = lone_failing(positions, normals, indices);
-    if n != 0 {
-        return StlWritten::Refused(n);
-    }
+    lone_failing(positions, normals, indices)?;
     write_checked(positions, indices, out)
 }

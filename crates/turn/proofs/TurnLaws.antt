@@ -1,4 +1,5 @@
 -- Laws of the call: a body is turned or refused. Assumes nothing.
+use Rattle.std.specs.Prelude.{Ok, Err}
 use mathlib.Core.Path.{◌≡◌, refl, sym, ap, ◌∙◌}
 use mathlib.Core.Bool.{Bool, true, false}
 use mathlib.Core.List.{List}
@@ -11,7 +12,6 @@ use Rattle.body_rows.specs.Body.{first_failing}
 use Rattle.body_refusals.specs.BodyChecks.{body_checks}
 use Rattle.body_checks.specs.Accepted.{Passed, passed}
 use Rattle.turn_definition.specs.declared.TurnCounts.{TurnCounts}
-use Rattle.turn_definition.specs.declared.Turned.TheVariants.{Done, Refused}
 use Rattle.turn_definition.specs.Orient.{refuse_turn, turn_of}
 use Rattle.turn_definition.specs.Answers.{left, left_done, answered, turn_done}
 use Rattle.turn_volume_rule.specs.Exact.{F32s}
@@ -35,7 +35,7 @@ module _ (table : List ℕ) (ps ns : List Float) (is W : List ℕ) {refusal : �
 
   -- such a body is turned
   pub call_done : {c : TurnCounts} {ns' : List Float} {is' W' : List ℕ} → refusal ≡ 0 → left_done c ns' is' W' ≡ turn_done table ps ns is W
-      → left (Done c) ns' is' W' ≡ answered (turn_of key table ps ns is W)
+      → left (Ok c) ns' is' W' ≡ answered (turn_of key table ps ns is W)
   call_done e t = ap answered (t ∙ sym (turn_done_lem e))
 
   -- and keeps the volume rule
@@ -44,9 +44,9 @@ module _ (table : List ℕ) (ps ns : List Float) (is W : List ℕ) {refusal : �
   call_kept {c} {ns'} {is'} {W'} k e t = volume_kept key table ps ns is W (left_done c ns' is' W') k (t ∙ sym (turn_done_lem e)) refl
 
   -- any other is refused
-  pub call_refused : (refusal ≡ 0 → ⊥) → left (Refused refusal) ns is W ≡ answered (turn_of key table ps ns is W)
+  pub call_refused : (refusal ≡ 0 → ⊥) → left (Err refusal) ns is W ≡ answered (turn_of key table ps ns is W)
   unfolding refuse_turn
   call_refused e =
-      ap (λ (b : Bool). left (elim b [ true ↦ Done (record { turned = 0; against = 0 }) | false ↦ Refused refusal ]) ns is W) (sym (ne_eqb refusal 0 e))
+      ap (λ (b : Bool). left (elim b [ true ↦ Ok (record { turned = 0; against = 0 }) | false ↦ Err refusal ]) ns is W) (sym (ne_eqb refusal 0 e))
       ∙ ap (λ (k : ℕ). answered (refuse_turn k ns is W)) f
       ∙ ap answered (sym (turn_refused e))

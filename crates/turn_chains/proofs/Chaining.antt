@@ -257,7 +257,7 @@ chaining_none g c e =
     }
 
 -- the next can be chained
-pub chaining_next : {n m i : ℕ} {W E : List ℕ} → Chaining n m W i E → (i ≡ 0 → ⊥) → ChainNext n m (i - 1) E
+pub chaining_next : {n m i : ℕ} {W E : List ℕ} → Chaining n m W i E → 0 < i → ChainNext n m (i - 1) E
 chaining_next {n} {m} {i} {W} {E} p h =
     record {
       given = p.given;
@@ -266,7 +266,7 @@ chaining_next {n} {m} {i} {W} {E} p h =
     }
 
 -- and is
-pub chaining_more : {n m i : ℕ} {W E F : List ℕ} → Chaining n m W i E → (i ≡ 0 → ⊥) → Chained n m (i - 1) E F → length F ≡ length E → Chaining n m W (i - 1) F
+pub chaining_more : {n m i : ℕ} {W E F : List ℕ} → Chaining n m W i E → 0 < i → Chained n m (i - 1) E F → length F ≡ length E → Chaining n m W (i - 1) F
 chaining_more p h c e =
     record {
       low = omega (arith, p.low);
@@ -276,5 +276,5 @@ chaining_more p h c e =
     }
 
 -- all
-pub chaining_all : {n m i : ℕ} {W W₁ E : List ℕ} → Chained n m n W W₁ → Chaining n m W₁ i E → i ≡ 0 → Chained n m 0 W E
-chaining_all {n} {m} {i} {W} {W₁} {E} c p z = chained_more c (subst (λ k. Chained n m k W₁ E) z p.chained)
+pub chaining_all : {n m i : ℕ} {W W₁ E : List ℕ} → Chained n m n W W₁ → Chaining n m W₁ i E → i ≤ 0 → Chained n m 0 W E
+chaining_all {n} {m} {i} {W} {W₁} {E} c p z = chained_more c (subst (λ k. Chained n m k W₁ E) (omega arith) p.chained)

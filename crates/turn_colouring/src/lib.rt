@@ -5,7 +5,7 @@ ghost use Rattle.turn_colouring.specs.Coloured.{Coloured};
 ghost use Rattle.edge_uses.specs.Area.{AreaReady};
 
 use join_definition::JOIN_WORDS;
-use turn_walk::{ROW_REGIONS, USE_REGIONS};
+use turn_walk::Regions;
 
 // The rows of a body of v vertices and m rows get their colours in the work area; the answer is how often a pair that contradicts them was met.
 pub fn colour_rows(
@@ -21,7 +21,8 @@ pub fn colour_rows(
 {
     let n = indices.len();
     let at = JOIN_WORDS * v + JOIN_WORDS * m + n;
-    let end = at + USE_REGIONS * n + ROW_REGIONS * m;
+    let regions = Regions { uses: n, rows: m };
+    let end = at + regions.end();
     turn_pairs::lay_uses(rows, positions, indices, w, v, m);
-    turn_groups::walk_groups(rows, positions, indices, &mut w[at..end], n, m)
+    turn_groups::walk_groups(rows, positions, indices, &mut w[at..end], regions)
 }

@@ -1,4 +1,4 @@
-// The colours of rows in the work area, and a group's colours inverted (turn_walk/specs/Area.antt names where each part of it stands).
+// The colours of rows in the work area, and a group's colours inverted.
 #![tactic(auto)]
 
 ghost use Rattle.std.specs.Prelude.{◌≡◌, ◌+◌, ◌-◌, ◌*◌, ◌<◌, ◌≤◌, length, get_or};
@@ -6,33 +6,31 @@ ghost use Rattle.turn_walk.specs.Walk.{unvisited, opposite};
 ghost use Rattle.turn_walk.specs.Area.{queue_at};
 ghost use Rattle.turn_walk.specs.Group.{RowAt, Uncoloured, Invertible, GroupInverted, colours_of};
 
-use turn_walk::{BOTH_COLOURS, COLOURS, UNVISITED, USE_REGIONS};
+use turn_walk::{BOTH_COLOURS, Regions, UNVISITED};
 
 // The colour of row `x`: 0 if no walk has met it, 1 if it stays as it is, 2 if it is reversed.
-pub fn colour(w: &[u64], n: usize, m: usize, x: usize) -> u64
-    requires { RowAt n m x w.now }
-    ensures { result ≡ get_or (colours_of n m w.now) x unvisited }
+pub fn colour(w: &[u64], regions: Regions, x: usize) -> u64
+    requires { RowAt regions.uses regions.rows x w.now }
+    ensures { result ≡ get_or (colours_of regions.uses regions.rows w.now) x unvisited }
 {
-    let colours = USE_REGIONS * n + COLOURS * m;
-    w[colours + x]
+    w[regions.colours() + x]
 }
 
 // Row `k` of the queue.
-pub fn queued(w: &[u64], n: usize, m: usize, k: usize) -> usize
-    requires { RowAt n m k w.now }
-    ensures { result ≡ get_or w.now (queue_at n m + k) 0 }
+pub fn queued(w: &[u64], regions: Regions, k: usize) -> usize
+    requires { RowAt regions.uses regions.rows k w.now }
+    ensures { result ≡ get_or w.now (queue_at regions.uses regions.rows + k) 0 }
 {
-    let queue = USE_REGIONS * n + m;
-    w[queue + k] as usize
+    w[regions.queue() + k] as usize
 }
 
 // No row is visited.
-pub fn uncolour(w: &mut [u64], n: usize, m: usize)
-    requires { 5 * n + 3 * m ≤ length w.old }
-    ensures { Uncoloured n m w.old w.new }
+pub fn uncolour(w: &mut [u64], regions: Regions)
+    requires { 5 * regions.uses + 3 * regions.rows ≤ length w.old }
+    ensures { Uncoloured regions.uses regions.rows w.old w.new }
 {
-    let colours = USE_REGIONS * n + COLOURS * m;
-    slice_fill::fill(w, colours, colours + m, UNVISITED);
+    let colours = regions.colours();
+    slice_fill::fill(w, colours, colours + regions.rows, UNVISITED);
 }
 
 // The other of the two colours.
@@ -44,16 +42,14 @@ pub fn opposite_colour(c: u64) -> u64
 }
 
 // The first `t` rows of the queue get the other colour.
-pub fn invert_group(w: &mut [u64], n: usize, m: usize, t: usize)
-    requires { Invertible n m t w.old }
-    ensures { GroupInverted n m t w.old w.new }
+pub fn invert_group(w: &mut [u64], regions: Regions, t: usize)
+    requires { Invertible regions.uses regions.rows t w.old }
+    ensures { GroupInverted regions.uses regions.rows t w.old w.new }
 {
-    let queue = USE_REGIONS * n + m;
-    let colours = USE_REGIONS * n + COLOURS * m;
-    let mut k = 0;
-    while k < t {
+    let queue = regions.queue();
+    let colours = regions.colours();
+    for k in 0..t {
         let x = w[queue + k] as usize;
         w[colours + x] = opposite_colour(w[colours + x]);
-        k += 1;
     }
 }

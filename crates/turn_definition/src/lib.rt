@@ -7,10 +7,3 @@ pub struct TurnCounts {
     pub turned: u32,
     pub against: u64,
 }
-
-// What turn answers: the counts, or the number of the first check that fails.
-#[derive(Clone, Copy)]
-pub enum Turned {
-    Done(TurnCounts),
-    Refused(u32),
-}

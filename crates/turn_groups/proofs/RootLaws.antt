@@ -247,6 +247,14 @@ module _ {table W ys : List ℕ} {n m : ℕ} (r : BasesReady table W n m) (v : S
           front = front_less (area_end n m) (index_bases_at n m) Mid Out out_front (omega arith) ∙ take_put (vertex_bases_at n m) (index_bases_at n m - vertex_bases_at n m) W ys (omega (arith, r.room));
         }
 
+-- the same, where the regions stand at v and i, and end at e
+pub bases_laid_at : {table W ys zs : List ℕ} {n m v i e : ℕ} → v ≡ vertex_bases_at n m → i ≡ index_bases_at n m → e ≡ bases_end n m → BasesReady table W n m
+    → Starts vertices_before table (mid_of v (i - v) W) ys → length ys ≡ length (mid_of v (i - v) W)
+    → Starts indices_before table (mid_of i (e - i) (put_mid v (i - v) W ys)) zs → length zs ≡ length (mid_of i (e - i) (put_mid v (i - v) W ys))
+    → BasesLaid table n m W (put_mid i (e - i) (put_mid v (i - v) W ys) zs)
+bases_laid_at ev ei ee r sv lv si li =
+    rw (ev, ei, ee) (bases_laid r (rw (ev, ei) at sv) (rw (ev, ei) at lv) (rw (ev, ei, ee) at si) (rw (ev, ei, ee) at li))
+
 -- ---- the stages
 
 module _ {table : List ℕ} {ps : List Float} {is W X Y Z : List ℕ} {n m : ℕ} (g : Walkable table ps is W n m) (c : Chained n m 0 W X) (ex : length X ≡ length W) (u : Uncoloured n m X Y)

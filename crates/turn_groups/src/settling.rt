@@ -3,8 +3,7 @@
 ghost use Rattle.turn_groups.specs.Settled.{Judgeable, Judged, Settleable, Settled};
 ghost use Rattle.turn_groups.specs.Walked.{RootReady, RootSettled, GroupsReady, GroupsWalked, BasesReady, BasesLaid, Walkable};
 
-use turn_meet::Tally;
-use turn_walk::{INDEX_BASES, ROW_REGIONS, UNVISITED, USE_REGIONS, VERTEX_BASES};
+use turn_walk::{Regions, UNVISITED};
 
 // The first t rows of the queue get the other colour if their volume says so.
 fn invert_if(
@@ -12,16 +11,15 @@ fn invert_if(
     positions: &[f32],
     indices: &[u32],
     w: &mut [u64],
-    n: usize,
-    m: usize,
+    regions: Regions,
     t: usize,
 )
-    requires { Judgeable rows.now positions.now indices.now w.old n m t }
-    ensures { Judged rows.now positions.now indices.now n m t w.old w.new }
+    requires { Judgeable rows.now positions.now indices.now w.old regions.uses regions.rows t }
+    ensures { Judged rows.now positions.now indices.now regions.uses regions.rows t w.old w.new }
 {
-    let inverted = turn_inversion::inverts_group(rows, positions, indices, w, n, m, t);
+    let inverted = turn_inversion::inverts_group(rows, positions, indices, w, regions, t);
     if inverted {
-        turn_colours::invert_group(w, n, m, t);
+        turn_colours::invert_group(w, regions, t);
         return;
     }
 }
@@ -32,18 +30,16 @@ fn settle_group(
     positions: &[f32],
     indices: &[u32],
     w: &mut [u64],
-    n: usize,
-    m: usize,
+    regions: Regions,
     root: usize,
     against: u64,
 ) -> u64
-    requires { Settleable rows.now positions.now indices.now w.old n m root against }
-    ensures { Settled rows.now positions.now indices.now n m root against w.old w.new result }
+    requires { Settleable rows.now positions.now indices.now w.old regions.uses regions.rows root against }
+    ensures { Settled rows.now positions.now indices.now regions.uses regions.rows root against w.old w.new result }
 {
-    let r: Tally = turn_visit::walk_group(w, n, m, root, against);
-    let t = r.found;
-    invert_if(rows, positions, indices, w, n, m, t);
-    r.against
+    let tally = turn_visit::walk_group(w, regions, root, against);
+    invert_if(rows, positions, indices, w, regions, tally.found);
+    tally.against
 }
 
 // Row `k`, if it takes part and no walk has met it, is the root of a group, which is settled after `against` contradictions; the answer is the contradictions
@@ -53,21 +49,20 @@ fn settle_root(
     positions: &[f32],
     indices: &[u32],
     w: &mut [u64],
-    n: usize,
-    m: usize,
+    regions: Regions,
     k: usize,
     against: u64,
 ) -> u64
-    requires { RootReady rows.now positions.now indices.now w.old n m k against }
-    ensures { RootSettled rows.now positions.now indices.now n m k against w.old w.new result }
+    requires { RootReady rows.now positions.now indices.now w.old regions.uses regions.rows k against }
+    ensures { RootSettled rows.now positions.now indices.now regions.uses regions.rows k against w.old w.new result }
 {
     let count = body_rows::indices(rows, k);
     if count == 0 {
         return against;
     }
-    let colour = turn_colours::colour(w, n, m, k);
+    let colour = turn_colours::colour(w, regions, k);
     if colour == UNVISITED {
-        return settle_group(rows, positions, indices, w, n, m, k, against);
+        return settle_group(rows, positions, indices, w, regions, k, against);
     }
     against
 }
@@ -78,29 +73,26 @@ fn settle_groups(
     positions: &[f32],
     indices: &[u32],
     w: &mut [u64],
-    n: usize,
-    m: usize,
+    regions: Regions,
 ) -> u64
-    requires { GroupsReady rows.now positions.now indices.now w.old n m }
-    ensures { GroupsWalked rows.now positions.now indices.now n m w.old w.new result }
+    requires { GroupsReady rows.now positions.now indices.now w.old regions.uses regions.rows }
+    ensures { GroupsWalked rows.now positions.now indices.now regions.uses regions.rows w.old w.new result }
 {
     let mut against = 0u64;
-    let mut k = 0usize;
-    while k < m {
-        against = settle_root(rows, positions, indices, w, n, m, k, against);
-        k += 1;
+    for k in 0..regions.rows {
+        against = settle_root(rows, positions, indices, w, regions, k, against);
     }
     against
 }
 
 // Where each row's vertices and indices start goes behind the walk's regions.
-fn lay_bases(rows: &[u32], w: &mut [u64], n: usize, m: usize)
-    requires { BasesReady rows.now w.old n m }
-    ensures { BasesLaid rows.now n m w.old w.new }
+fn lay_bases(rows: &[u32], w: &mut [u64], regions: Regions)
+    requires { BasesReady rows.now w.old regions.uses regions.rows }
+    ensures { BasesLaid rows.now regions.uses regions.rows w.old w.new }
 {
-    let vertices = USE_REGIONS * n + VERTEX_BASES * m;
-    let indices = USE_REGIONS * n + INDEX_BASES * m;
-    let end = USE_REGIONS * n + ROW_REGIONS * m;
+    let vertices = regions.vertex_bases();
+    let indices = regions.index_bases();
+    let end = regions.end();
     body_rows::vertex_bases(rows, &mut w[vertices..indices]);
     body_rows::index_bases(rows, &mut w[indices..end]);
 }
@@ -112,14 +104,13 @@ pub fn walk_groups(
     positions: &[f32],
     indices: &[u32],
     w: &mut [u64],
-    n: usize,
-    m: usize,
+    regions: Regions,
 ) -> u64
-    requires { Walkable rows.now positions.now indices.now w.old n m }
-    ensures { GroupsWalked rows.now positions.now indices.now n m w.old w.new result }
+    requires { Walkable rows.now positions.now indices.now w.old regions.uses regions.rows }
+    ensures { GroupsWalked rows.now positions.now indices.now regions.uses regions.rows w.old w.new result }
 {
-    turn_chains::chain_pairs(w, n, m);
-    turn_colours::uncolour(w, n, m);
-    lay_bases(rows, w, n, m);
-    settle_groups(rows, positions, indices, w, n, m)
+    turn_chains::chain_pairs(w, regions);
+    turn_colours::uncolour(w, regions);
+    lay_bases(rows, w, regions);
+    settle_groups(rows, positions, indices, w, regions)
 }

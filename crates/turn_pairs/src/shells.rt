@@ -8,10 +8,8 @@ fn list_shells(rows: &[u32], w: &mut [u64], at: usize)
     ensures { ShellsListed rows.now at w.old w.new }
 {
     let m = body_rows::row_count(rows);
-    let mut k = 0usize;
-    while k < m {
+    for k in 0..m {
         w[at + k] = body_rows::shell(rows, k) as u64;
-        k += 1;
     }
 }
 

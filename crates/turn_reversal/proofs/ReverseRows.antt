@@ -5,7 +5,8 @@ use mathlib.Core.List.{List, [], ◌∷◌, ◌++◌, map, append_assoc}
 use Prim.Native.Nat.{ℕ, suc, ◌+◌, ◌-◌, ◌*◌, ◌%◌, ◌≤◌, ◌<◌}
 use native.Mathlib.Omega.{arith}
 use lib.ListN.{length, get_or, take, drop, length-append, length-drop, drop_of_length-le, length-map}
-use lib.Seq.{sets, sets-eq, length-sets, drop-cons, drop-drop, get_or-take, get_or-drop, take_at, drop_at, drop-append-add, length-take-le}
+use lib.Seq.{drop-cons, drop-drop, get_or-take, get_or-drop, take_at, drop_at, length-take-le}
+use borrow.Rule.Slice.PartMut.{mid_of, put_mid, mid_len, same_len_mid}
 use lib.Dec.{eqb}
 use lib.Ieee.{Float, neg}
 use Rattle.lists.specs.Lists.{count_if, sum_of}
@@ -15,7 +16,7 @@ use Rattle.body_rows.specs.Rows.{no_row, row_at, vertices_before, indices_before
 use Rattle.body_rows.specs.Patches.{vertices_next, indices_next}
 use Rattle.turn_walk.specs.Walk.{coloured}
 use Rattle.turn_definition.specs.Reversal.{swapped, length_swapped}
-use Rattle.turn_reversal.specs.Reversed.{changed, changed_rows, coordinates, index_count, RowStretches, RowReversed, Reversible, Reversed}
+use Rattle.turn_reversal.specs.Reversed.{changed, changed_rows, coordinates, index_count, RowReversed, Reversible, Reversed}
 
 -- ---- one slice, whatever its items
 
@@ -44,7 +45,7 @@ module _ {A : Type 0} {f : List A → List A} {size : Row → ℕ} {cs : List �
   drop_same = ap (drop from) h.list ∙ drop_at h.done (drop from X) from h.count
 
   pub changing_more : {n c : ℕ} {r : Row} {ys : List A} → c ∷ drop (k + 1) cs ≡ drop k cs → r ∷ drop (k + 1) rows ≡ drop k rows → size r ≡ n → from + n ≤ length X
-      → ys ≡ sets xs from (changed f c (take n (drop from xs))) → Changing f size cs rows X (k + 1) (from + n) ys
+      → ys ≡ put_mid from n xs (changed f c (mid_of from n xs)) → Changing f size cs rows X (k + 1) (from + n) ys
   unfolding changed_rows
   changing_more {n} {c} {r} {ys} ec er en room e =
       record {
@@ -52,9 +53,9 @@ module _ {A : Type 0} {f : List A → List A} {size : Row → ℕ} {cs : List �
         count = omega (arith, h.count, length-append h.done new, new_long);
         list =
             e
-            ∙ ap (λ v. sets xs from (changed f c (take n v))) drop_same
-            ∙ ap (λ v. sets v from new) h.list
-            ∙ stored
+            ∙ ap (λ v. take from xs ++ (changed f c (take n v) ++ drop n v)) drop_same
+            ∙ ap (λ v. v ++ (new ++ drop n (drop from X))) (ap (take from) h.list ∙ take_at h.done (drop from X) from h.count)
+            ∙ ap (λ v. h.done ++ (new ++ v)) (drop-drop n from X)
             ∙ sym (append_assoc h.done new (drop (from + n) X));
         rest =
             append_assoc h.done new (changed_rows f size (drop (k + 1) cs) (drop (k + 1) rows) (drop (from + n) X))
@@ -70,17 +71,6 @@ module _ {A : Type 0} {f : List A → List A} {size : Row → ℕ} {cs : List �
 
       new_long : length new ≡ n
       new_long = changed_long f keeps c (take n (drop from X)) ∙ length-take-le n (drop from X) (omega (arith, length-drop from X))
-
-      long : length (h.done ++ drop from X) ≡ length X
-      long = let l : from ≤ length X = omega arith in length-append h.done (drop from X) ∙ omega (arith, h.count, length-drop from X)
-
-      stored : sets (h.done ++ drop from X) from new ≡ h.done ++ (new ++ drop (from + n) X)
-      stored =
-          sets-eq new (h.done ++ drop from X) from (omega (arith, new_long, long))
-          ∙ ap (λ v. v ++ new ++ drop (from + length new) (h.done ++ drop from X)) (take_at h.done (drop from X) from h.count)
-          ∙ ap (λ m. h.done ++ new ++ drop (m + length new) (h.done ++ drop from X)) (sym h.count)
-          ∙ ap (λ v. h.done ++ new ++ v) (drop-append-add h.done (drop from X) (length new) ∙ ap (λ m. drop m (drop from X)) new_long ∙ drop-drop n from X)
-          ∙ append_assoc h.done new (drop (from + n) X)
 
 pub changing_all : {A : Type 0} {f : List A → List A} {size : Row → ℕ} {cs : List ℕ} {rows : List Row} {X xs : List A} {k from : ℕ} → Changing f size cs rows X k from xs → length cs ≤ k
     → xs ≡ changed_rows f size cs rows X
@@ -153,16 +143,15 @@ module _ {table W : List ℕ} {colours : ℕ} {N : List Float} {I : List ℕ} {k
       ∙ ap (λ n. get_or (colours_in table W colours) k 0 ∷ drop n (colours_in table W colours)) f
       ∙ ap (λ x. x ∷ drop (k + 1) (colours_in table W colours)) q)
 
-  pub row_stretches : {vend iend : ℕ} → vend ≡ v + 3 * (row_at table k).vertices → iend ≡ i + (row_at table k).indices → RowStretches ns is v vend i iend
-  row_stretches {vend} {iend} ev ei =
-      let c : iend - i ≡ (row_at table k).indices = omega arith in
-      record {
-        normals = record { ordered = omega arith; inside = omega (arith, normals_end, h.long_normals) };
-        indices = record { ordered = omega arith; whole = ap (λ n. n % 3) c ∙ r.threes k more; inside = omega (arith, indices_end, h.long_indices) };
-      }
+  -- the row's indices are whole triangles
+  pub row_whole : {iend : ℕ} → iend ≡ i + (row_at table k).indices → length (mid_of i (iend - i) is) % 3 ≡ 0
+  row_whole {iend} ei =
+      let c : length (mid_of i (iend - i) is) ≡ (row_at table k).indices = mid_len i iend is (omega (arith, indices_end, h.long_indices)) ∙ omega arith in
+      ap (λ n. n % 3) c ∙ r.threes k more
 
   pub reversing_more : {vend iend c t : ℕ} {ns' : List Float} {is' : List ℕ} → vend ≡ v + 3 * (row_at table k).vertices → iend ≡ i + (row_at table k).indices → c ≡ get_or W (colours + k) 0
-      → RowReversed c v vend i iend ns is ns' is' t → Reversing table W colours N I (k + 1) vend iend (turned + t) ns' is'
+      → RowReversed c (mid_of v (vend - v) ns) (mid_of i (iend - i) is) ns' is' t
+      → Reversing table W colours N I (k + 1) vend iend (turned + t) (put_mid v (vend - v) ns ns') (put_mid i (iend - i) is is')
   unfolding count_if
   reversing_more {vend} {iend} {c} {t} {ns'} {is'} ev ei ec q =
       let a : vend - v ≡ 3 * (row_at table k).vertices = omega arith in
@@ -173,15 +162,18 @@ module _ {table W : List ℕ} {colours : ℕ} {N : List Float} {I : List ℕ} {k
         at_v = omega (arith, h.at_v, vertices_next table k more);
         at_i = omega (arith, h.at_i, indices_next table k more);
         normals =
-            subst (λ n. Changing (map neg) coordinates (colours_in table W colours) (rows_of table) N (k + 1) n ns') (sym ev)
-            (changing_more (λ ys. length-map ys neg) h.normals (colour_here ec) row_here refl normals_end (q.normals ∙ ap (λ n. sets ns v (changed (map neg) c (take n (drop v ns)))) a));
+            subst (λ n. Changing (map neg) coordinates (colours_in table W colours) (rows_of table) N (k + 1) n (put_mid v (vend - v) ns ns')) (sym ev)
+            (changing_more (λ ys. length-map ys neg) h.normals (colour_here ec) row_here refl normals_end
+            (ap (put_mid v (vend - v) ns) q.normals ∙ ap (λ n. put_mid v n ns (changed (map neg) c (mid_of v n ns))) a));
         indices =
-            subst (λ n. Changing swapped index_count (colours_in table W colours) (rows_of table) I (k + 1) n is') (sym ei)
-            (changing_more length_swapped h.indices (colour_here ec) row_here refl indices_end (q.indices ∙ ap (λ n. sets is i (changed swapped c (take n (drop i is)))) b));
+            subst (λ n. Changing swapped index_count (colours_in table W colours) (rows_of table) I (k + 1) n (put_mid i (iend - i) is is')) (sym ei)
+            (changing_more length_swapped h.indices (colour_here ec) row_here refl indices_end
+            (ap (put_mid i (iend - i) is) q.indices ∙ ap (λ n. put_mid i n is (changed swapped c (mid_of i n is))) b));
         count = omega (arith, h.count, q.count, one (count_if (eqb coloured) (drop (k + 1) (colours_in table W colours))), ap (count_if (eqb coloured)) (sym (colour_here ec)));
         few = omega (arith, h.few, q.count, small (eqb coloured c));
-        long_normals = ap length q.normals ∙ length-sets ns v (changed (map neg) c (take (vend - v) (drop v ns))) ∙ h.long_normals;
-        long_indices = ap length q.indices ∙ length-sets is i (changed swapped c (take (iend - i) (drop i is))) ∙ h.long_indices;
+        long_normals =
+            same_len_mid v (vend - v) ns ns' (ap length q.normals ∙ changed_long (map neg) (λ ys. length-map ys neg) c (mid_of v (vend - v) ns)) ∙ h.long_normals;
+        long_indices = same_len_mid i (iend - i) is is' (ap length q.indices ∙ changed_long swapped length_swapped c (mid_of i (iend - i) is)) ∙ h.long_indices;
       }
     where
       go : (b : Bool) (n : ℕ) → cond b (suc n) n ≡ n + cond b 1 0

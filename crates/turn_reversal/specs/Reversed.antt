@@ -1,8 +1,7 @@
 -- The turned body as it stands in the flat slices: a row's stretch reversed where its colour says so. Assumes nothing.
-use Rattle.std.specs.Prelude.{◌≡◌, refl, Bool, true, false, cond, ℕ, ◌+◌, ◌-◌, ◌*◌, ◌%◌, ◌≤◌, ◌<◌, length, take, drop, eqb, Float}
+use Rattle.std.specs.Prelude.{◌≡◌, refl, Bool, true, false, cond, ℕ, ◌+◌, ◌*◌, ◌%◌, ◌≤◌, ◌<◌, length, take, drop, eqb, Float}
 use Rattle.std.proofs.Common.{ap, ◌∙◌, arith, length-drop}
 use mathlib.Core.List.{List, [], ◌∷◌, ◌++◌, map, flat_map}
-use Rattle.std.proofs.lemmas.List.Edits.{sets}
 use Rattle.std.specs.Float.Ieee.{neg}
 use Rattle.lists.specs.Lists.{sum_of, count_if}
 use Rattle.body_rows.specs.Body.{Row, Patch, rows_of, patches_of, all_vertices, all_indices}
@@ -76,26 +75,10 @@ indices_turned (c ∷ cs) (r ∷ rs) ps ns is e l =
 
 -- ---- what the code asks and ensures
 
--- the indices from `from` up to `to` are whole triangles of the slice
-pub record Triangles (is : List ℕ) (from to : ℕ) : Type 0 where
-  pub ordered : from ≤ to
-  pub whole : (to - from) % 3 ≡ 0
-  pub inside : to ≤ length is
-
--- the numbers from `from` up to `to` lie in the slice
-pub record Stretch (xs : List Float) (from to : ℕ) : Type 0 where
-  pub ordered : from ≤ to
-  pub inside : to ≤ length xs
-
--- the stretches of one row
-pub record RowStretches (ns : List Float) (is : List ℕ) (v vend i iend : ℕ) : Type 0 where
-  pub normals : Stretch ns v vend
-  pub indices : Triangles is i iend
-
--- the stretches of one row as its colour says, and 1 if it is coloured
-pub record RowReversed (c v vend i iend : ℕ) (ns : List Float) (is : List ℕ) (ns' : List Float) (is' : List ℕ) (r : ℕ) : Type 0 where
-  pub normals : ns' ≡ sets ns v (changed (map neg) c (take (vend - v) (drop v ns)))
-  pub indices : is' ≡ sets is i (changed swapped c (take (iend - i) (drop i is)))
+-- a row's normals and indices as its colour says, and 1 if it is coloured
+pub record RowReversed (c : ℕ) (ns : List Float) (is : List ℕ) (ns' : List Float) (is' : List ℕ) (r : ℕ) : Type 0 where
+  pub normals : ns' ≡ changed (map neg) c ns
+  pub indices : is' ≡ changed swapped c is
   pub count : r ≡ cond (eqb coloured c) 1 0
 
 -- what `reverse_rows` asks: rows of whole triangles that fill the slices, and a colour for each row from `colours` on

@@ -1,57 +1,43 @@
 // Coloured rows are reversed where they stand: corners 1 and 2 of each triangle swapped, normals negated.
 
-ghost use Rattle.std.specs.Prelude.{◌≡◌, map, ◌-◌, length, take, drop};
-ghost use Rattle.std.proofs.lemmas.List.Edits.{sets};
+ghost use Rattle.std.specs.Prelude.{◌≡◌, ◌%◌, map, length, take, drop};
 ghost use Rattle.std.specs.Float.Ieee.{neg};
 ghost use Rattle.body_rows.specs.Body.{rows_of};
 ghost use Rattle.turn_definition.specs.Reversal.{swapped};
-ghost use Rattle.turn_reversal.specs.Reversed.{Triangles, Stretch, RowStretches, RowReversed, Reversible, Reversed};
+ghost use Rattle.turn_reversal.specs.Reversed.{RowReversed, Reversible, Reversed};
 
 use turn_walk::COLOURED;
 
-// Corners 1 and 2 of the triangles from index `from` up to `to` are swapped.
-fn swap_corners(indices: &mut [u32], from: usize, to: usize)
-    requires { Triangles indices.old from to }
-    ensures { indices.new ≡ sets indices.old from (swapped (take (to - from) (drop from indices.old))) }
+// A triangle has so many corners.
+const CORNERS: usize = 3;
+
+// Corners 1 and 2 of each triangle are swapped.
+fn swap_corners(indices: &mut [u32])
+    requires { length indices.old % 3 ≡ 0 }
+    ensures { indices.new ≡ swapped indices.old }
 {
-    let mut k = from;
-    while k < to {
-        let b = indices[k + 1];
-        let c = indices[k + 2];
-        indices[k + 1] = c;
-        indices[k + 2] = b;
-        k += 3;
+    for k in (0..indices.len()).step_by(CORNERS) {
+        indices.swap(k + 1, k + 2);
     }
 }
 
-// The numbers from `from` up to `to` get the other sign.
-fn negate(normals: &mut [f32], from: usize, to: usize)
-    requires { Stretch normals.old from to }
-    ensures { normals.new ≡ sets normals.old from (map neg (take (to - from) (drop from normals.old))) }
+// The numbers get the other sign.
+fn negate(normals: &mut [f32])
+    ensures { normals.new ≡ map neg normals.old }
 {
-    let mut k = from;
-    while k < to {
-        normals[k] = -normals[k];
-        k += 1;
+    for normal in normals.iter_mut() {
+        *normal = -*normal;
     }
 }
 
-// A row of colour 2 is reversed: its normals stand from `v` up to `vend`, its indices from `i` up to `iend`. The answer is 1 if it was.
-fn reverse_row(
-    normals: &mut [f32],
-    indices: &mut [u32],
-    colour: u64,
-    v: usize,
-    vend: usize,
-    i: usize,
-    iend: usize,
-) -> u32
-    requires { RowStretches normals.old indices.old v vend i iend }
-    ensures { RowReversed colour v vend i iend normals.old indices.old normals.new indices.new result }
+// A row of colour 2 is reversed. The answer is 1 if it was.
+fn reverse_row(normals: &mut [f32], indices: &mut [u32], colour: u64) -> u32
+    requires { length indices.old % 3 ≡ 0 }
+    ensures { RowReversed colour normals.old indices.old normals.new indices.new result }
 {
     if colour == COLOURED {
-        swap_corners(indices, i, iend);
-        negate(normals, v, vend);
+        swap_corners(indices);
+        negate(normals);
         return 1;
     }
     0
@@ -73,15 +59,12 @@ pub fn reverse_rows(
     let mut turned = 0u32;
     let mut v = 0usize;
     let mut i = 0usize;
-    let mut k = 0usize;
-    while k < n {
+    for k in 0..n {
         let vend = v + 3 * body_rows::vertices(rows, k) as usize;
         let iend = i + body_rows::indices(rows, k) as usize;
-        let colour = w[colours + k];
-        turned += reverse_row(normals, indices, colour, v, vend, i, iend);
+        turned += reverse_row(&mut normals[v..vend], &mut indices[i..iend], w[colours + k]);
         v = vend;
         i = iend;
-        k += 1;
     }
     turned
 }

@@ -1,4 +1,4 @@
-// The walk of one group over the chained pairs, in the work area (turn_walk/specs/Area.antt names where each part of it stands).
+// The walk of one group over the chained pairs, in the work area.
 #![tactic(auto)]
 
 ghost use Rattle.std.specs.Prelude.{◌+◌};
@@ -6,53 +6,43 @@ ghost use Rattle.turn_walk.specs.Group.{Rooted, GroupWalked, Stage, VisitAt, vis
 
 use turn_meet::{Tally, meet_row, start_group};
 use turn_neighbours::{next_link, other_row, wanted};
-use turn_walk::{COLOURS, USE_REGIONS};
+use turn_walk::Regions;
 
 // The neighbours of row `x` are met, pairs in recorded order.
-fn visit_row(w: &mut [u64], n: usize, m: usize, t: usize, a: u64, x: usize) -> Tally
-    requires { VisitAt n m t a x w.old }
-    ensures { Stage n m t result.found result.against (a + n) w.old w.new (visit_of n m t a x w.old) }
+fn visit_row(w: &mut [u64], regions: Regions, before: Tally, x: usize) -> Tally
+    requires { VisitAt regions.uses regions.rows before.found before.against x w.old }
+    ensures { Stage regions.uses regions.rows before.found result.found result.against (before.against + regions.uses) w.old w.new
+        (visit_of regions.uses regions.rows before.found before.against x w.old) }
 {
-    let heads = USE_REGIONS * n;
-    let colours = USE_REGIONS * n + COLOURS * m;
-    let c = w[colours + x];
-    let mut found = t;
-    let mut against = a;
-    let mut p = w[heads + x] as usize;
+    let c = w[regions.colours() + x];
+    let mut tally = before;
+    let mut p = w[regions.heads() + x] as usize;
     while p != 0 {
         let i = p - 1;
-        let y = other_row(w, n, m, x, i);
-        let want = wanted(w, n, m, i, c);
-        p = next_link(w, n, m, x, p);
-        let r = meet_row(w, n, m, found, against, y, want);
-        found = r.found;
-        against = r.against;
+        let y = other_row(w, regions, x, i);
+        let want = wanted(w, regions, i, c);
+        p = next_link(w, regions, x, p);
+        tally = meet_row(w, regions, tally, y, want);
     }
-    Tally {
-        found: found,
-        against: against,
-    }
+    tally
 }
 
 // The rows of one group are walked breadth first from its root, after `against` contradictions in the groups before it.
-pub fn walk_group(w: &mut [u64], n: usize, m: usize, root: usize, against: u64) -> Tally
-    requires { Rooted n m root against w.old }
-    ensures { GroupWalked n m root against result.found result.against w.old w.new }
+pub fn walk_group(w: &mut [u64], regions: Regions, root: usize, against: u64) -> Tally
+    requires { Rooted regions.uses regions.rows root against w.old }
+    ensures { GroupWalked regions.uses regions.rows root against result.found result.against w.old w.new }
 {
-    start_group(w, n, m, root);
-    let queue = USE_REGIONS * n + m;
-    let mut found = 1;
-    let mut total = against;
+    start_group(w, regions, root);
+    let queue = regions.queue();
+    let mut tally = Tally {
+        found: 1,
+        against: against,
+    };
     let mut done = 0;
-    while done < found {
+    while done < tally.found {
         let x = w[queue + done] as usize;
-        let r = visit_row(w, n, m, found, total, x);
-        found = r.found;
-        total = r.against;
+        tally = visit_row(w, regions, tally, x);
         done += 1;
     }
-    Tally {
-        found: found,
-        against: total,
-    }
+    tally
 }

@@ -9,13 +9,12 @@
 --   T × T × M × M × M / 2 ^ 50, with M a whole number of 2 ^ -149, is 6 × T × T × M × M × M × 2 ^ 577 of them, since 627 − 50 = 577.
 --
 -- So V and E are compared as the whole numbers `volume_of` and `exact_volume`, and the bound is the whole number `bound`.
-use Rattle.std.specs.Prelude.{◌≡◌, List, ◌∷◌, ℕ, ◌<◌, T, length, Float}
+use Rattle.turn_definition.specs.declared.TurnCounts.{TurnCounts}
+use Rattle.std.specs.Prelude.{◌≡◌, List, ◌∷◌, ℕ, ◌<◌, T, length, Float, Result, Ok, Err}
 use Rattle.lists.specs.Lists.{all}
 use Rattle.point_rules.specs.Rule.{Rule, names}
 use Rattle.join_definition.specs.Join.{joined}
 use Rattle.body_rows.specs.Body.{Patch, rows_of, patches_of}
-use Rattle.turn_definition.specs.declared.Turned.{Turned}
-use Rattle.turn_definition.specs.declared.Turned.TheVariants.{Done, Refused}
 use Rattle.turn_definition.specs.Groups.{Group}
 use Rattle.turn_definition.specs.Orient.{walks_of, turn_of}
 use Rattle.turn_definition.specs.Inversion.{patch_at}
@@ -35,9 +34,9 @@ VolumeRule = (rule : Rule) (table : List ℕ) (ps ns : List Float) (is work : Li
     → let t = turn_of rule table ps ns is work in KeepsVolume rule table ps ns is t.normals t.indices
 
 -- what turn's answer says of volumes: a body that is done keeps the rule, a refusal says nothing
-abbrev pub DoneKeepsVolume : Turned → Rule → List ℕ → List Float → List Float → List ℕ → List Float → List ℕ → Type 0
-DoneKeepsVolume (Done c) rule table ps ns is ns' is' = KeepsVolume rule table ps ns is ns' is'
-DoneKeepsVolume (Refused n) rule table ps ns is ns' is' = Unit
+abbrev pub DoneKeepsVolume : {E : Type 0} → Result TurnCounts E → Rule → List ℕ → List Float → List Float → List ℕ → List Float → List ℕ → Type 0
+DoneKeepsVolume (Ok c) rule table ps ns is ns' is' = KeepsVolume rule table ps ns is ns' is'
+DoneKeepsVolume (Err n) rule table ps ns is ns' is' = Unit
 
 -- n is one of the rows
 pub data In (n : ℕ) : List ℕ → Type 0 where

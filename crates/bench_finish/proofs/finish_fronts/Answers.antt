@@ -17,4 +17,4 @@ pub slice_bounds-finish_body-end-4 : goal.slice_bounds-finish_body-end-4
 slice_bounds-finish_body-end-4 c = search (rules, front_count)
 
 pub returns : goal.returns
-returns c = fronts_said _ _ _ _ _ _ _ _ _ _ _ _ _ _ _ _ _ c.front_floats.ensures c.finish_body.ensures
+returns c = fronts_said _ _ _ _ _ _ _ _ _ _ _ _ _ _ _ _ _ c.front.ensures c.finish_body.ensures

@@ -1,15 +1,9 @@
--- `read_some` feeds what it read, or what stands for a read that failed. Assumes nothing.
-use Rattle.bench_feed.specs.FeedingLaws.{fed_nothing, fed_part}
+-- A read that brings nothing feeds nothing. Assumes nothing.
+use Rattle.bench_feed.specs.FeedingLaws.{fed_nothing}
 use Rattle.bench_input.proofs.read_some.Goals as goal
 
-pub returns-then-count-eq0 : goal.returns-then-count-eq0
-returns-then-count-eq0 g c = fed_nothing _ _ _ _ _ _ _
+pub returns-in-Ok-eq0 : goal.returns-in-Ok-eq0
+returns-in-Ok-eq0 g c = fed_nothing _ _ _ _ _ _ _
 
-pub returns-then-eq : goal.returns-then-eq
-returns-then-eq g c = fed_nothing _ _ _ _ _ _ _
-
-pub returns-else-count-eq0 : goal.returns-else-count-eq0
-returns-else-count-eq0 g c = fed_part _ _ _ _ _ _ _ _ _ _ _ _ _ _ _ c.feed-g.ensures
-
-pub returns-else-eq : goal.returns-else-eq
-returns-else-eq g c = fed_part _ _ _ _ _ _ _ _ _ _ _ _ _ _ _ c.fail_read-g.ensures
+pub returns-in-Err : goal.returns-in-Err
+returns-in-Err g c = fed_nothing _ _ _ _ _ _ _

@@ -1,10 +1,12 @@
 -- `print_stitched` meets its contract. Assumes nothing.
+use Rattle.std.proofs.Common.{◌∙◌, sym, ap, Err}
+use Rattle.refusals.specs.Numbers.{numbered}
 use Rattle.bench_stitch.proofs.StitchLaws.{stitch_said, stitch_said_refused}
-use borrow.Author.Rules.{rules}
 use Rattle.bench_stitch.proofs.print_stitched.Goals as goal
 
-pub returns-in-Done : goal.returns-in-Done
-returns-in-Done c = stitch_said _ _ _ _ _ _ _ _ _ _ _ _ _ _ _ _ _ _ _ _ c.in-Done.is c.front.ensures c.front_floats.ensures c.front_floats-in-Done.ensures c.front-in-Done.ensures c.assemble_next.ensures
+pub returns-in-Ok : goal.returns-in-Ok
+returns-in-Ok c =
+    stitch_said _ _ _ _ _ _ _ _ _ _ _ _ _ _ _ _ _ _ _ _ (ap numbered c.in-Ok.is) c.front.ensures c.front-in-Ok.ensures c.front-in-Ok-2.ensures c.front-in-Ok-3.ensures c.assemble_next.ensures
 
-pub returns-in-Refused : goal.returns-in-Refused
-returns-in-Refused c = search (rules, stitch_said_refused)
+pub returns-in-Err : goal.returns-in-Err
+returns-in-Err c = stitch_said_refused _ _ _ _ _ _ _ _ _ _ _ _ _ _ _ _ (ap numbered c.in-Err.is ∙ ap Err (sym c.number.ensures)) c.write_refusal.ensures

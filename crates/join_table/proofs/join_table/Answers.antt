@@ -1,6 +1,5 @@
 -- `join_table::join_table` meets its contract. Assumes nothing.
 use Rattle.join_table.proofs.Chains.{progress_none, progress_turn, progress_more, progress_all}
-use Prim.Native.Nat.{◌-◌}
 use Rattle.join_table.proofs.join_table.Goals as goal
 
 pub loop-i-init : goal.loop-i-init

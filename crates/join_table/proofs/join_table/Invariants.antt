@@ -1,11 +1,7 @@
 -- `join_table::join_table` meets its contract. Assumes nothing.
 use Rattle.join_table.proofs.Chains.{Progress}
 use Rattle.join_table.specs.Naming.{names_of}
-use Prim.Native.Nat.{◌-◌}
 use Rattle.join_table.proofs.join_table.Given as goal
 
 abbrev pub invariant-loop-i : goal.invariant-loop-i
 invariant-loop-i l = Progress (names_of l.source l.positions) l.n l.initial.w l.i l.w
-
-abbrev pub decreases-loop-i : goal.decreases-loop-i
-decreases-loop-i l = l.n - l.i

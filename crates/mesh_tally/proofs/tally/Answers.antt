@@ -4,7 +4,7 @@ use Prim.Native.Nat.{◌-◌}
 use Rattle.mesh_tally.proofs.tally.Goals as goal
 
 pub loop-i-init : goal.loop-i-init
-loop-i-init c = search tallying_none
+loop-i-init c = tallying_none _ _ _ c.default-c.ensures
 
 pub with_use-c-requires : goal.with_use-c-requires
 with_use-c-requires c = search use_ready

@@ -2,8 +2,8 @@
 use Rattle.plan_print.specs.Printing.{answered, refused}
 use Rattle.plan.proofs.print_input.Goals as goal
 
-pub returns-in-Text : goal.returns-in-Text
-returns-in-Text g c = answered c.print_plan.ensures
+pub returns-in-Ok : goal.returns-in-Ok
+returns-in-Ok g c = answered c.print_plan.ensures
 
-pub returns-in-TooLong : goal.returns-in-TooLong
-returns-in-TooLong g c = refused c.write_refusal.ensures
+pub returns-in-Err : goal.returns-in-Err
+returns-in-Err g c = refused (rw c.number.ensures at c.write_refusal.ensures)

@@ -1,13 +1,13 @@
 -- `print_plan` meets its contract. Assumes nothing.
-use Rattle.plan_print.proofs.PrintLaws.{listing_refused, listing_written, plan_refused}
 use borrow.Author.Rules.{rules}
+use Rattle.plan_print.proofs.PrintLaws.{listing_refused, listing_written, plan_refused}
 use Rattle.plan_print.proofs.print_plan.Goals as goal
 
-pub returns-in-Refused : goal.returns-in-Refused
-returns-in-Refused c = search (rules, plan_refused)
+pub returns-in-Err : goal.returns-in-Err
+returns-in-Err c = search (rules, plan_refused, c.in-Err.ensures)
 
-pub returns-in-Refused-wrote : goal.returns-in-Refused-wrote
-returns-in-Refused-wrote c = search (rules, listing_refused)
+pub returns-in-Err-write_plan : goal.returns-in-Err-write_plan
+returns-in-Err-write_plan c = search (rules, listing_refused, c.in-Ok.ensures, c.in-Err-write_plan.ensures)
 
-pub returns-in-Written : goal.returns-in-Written
-returns-in-Written c = search (rules, listing_written)
+pub returns-in-Ok-write_plan : goal.returns-in-Ok-write_plan
+returns-in-Ok-write_plan c = search (rules, listing_written, c.in-Ok.ensures, c.in-Ok-write_plan.ensures)

@@ -9,14 +9,14 @@ use Rattle.sheet_answer_rows.proofs.RowLaws.{failed_empty, failed_escape, failed
 use borrow.Author.Rules.{rules}
 use Rattle.sheet_answer_rows.proofs.put_failure.Goals as goal
 
-pub returns-then-n-eq0 : goal.returns-then-n-eq0
+pub returns-in-0 : goal.returns-in-0
 unfolding piece split numbers
-returns-then-n-eq0 c = search (rules, failed_empty, as_form empty_form (bytes "(failed## (empty))") refl)
+returns-in-0 c = search (rules, failed_empty, as_form empty_form (bytes "(failed## (empty))") refl)
 
-pub returns-then-n-eq256 : goal.returns-then-n-eq256
+pub returns-in-256 : goal.returns-in-256
 unfolding piece split numbers
-returns-then-n-eq256 c = search (rules, failed_escape, as_form escape_form (bytes "(failed## (escape$$))") refl)
+returns-in-256 c = search (rules, failed_escape, as_form escape_form (bytes "(failed## (escape$$))") refl)
 
-pub returns : goal.returns
+pub returns-in_default : goal.returns-in_default
 unfolding piece split numbers
-returns c = search (rules, failed_upstream, as_form upstream_form (bytes "(failed## (upstream#))") refl)
+returns-in_default c = search (rules, failed_upstream, as_form upstream_form (bytes "(failed## (upstream#))") refl)

@@ -1,20 +1,15 @@
 -- `put_failures` meets its contract. Assumes nothing.
-use Prim.Native.Nat.{◌-◌}
-use Rattle.sheet_answer_rows.proofs.RowLaws.{failures_all, failures_inside, failures_more, failures_none, failures_room}
+use mathlib.Core.Path.{sym, ◌∙◌, ap}
+use Rattle.std.specs.List.{flat_map}
+use Rattle.sheet_answer_rows.proofs.RowLaws.{lined_all, lined_more, lined_none, failure_rows}
 use borrow.Author.Rules.{rules}
 use Rattle.sheet_answer_rows.proofs.put_failures.Goals as goal
 
-pub loop-i-init : goal.loop-i-init
-loop-i-init c = search (rules, failures_none)
+pub loop-row-init : goal.loop-row-init
+loop-row-init c = search (rules, lined_none)
 
-pub overflow_sub-failures : goal.overflow_sub-failures
-overflow_sub-failures c = search (rules, failures_inside)
-
-pub put_failure-next-requires : goal.put_failure-next-requires
-put_failure-next-requires c = search (rules, failures_room)
-
-pub loop-i-preserved : goal.loop-i-preserved
-loop-i-preserved c = search (rules, failures_more)
+pub loop-row-preserved : goal.loop-row-preserved
+loop-row-preserved c = lined_more _ _ _ _ _ _ _ c.loop-row.invariant _ _ _ c.loop-row-test.true c.put_failure-next.ensures
 
 pub returns : goal.returns
-returns c = search (rules, failures_all)
+returns c = lined_all _ _ _ _ _ _ _ c.loop-row.invariant _ (failure_rows _ ∙ ap (flat_map _) (sym c.as_chunks.ensures.front)) c.loop-row-test.false

@@ -5,9 +5,9 @@ use Rattle.sheet_lines.specs.Forms.{numbers}
 use Rattle.sheet_lines.specs.Pattern.{piece, split}
 use Rattle.sheet_answer_rows.specs.Rows.{range_form}
 use Rattle.sheet_answer_rows.specs.FormLaws.{as_form}
-use Rattle.sheet_answer_rows.proofs.RowLaws.{range_written}
+use borrow.Author.Rules.{rules}
 use Rattle.sheet_answer_rows.proofs.put_range.Goals as goal
 
 pub returns : goal.returns
 unfolding piece split numbers
-returns c = search (range_written, as_form range_form (bytes "(range####)") refl)
+returns c = search (rules, as_form range_form (bytes "(range####)") refl)

@@ -1,20 +1,15 @@
 -- `put_ranges` meets its contract. Assumes nothing.
-use Prim.Native.Nat.{◌-◌}
-use Rattle.sheet_answer_rows.proofs.RowLaws.{ranges_all, ranges_inside, ranges_more, ranges_none, ranges_room}
+use mathlib.Core.Path.{sym, ◌∙◌, ap}
+use Rattle.std.specs.List.{flat_map}
+use Rattle.sheet_answer_rows.proofs.RowLaws.{lined_all, lined_more, lined_none, range_rows}
 use borrow.Author.Rules.{rules}
 use Rattle.sheet_answer_rows.proofs.put_ranges.Goals as goal
 
-pub loop-i-init : goal.loop-i-init
-loop-i-init c = search (rules, ranges_none)
+pub loop-row-init : goal.loop-row-init
+loop-row-init c = search (rules, lined_none)
 
-pub overflow_sub-ranges : goal.overflow_sub-ranges
-overflow_sub-ranges c = search (rules, ranges_inside)
-
-pub put_range-next-requires : goal.put_range-next-requires
-put_range-next-requires c = search (rules, ranges_room)
-
-pub loop-i-preserved : goal.loop-i-preserved
-loop-i-preserved c = search (rules, ranges_more)
+pub loop-row-preserved : goal.loop-row-preserved
+loop-row-preserved c = lined_more _ _ _ _ _ _ _ c.loop-row.invariant _ _ _ c.loop-row-test.true c.put_range-next.ensures
 
 pub returns : goal.returns
-returns c = search (rules, ranges_all)
+returns c = lined_all _ _ _ _ _ _ _ c.loop-row.invariant _ (range_rows _ ∙ ap (flat_map _) (sym c.as_chunks.ensures.front)) c.loop-row-test.false

@@ -1,20 +1,15 @@
 -- `put_threes` meets its contract. Assumes nothing.
-use Prim.Native.Nat.{◌-◌}
-use Rattle.sheet_answer_rows.proofs.RowLaws.{threes_all, threes_inside, threes_more, threes_none, threes_room}
+use mathlib.Core.Path.{sym, ◌∙◌, ap}
+use Rattle.std.specs.List.{flat_map}
+use Rattle.sheet_answer_rows.proofs.RowLaws.{lined_all, lined_more, lined_none, threes_rows}
 use borrow.Author.Rules.{rules}
 use Rattle.sheet_answer_rows.proofs.put_threes.Goals as goal
 
-pub loop-i-init : goal.loop-i-init
-loop-i-init c = search (rules, threes_none)
+pub loop-row-init : goal.loop-row-init
+loop-row-init c = search (rules, lined_none)
 
-pub overflow_sub-values : goal.overflow_sub-values
-overflow_sub-values c = search (rules, threes_inside)
-
-pub put_three-next-requires : goal.put_three-next-requires
-put_three-next-requires c = search (rules, threes_room)
-
-pub loop-i-preserved : goal.loop-i-preserved
-loop-i-preserved c = search (rules, threes_more)
+pub loop-row-preserved : goal.loop-row-preserved
+loop-row-preserved c = lined_more _ _ _ _ _ _ _ c.loop-row.invariant _ _ _ c.loop-row-test.true c.put_three-next.ensures
 
 pub returns : goal.returns
-returns c = search (rules, threes_all)
+returns c = lined_all _ _ _ _ _ _ _ c.loop-row.invariant _ (threes_rows _ _ ∙ ap (flat_map _) (sym c.as_chunks.ensures.front)) c.loop-row-test.false

@@ -1,26 +1,24 @@
 -- `put_vertices` meets its contract. Assumes nothing.
-use Prim.Native.Nat.{◌-◌}
-use Rattle.sheet_answer_rows.proofs.RowLaws.{corners_all, corners_beside, corners_inside, corners_more, corners_none, corners_room, corners_short}
+use mathlib.Core.Path.{◌≡◌}
+use lib.ListN.{length-append}
+use Rattle.std.proofs.lemmas.Slice.Zip.{zip_turn, zip_end}
+use Rattle.sheet_answer_rows.proofs.RowLaws.{chunks, corner_all, corner_more, lined_none}
 use borrow.Author.Rules.{rules}
 use Rattle.sheet_answer_rows.proofs.put_vertices.Goals as goal
 
-pub loop-i-init : goal.loop-i-init
-loop-i-init c = search (rules, corners_none)
+pub loop-position-init : goal.loop-position-init
+loop-position-init c = search (rules, lined_none)
 
-pub overflow_sub-positions : goal.overflow_sub-positions
-overflow_sub-positions c = search (rules, corners_inside)
-
-pub overflow_sub-normals : goal.overflow_sub-normals
-overflow_sub-normals c = search (rules, corners_beside)
-
-pub returns-then-normals-i-lt3 : goal.returns-then-normals-i-lt3
-returns-then-normals-i-lt3 c = search (rules, corners_short)
-
-pub put_vertex-next-requires : goal.put_vertex-next-requires
-put_vertex-next-requires c = search (rules, corners_room)
-
-pub loop-i-preserved : goal.loop-i-preserved
-loop-i-preserved c = search (rules, corners_more)
+pub loop-position-preserved : goal.loop-position-preserved
+loop-position-preserved c =
+    rw length-append
+    (corner_more _ _ _ _ _ _ _ c.loop-position.invariant _ _
+    (zip_turn (chunks c.args.positions.now) (chunks c.args.normals.now) c.loop-position.yielded c.into_iter-position-iterator.result c.loop-position.position-iterator c.next.new.self c.next.result
+    (search rules) (search rules) c.loop-position.yielded_by (c.in-Some.position, c.in-Some.normal) c.in-Some.is c.next.ensures.steps)
+    _ _ c.put_vertex-next.ensures)
 
 pub returns : goal.returns
-returns c = search (rules, corners_all)
+returns c =
+    corner_all _ _ _ _ _ _ _ c.loop-position.invariant
+    (zip_end (chunks c.args.positions.now) (chunks c.args.normals.now) c.loop-position.yielded c.into_iter-position-iterator.result c.loop-position.position-iterator c.next.new.self c.next.result
+    (search rules) (search rules) c.loop-position.yielded_by c.in-None.is c.next.ensures.steps)

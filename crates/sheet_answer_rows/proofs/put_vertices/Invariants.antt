@@ -1,11 +1,7 @@
 -- `put_vertices` meets its contract. Assumes nothing.
-use Prim.Native.Nat.{◌-◌}
 use lib.ListN.{length}
-use Rattle.sheet_answer_rows.proofs.RowLaws.{Corners}
+use Rattle.sheet_answer_rows.proofs.RowLaws.{Lined, corner, corners}
 use Rattle.sheet_answer_rows.proofs.put_vertices.Given as goal
 
-abbrev pub invariant-loop-i : goal.invariant-loop-i
-invariant-loop-i l = Corners l.initial.out l.at l.positions l.normals l.out l.next l.i
-
-abbrev pub decreases-loop-i : goal.decreases-loop-i
-decreases-loop-i l = length l.positions - l.i
+abbrev pub invariant-loop-position : goal.invariant-loop-position
+invariant-loop-position l = Lined corner l.initial.out l.at (corners l.positions l.normals) l.out l.next (length l.yielded)

@@ -1,5 +1,4 @@
 -- `fill_digits` meets its contract. Assumes nothing.
-use Prim.Native.Nat.{◌-◌}
 use Rattle.sheet_digit_writing.proofs.WriteLaws.{filled_none, filled_more, filled_all, small_digit}
 use borrow.Author.Rules.{rules}
 use Rattle.sheet_digit_writing.proofs.fill_digits.Goals as goal

@@ -1,5 +1,5 @@
 -- `begin` meets its contract. Assumes nothing.
-use Rattle.sheet_ends.proofs.EndLaws.{begun_long, begun_short}
+use Rattle.sheet_ends.proofs.BeginLaws.{begun_long, begun_short}
 use borrow.Author.Rules.{rules}
 use Rattle.sheet_ends.proofs.begin.Goals as goal
 

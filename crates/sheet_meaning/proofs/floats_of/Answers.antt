@@ -1,5 +1,4 @@
 -- `floats_of` meets its contract. Assumes nothing.
-use Prim.Native.Nat.{◌-◌}
 use Rattle.sheet_meaning.proofs.FloatLaws.{floated_all, floated_full, floated_more, floated_none}
 use borrow.Author.Rules.{rules}
 use Rattle.sheet_meaning.proofs.floats_of.Goals as goal

@@ -2,11 +2,11 @@
 use Rattle.sheet_reader.proofs.LineLaws.{form_ready, form_refused, form_taken}
 use Rattle.sheet_reader.proofs.with_form.Goals as goal
 
-pub returns-then-n-ne0 : goal.returns-then-n-ne0
-returns-then-n-ne0 c = search form_refused
+pub returns-in-Err : goal.returns-in-Err
+returns-in-Err c = form_refused _ _ _ _ _ _ _ _ c.requires _ _ c.in-Err.ensures c.refuse.ensures
 
 pub take_up-requires : goal.take_up-requires
-take_up-requires c = search form_ready
+take_up-requires c = form_ready _ _ _ _ _ _ _ _ c.requires c.in-Ok.ensures
 
-pub returns : goal.returns
-returns c = form_taken _ _ _ _ _ _ _ _ c.requires _ c.line_refusal-n.ensures _ c.if-n-ne0.false c.take_up.ensures
+pub returns-in-Ok : goal.returns-in-Ok
+returns-in-Ok c = form_taken _ _ _ _ _ _ _ _ c.requires c.in-Ok.ensures _ c.take_up.ensures

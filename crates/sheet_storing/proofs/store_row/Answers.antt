@@ -1,24 +1,7 @@
 -- `store_row` meets its contract. Assumes nothing.
-use native.Mathlib.Omega.{arith}
-use lib.ListN.{length-set}
-use Rattle.sheet_storing.proofs.StoreLaws.{row_placed}
-use borrow.Author.Rules.{rules}
+use mathlib.Core.List.{[], ◌∷◌}
+use Rattle.sheet_storing.proofs.StoreLaws.{run_placed}
 use Rattle.sheet_storing.proofs.store_row.Goals as goal
 
-pub bounds-s-at-2 : goal.bounds-s-at-2
-bounds-s-at-2 c = simp length-set (omega arith)
-
-pub bounds-s-at-3 : goal.bounds-s-at-3
-bounds-s-at-3 c = simp length-set (omega arith)
-
-pub bounds-s-at-4 : goal.bounds-s-at-4
-bounds-s-at-4 c = simp length-set (omega arith)
-
-pub bounds-s-at-5 : goal.bounds-s-at-5
-bounds-s-at-5 c = simp length-set (omega arith)
-
-pub bounds-s-at-6 : goal.bounds-s-at-6
-bounds-s-at-6 c = simp length-set (omega arith)
-
 pub returns : goal.returns
-returns c = search (rules, row_placed)
+returns c = run_placed c.args.s.now _ c.args.at (c.args.shell ∷ c.args.face ∷ c.args.outcome ∷ 0 ∷ 0 ∷ c.args.bin ∷ []) c.requires c.put.ensures.stored

@@ -1,13 +1,7 @@
 -- `fill` meets its contract. Assumes nothing.
-use Prim.Native.Nat.{◌-◌}
-use Rattle.slice_fill.proofs.Filling.{filling_none, filling_more, filling_all}
+use Rattle.std.proofs.Common.{rules}
+use Rattle.slice_fill.proofs.Filling.{stretch_filled}
 use Rattle.slice_fill.proofs.fill.Goals as goal
 
-pub loop-k-init : goal.loop-k-init
-loop-k-init c = filling_none _ _ _ _
-
-pub loop-k-preserved : goal.loop-k-preserved
-loop-k-preserved c = search filling_more
-
 pub returns : goal.returns
-returns c = search filling_all
+returns c = stretch_filled _ _ _ _ _ _ (search rules) c.min.ensures (search rules)

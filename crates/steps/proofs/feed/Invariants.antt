@@ -2,8 +2,5 @@
 use Rattle.std.proofs.Common.{◌≡◌, ◌-◌, ◌≤◌, length}
 use Rattle.steps.proofs.feed.Given as goal
 
-abbrev pub invariant-loop-i : goal.invariant-loop-i
-invariant-loop-i g l = (length l.line ≡ length l.initial.line) × (l.k ≤ length l.line)
-
-abbrev pub decreases-loop-i : goal.decreases-loop-i
-decreases-loop-i g l = length l.part - l.i
+abbrev pub invariant-loop-c : goal.invariant-loop-c
+invariant-loop-c g l = (length l.line ≡ length l.initial.line) × (l.k ≤ length l.line)

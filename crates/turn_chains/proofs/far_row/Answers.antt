@@ -4,13 +4,13 @@ use native.Mathlib.Omega.{arith}
 use Rattle.turn_chains.proofs.far_row.Goals as goal
 
 pub overflow_add-result : goal.overflow_add-result
-overflow_add-result c = omega (arith, first_index c.requires)
+overflow_add-result c = rw c.use_rows.ensures (omega (arith, first_index c.requires))
 
-pub offset_bounds-w-n : goal.offset_bounds-w-n
-offset_bounds-w-n c = omega (arith, first_index c.requires)
+pub offset_bounds-w-use_rows : goal.offset_bounds-w-use_rows
+offset_bounds-w-use_rows c = rw c.use_rows.ensures (omega (arith, first_index c.requires))
 
-pub bounds-w-n : goal.bounds-w-n
-bounds-w-n c = search first_index
+pub bounds-w-use_rows : goal.bounds-w-use_rows
+bounds-w-use_rows c = rw c.use_rows.ensures (first_index c.requires)
 
 pub returns : goal.returns
-returns c = search far_read
+returns c = rw c.use_rows.ensures (far_read c.requires)

@@ -5,8 +5,8 @@ use native.Mathlib.Omega.{arith}
 use Rattle.turn_colouring.proofs.colour_rows.Goals as goal
 
 pub walk_groups-requires : goal.walk_groups-requires
-walk_groups-requires c = search part_walkable
+walk_groups-requires c = part_walkable c.requires refl refl (omega (arith, c.end.ensures)) c.lay_uses.ensures (omega arith)
 
 pub returns : goal.returns
 returns c =
-    rows_coloured c.requires refl refl refl c.lay_uses.ensures (omega arith) c.walk_groups.ensures (omega arith)
+    rows_coloured c.requires refl refl (omega (arith, c.end.ensures)) c.lay_uses.ensures (omega arith) c.walk_groups.ensures (omega arith)

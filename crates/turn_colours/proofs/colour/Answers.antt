@@ -4,4 +4,4 @@ use mathlib.Core.Path.{sym}
 use Rattle.turn_colours.proofs.colour.Goals as goal
 
 pub returns : goal.returns
-returns c = sym (colour_at _ _ _ _ c.requires.inside)
+returns c = rw c.colours.ensures (sym (colour_at _ _ _ _ c.requires.inside))

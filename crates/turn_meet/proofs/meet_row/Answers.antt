@@ -8,10 +8,10 @@ pub bounds-w-colours-then-had-eq-UNVISITED : goal.bounds-w-colours-then-had-eq-U
 bounds-w-colours-then-had-eq-UNVISITED c = simp length-set (omega arith)
 
 pub returns-then-had-eq-UNVISITED : goal.returns-then-had-eq-UNVISITED
-returns-then-had-eq-UNVISITED c = search meet_new
+returns-then-had-eq-UNVISITED c = rw (c.queue-queue.ensures, c.colours-colours.ensures) (meet_new c.requires (rw c.colours-colours.ensures at c.if-had-eq-UNVISITED.true))
 
 pub returns-then-had-c : goal.returns-then-had-c
-returns-then-had-c c = search meet_same
+returns-then-had-c c = meet_same c.requires (rw c.colours-colours.ensures at c.if-had-eq-UNVISITED.false) (rw c.colours-colours.ensures at c.if-had-c.true)
 
 pub returns : goal.returns
-returns c = search meet_against
+returns c = meet_against c.requires (rw c.colours-colours.ensures at c.if-had-eq-UNVISITED.false) (rw c.colours-colours.ensures at c.if-had-c.false)

@@ -8,4 +8,4 @@ pub bounds-w-colours : goal.bounds-w-colours
 bounds-w-colours c = simp length-set (omega arith)
 
 pub returns : goal.returns
-returns c = search started
+returns c = search (started, c.queue-queue.ensures, c.colours-colours.ensures)

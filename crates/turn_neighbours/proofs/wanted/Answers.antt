@@ -10,10 +10,10 @@ pub offset_bounds-w-runs : goal.offset_bounds-w-runs
 offset_bounds-w-runs c = omega (arith, run_index c.requires)
 
 pub bounds-w-runs : goal.bounds-w-runs
-bounds-w-runs c = search run_index
+bounds-w-runs c = rw c.runs-runs.ensures (run_index c.requires)
 
 pub returns-then-w-runs : goal.returns-then-w-runs
-returns-then-w-runs c = search want_not
+returns-then-w-runs c = want_not c.requires (rw c.runs-runs.ensures at c.if-w-runs.true) c.opposite_colour.ensures
 
 pub returns : goal.returns
-returns c = search want_yes
+returns c = want_yes c.requires (rw c.runs-runs.ensures at c.if-w-runs.false)

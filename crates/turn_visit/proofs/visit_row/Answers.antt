@@ -3,7 +3,7 @@ use Rattle.turn_visit.proofs.Visiting.{visiting_none, use_there, want_there, lin
 use Rattle.turn_visit.proofs.visit_row.Goals as goal
 
 pub loop-p-init : goal.loop-p-init
-loop-p-init c = search visiting_none
+loop-p-init c = rw (c.colours.ensures, c.heads.ensures) (visiting_none c.requires)
 
 pub other_row-y-requires : goal.other_row-y-requires
 other_row-y-requires c = search use_there
@@ -14,8 +14,8 @@ wanted-want-requires c = want_there c.loop-p.invariant c.loop-p-test.true
 pub next_link-p-requires : goal.next_link-p-requires
 next_link-p-requires c = link_there c.loop-p.invariant c.loop-p-test.true
 
-pub meet_row-r-requires : goal.meet_row-r-requires
-meet_row-r-requires c = meet_there c.loop-p.invariant c.loop-p-test.true c.requires c.other_row-y.ensures c.wanted-want.ensures
+pub meet_row-tally-requires : goal.meet_row-tally-requires
+meet_row-tally-requires c = meet_there c.loop-p.invariant c.loop-p-test.true c.requires c.other_row-y.ensures c.wanted-want.ensures
 
 pub loop-p-smaller : goal.loop-p-smaller
 loop-p-smaller c = search visiting_less

@@ -8,7 +8,10 @@ use Prim.Native.Nat.{◌-◌}
 use Rattle.turn_visit.proofs.walk_group.Given as goal
 
 abbrev pub invariant-loop-done : goal.invariant-loop-done
-invariant-loop-done l = Walking l.n l.m l.against l.initial.w (walk (pairs_by (uses_of l.n l.initial.w)) l.m 0 (walk_of l.n l.m 1 l.against l.initial.w)) l.found l.total l.done l.w
+invariant-loop-done l =
+    Walking l.regions.uses l.regions.rows l.fn.against l.initial.w
+    (walk (pairs_by (uses_of l.regions.uses l.initial.w)) l.regions.rows 0 (walk_of l.regions.uses l.regions.rows 1 l.fn.against l.initial.w))
+    l.tally.found l.tally.against l.done l.w
 
 abbrev pub decreases-loop-done : goal.decreases-loop-done
-decreases-loop-done l = l.m - l.done
+decreases-loop-done l = l.regions.rows - l.done

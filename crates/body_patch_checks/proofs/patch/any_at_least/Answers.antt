@@ -5,14 +5,14 @@ use Rattle.lists.specs.Any.{searched_none, searched_all}
 use Rattle.body_patch_checks.proofs.PatchLaws.{least_hit, least_more}
 use Rattle.body_patch_checks.proofs.patch.any_at_least.Goals as goal
 
-pub loop-k-init : goal.loop-k-init
-loop-k-init c = searched_none _ _
+pub loop-i-init : goal.loop-i-init
+loop-i-init c = searched_none _ _
 
-pub returns-then-n-s : goal.returns-then-n-s
-returns-then-n-s c = least_hit _ c.loop-k.invariant (omega arith) (omega arith)
+pub returns-then-n-i : goal.returns-then-n-i
+returns-then-n-i c = least_hit _ c.loop-i.invariant (omega arith) (omega arith)
 
-pub loop-k-preserved : goal.loop-k-preserved
-loop-k-preserved c = least_more _ c.loop-k.invariant (omega arith) (omega arith)
+pub loop-i-preserved : goal.loop-i-preserved
+loop-i-preserved c = least_more _ c.loop-i.invariant (omega arith) (omega arith)
 
 pub returns : goal.returns
-returns c = searched_all c.loop-k.invariant (omega arith)
+returns c = searched_all c.loop-i.invariant (omega arith)

@@ -5,6 +5,3 @@ use Rattle.body_patch_checks.proofs.patch.any_bad_index.Given as goal
 
 abbrev pub invariant-loop-k : goal.invariant-loop-k
 invariant-loop-k l = Indexing l.table l.all l.k l.base
-
-abbrev pub decreases-loop-k : goal.decreases-loop-k
-decreases-loop-k l = l.n - l.k

@@ -5,8 +5,5 @@ use Rattle.lists.specs.Any.{Looked}
 use Rattle.point_rules.specs.Points.{clamps}
 use Rattle.body_patch_checks.proofs.patch.any_clamps.Given as goal
 
-abbrev pub invariant-loop-k : goal.invariant-loop-k
-invariant-loop-k l = Looked clamps l.positions l.k l.found
-
-abbrev pub decreases-loop-k : goal.decreases-loop-k
-decreases-loop-k l = length l.positions - l.k
+abbrev pub invariant-loop-v : goal.invariant-loop-v
+invariant-loop-v l = Looked clamps l.positions l.v-index l.found

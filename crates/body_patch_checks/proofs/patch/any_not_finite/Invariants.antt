@@ -5,8 +5,5 @@ use Rattle.lists.specs.Any.{Looked}
 use Rattle.body_patch_checks.specs.PatchTests.{not_finite}
 use Rattle.body_patch_checks.proofs.patch.any_not_finite.Given as goal
 
-abbrev pub invariant-loop-k : goal.invariant-loop-k
-invariant-loop-k l = Looked not_finite l.s l.k l.found
-
-abbrev pub decreases-loop-k : goal.decreases-loop-k
-decreases-loop-k l = length l.s - l.k
+abbrev pub invariant-loop-x : goal.invariant-loop-x
+invariant-loop-x l = Looked not_finite l.s l.x-index l.found

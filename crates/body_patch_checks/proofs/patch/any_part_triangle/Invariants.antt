@@ -7,6 +7,3 @@ use Rattle.body_patch_checks.proofs.patch.any_part_triangle.Given as goal
 
 abbrev pub invariant-loop-k : goal.invariant-loop-k
 invariant-loop-k l = Searched part_triangle (rows_of l.table) l.k
-
-abbrev pub decreases-loop-k : goal.decreases-loop-k
-decreases-loop-k l = l.n - l.k

@@ -6,6 +6,3 @@ use Rattle.body_rows.proofs.bases.bases.Given as goal
 
 abbrev pub invariant-loop-k : goal.invariant-loop-k
 invariant-loop-k l = Starting (column l.j) l.rows l.initial.w l.k l.w l.base
-
-abbrev pub decreases-loop-k : goal.decreases-loop-k
-decreases-loop-k l = l.n - l.k

@@ -7,6 +7,3 @@ use Rattle.body_table_checks.proofs.table.any_bad_bin.Given as goal
 
 abbrev pub invariant-loop-k : goal.invariant-loop-k
 invariant-loop-k l = Searched bad_bin (rows_of l.table) l.k
-
-abbrev pub decreases-loop-k : goal.decreases-loop-k
-decreases-loop-k l = l.n - l.k

@@ -4,4 +4,4 @@ use Rattle.cad_answers.specs.Naming.{cad_cell}
 use Rattle.cad_tess.proofs.naming.cad_cell.Goals as goal
 
 pub returns : goal.returns
-returns c = c.cell_answer.ensures ∙ ap cad_cell c.cell.ensures
+returns c = c.into.ensures ∙ ap cad_cell c.cell.ensures

@@ -4,4 +4,4 @@ use Rattle.cad_answers.specs.Naming.{cad_key}
 use Rattle.cad_tess.proofs.naming.cad_key.Goals as goal
 
 pub returns : goal.returns
-returns c = c.key_answer.ensures ∙ ap cad_key c.key.ensures
+returns c = c.into.ensures ∙ ap cad_key c.key.ensures

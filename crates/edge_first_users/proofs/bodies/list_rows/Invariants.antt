@@ -5,6 +5,3 @@ use Rattle.edge_first_users.proofs.bodies.list_rows.Given as goal
 
 abbrev pub invariant-loop-k : goal.invariant-loop-k
 invariant-loop-k l = Numbering l.rows l.initial.w l.at l.k l.i l.w
-
-abbrev pub decreases-loop-k : goal.decreases-loop-k
-decreases-loop-k l = l.n - l.k

@@ -8,6 +8,3 @@ use Rattle.edge_first_users.proofs.bodies.list_runs.Given as goal
 
 abbrev pub invariant-loop-k : goal.invariant-loop-k
 invariant-loop-k l = WritingBody use_run l.rows l.indices l.initial.w (replicate (length (rows_of l.rows)) 0) l.points l.at l.k l.v l.i l.w
-
-abbrev pub decreases-loop-k : goal.decreases-loop-k
-decreases-loop-k l = l.n - l.k

@@ -7,6 +7,3 @@ use Rattle.edge_first_users.proofs.bodies.name_uses.Given as goal
 
 abbrev pub invariant-loop-k : goal.invariant-loop-k
 invariant-loop-k l = WritingBody use_name l.rows l.indices l.initial.w (drop l.shells l.initial.w) l.points l.at l.k l.v l.i l.w
-
-abbrev pub decreases-loop-k : goal.decreases-loop-k
-decreases-loop-k l = l.n - l.k

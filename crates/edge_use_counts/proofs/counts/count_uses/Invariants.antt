@@ -5,6 +5,3 @@ use Rattle.edge_use_counts.proofs.counts.count_uses.Given as goal
 
 abbrev pub invariant-loop-i : goal.invariant-loop-i
 invariant-loop-i l = CountingUses l.initial.w l.firsts l.counts l.n l.i l.w
-
-abbrev pub decreases-loop-i : goal.decreases-loop-i
-decreases-loop-i l = l.n - l.i

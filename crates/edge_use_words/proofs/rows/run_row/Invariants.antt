@@ -1,11 +1,6 @@
--- `run_row` meets its contract: after each triangle the words of those before it are written. Assumes nothing.
-use Prim.Native.Nat.{◌-◌}
+-- `run_row` meets its contract. Assumes nothing.
 use Rattle.edge_uses.specs.Named.{use_run}
-use Rattle.edge_use_words.proofs.RowLaws.{Writing}
 use Rattle.edge_use_words.proofs.rows.run_row.Given as goal
 
-abbrev pub invariant-loop-k : goal.invariant-loop-k
-invariant-loop-k l = Writing use_run l.indices l.initial.w l.points l.from l.to l.at 0 l.k l.w
-
-abbrev pub decreases-loop-k : goal.decreases-loop-k
-decreases-loop-k l = l.to - l.k
+abbrev pub ghost-write_row : goal.ghost-write_row
+ghost-write_row a = use_run

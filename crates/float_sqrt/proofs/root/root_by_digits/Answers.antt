@@ -1,6 +1,6 @@
 -- `float_sqrt::root::root_by_digits` meets its contract. Assumes nothing.
 use mathlib.Core.Path.{sym, subst}
-use Prim.Native.Nat.{ℕ, ◌+◌, ◌-◌, ◌*◌, ◌/◌, ◌%◌, ◌<◌}
+use Prim.Native.Nat.{ℕ, ◌+◌, ◌*◌, ◌/◌, ◌%◌, ◌<◌}
 use native.Mathlib.Omega.{arith}
 use Rattle.float_sqrt.proofs.Digits.{Taken, start, root_lt, step_yes, step_no, done, root_up, root_down}
 use Rattle.float_sqrt.proofs.root.root_by_digits.Goals as goal
@@ -32,12 +32,6 @@ overflow_mul-s c = omega (arith, root_lt c.loop-i.invariant)
 
 pub overflow_add-s : goal.overflow_add-s
 overflow_add-s c = omega (arith, root_lt c.loop-i.invariant)
-
-pub overflow_add-i : goal.overflow_add-i
-overflow_add-i c = omega arith
-
-pub loop-i-smaller : goal.loop-i-smaller
-loop-i-smaller c = omega arith
 
 pub loop-i-preserved : goal.loop-i-preserved
 loop-i-preserved c =

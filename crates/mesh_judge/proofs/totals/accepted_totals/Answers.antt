@@ -1,11 +1,7 @@
 -- `accepted_totals` meets its contract. With k rows done, the totals and what is left make the whole. Assumes nothing.
-use Prim.Native.Nat.{◌-◌}
 use native.Mathlib.Omega.{arith}
-use Rattle.mesh_judge.proofs.TotalLaws.{totalling_none, totalling_ready, totalling_more, totalling_all}
+use Rattle.mesh_judge.proofs.TotalLaws.{totalling_ready, totalling_more, totalling_all}
 use Rattle.mesh_judge.proofs.totals.accepted_totals.Goals as goal
-
-pub loop-k-init : goal.loop-k-init
-loop-k-init c = totalling_none _ _ _
 
 pub add_row-t-requires : goal.add_row-t-requires
 add_row-t-requires c = totalling_ready c.requires c.loop-k.invariant (omega (arith, c.loop-k-test.true, c.row_count-m.ensures))

@@ -1,6 +1,5 @@
 -- `keep_rows` meets its contract. With the words of k rows kept, the vertices and indices before row k are known. Assumes nothing.
 use mathlib.Core.Path.{refl}
-use Prim.Native.Nat.{◌-◌}
 use native.Mathlib.Omega.{arith}
 use lib.ListN.{length-set}
 use Rattle.mesh_material_order.proofs.OrderLaws.{keeping_none, decision_low, base_low, index_low, row_few, keeping_more, keeping_all}

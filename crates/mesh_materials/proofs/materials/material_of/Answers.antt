@@ -1,11 +1,8 @@
 -- `material_of` meets its contract. Each branch is one case of the definition. Assumes nothing.
 use mathlib.Core.Path.{refl}
 use native.Mathlib.Omega.{arith}
-use Rattle.mesh_materials.proofs.MaterialLaws.{entry_small, material_own, material_default, material_none}
+use Rattle.mesh_materials.proofs.MaterialLaws.{material_own, material_default, material_none}
 use Rattle.mesh_materials.proofs.materials.material_of.Goals as goal
-
-pub overflow_cast-result : goal.overflow_cast-result
-overflow_cast-result c = omega (arith, entry_small _ c.requires c.entry_at-own.ensures)
 
 pub returns-then-own-gt0 : goal.returns-then-own-gt0
 returns-then-own-gt0 c = material_own _ _ _ _ c.entry_at-own.ensures (omega arith) refl

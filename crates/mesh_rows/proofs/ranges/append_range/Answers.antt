@@ -7,11 +7,5 @@ use Rattle.mesh_rows.proofs.ranges.append_range.Goals as goal
 pub returns-then-w-at-eq0 : goal.returns-then-w-at-eq0
 returns-then-w-at-eq0 c = range_no c.requires (omega arith)
 
-pub overflow_cast-first : goal.overflow_cast-first
-overflow_cast-first c = omega (arith, c.requires.small c.if-w-at-eq0.false)
-
-pub overflow_add-first-2 : goal.overflow_add-first-2
-overflow_add-first-2 c = omega (arith, c.requires.small c.if-w-at-eq0.false, c.indices.ensures)
-
 pub returns : goal.returns
 returns c = range_yes c.requires c.if-w-at-eq0.false c.face.ensures c.bin.ensures refl (omega (arith, c.indices.ensures)) c.put_range.ensures

@@ -1,14 +1,7 @@
 -- `write_ranges` meets its contract. With k rows done, their ranges are written and those of the rest are left. Assumes nothing.
-use Prim.Native.Nat.{◌-◌}
 use native.Mathlib.Omega.{arith}
-use Rattle.mesh_rows.proofs.RangeLaws.{ranging_none, ranging_ready, ranging_more, ranging_all}
+use Rattle.mesh_rows.proofs.RangeLaws.{ranging_more, ranging_all}
 use Rattle.mesh_rows.proofs.ranges.write_ranges.Goals as goal
-
-pub loop-k-init : goal.loop-k-init
-loop-k-init c = ranging_none
-
-pub append_range-r-requires : goal.append_range-r-requires
-append_range-r-requires c = ranging_ready c.requires c.loop-k.invariant (omega (arith, c.loop-k-test.true, c.row_count-m.ensures))
 
 pub loop-k-preserved : goal.loop-k-preserved
 loop-k-preserved c = ranging_more c.requires c.loop-k.invariant (omega (arith, c.loop-k-test.true, c.row_count-m.ensures)) c.append_range-r.ensures

@@ -1,10 +1,6 @@
 -- `write_ranges` meets its contract. With k rows done, their ranges are written and those of the rest are left. Assumes nothing.
-use Prim.Native.Nat.{◌-◌}
 use Rattle.mesh_rows.proofs.RangeLaws.{Ranging}
 use Rattle.mesh_rows.proofs.ranges.write_ranges.Given as goal
 
 abbrev pub invariant-loop-k : goal.invariant-loop-k
 invariant-loop-k l = Ranging l.rows l.w l.at l.starts l.initial.ranges l.r l.k l.ranges
-
-abbrev pub decreases-loop-k : goal.decreases-loop-k
-decreases-loop-k l = l.m - l.k

@@ -1,5 +1,4 @@
 -- `write_vertices` meets its contract. With k rows done, their numbers are written and those of the rest are left. Assumes nothing.
-use Prim.Native.Nat.{◌-◌}
 use native.Mathlib.Omega.{arith}
 use Rattle.mesh_rows.proofs.VertexLaws.{inside, copying_none, copying_ready, copying_more, copying_all}
 use Rattle.mesh_rows.proofs.vertices.write_vertices.Goals as goal

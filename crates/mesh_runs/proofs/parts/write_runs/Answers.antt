@@ -1,6 +1,5 @@
 -- `write_runs` meets its contract. With the materials below a bound done, their runs and parts are written and those of the rest are left. Assumes nothing.
 use mathlib.Core.Path.{refl}
-use Prim.Native.Nat.{◌-◌}
 use native.Mathlib.Omega.{arith}
 use Rattle.mesh_runs.proofs.PartLaws.{order_ready, parts_ready, first_ready, parting_none, next_low, next_some, few, run_ready, part_room, run_end, place_more, parting_more, parting_all, runs_same}
 use Rattle.mesh_runs.proofs.parts.write_runs.Goals as goal

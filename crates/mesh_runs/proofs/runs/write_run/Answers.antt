@@ -1,8 +1,7 @@
 -- `write_run` meets its contract. With the words before place p written, the run of the rows before a row is, and that of the rest is left. Assumes nothing.
 use mathlib.Core.Path.{refl}
-use Prim.Native.Nat.{◌-◌}
 use native.Mathlib.Omega.{arith}
-use Rattle.mesh_runs.proofs.WalkLaws.{walking_none, row_low, walking_stop, walking_ready, walking_more, walking_done}
+use Rattle.mesh_runs.proofs.WalkLaws.{walking_none, row_low, walking_stop, walking_ready, walking_more, walking_all}
 use borrow.Author.Rules.{rules}
 use Rattle.mesh_runs.proofs.runs.write_run.Goals as goal
 
@@ -43,4 +42,4 @@ pub loop-p-preserved : goal.loop-p-preserved
 loop-p-preserved c = walking_more c.requires c.loop-p.invariant c.loop-p-test.true refl c.if-w-at.false refl c.indices.ensures refl refl c.append_row-o.ensures
 
 pub returns : goal.returns
-returns c = walking_done c.requires c.loop-p.invariant (λ i x y. absurd (omega arith))
+returns c = walking_all c.requires c.loop-p.invariant (omega (arith, c.loop-p.invariant.high))

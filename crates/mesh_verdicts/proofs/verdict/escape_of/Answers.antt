@@ -5,11 +5,11 @@ use Rattle.mesh_verdicts.proofs.verdict.escape_of.Goals as goal
 pub returns-then-is_empty : goal.returns-then-is_empty
 returns-then-is_empty c = search stays_empty
 
-pub returns-then-reach-span : goal.returns-then-reach-span
-returns-then-reach-span c = search escapes_far
+pub returns-then-reach-reference : goal.returns-then-reach-reference
+returns-then-reach-reference c = search escapes_far
 
-pub returns-else-reach-span : goal.returns-else-reach-span
-returns-else-reach-span c = search stays_near
+pub returns-else-reach-reference : goal.returns-else-reach-reference
+returns-else-reach-reference c = search stays_near
 
-pub returns-else-span : goal.returns-else-span
-returns-else-span c = search stays_point
+pub returns-else-reference : goal.returns-else-reference
+returns-else-reference c = search stays_point

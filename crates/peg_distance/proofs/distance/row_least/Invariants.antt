@@ -1,10 +1,6 @@
 -- `row_least` meets its contract. Assumes nothing.
-use Prim.Native.Nat.{◌-◌}
 use Rattle.peg_distance.proofs.DistanceLaws.{Lessening}
 use Rattle.peg_distance.proofs.distance.row_least.Given as goal
 
-abbrev pub invariant-loop-k : goal.invariant-loop-k
-invariant-loop-k l = Lessening l.target l.positions l.n l.k l.least
-
-abbrev pub decreases-loop-k : goal.decreases-loop-k
-decreases-loop-k l = l.n - l.k
+abbrev pub invariant-loop-t : goal.invariant-loop-t
+invariant-loop-t l = Lessening l.target l.positions l.t l.least

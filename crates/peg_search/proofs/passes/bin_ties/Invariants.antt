@@ -5,6 +5,3 @@ use Rattle.peg_search.proofs.passes.bin_ties.Given as goal
 
 abbrev pub invariant-loop-k : goal.invariant-loop-k
 invariant-loop-k l = Seeking l.rows l.positions l.places l.peg l.square l.wanted l.n l.k l.from
-
-abbrev pub decreases-loop-k : goal.decreases-loop-k
-decreases-loop-k l = l.n - l.k

@@ -5,6 +5,3 @@ use Rattle.peg_search.proofs.passes.find_best.Given as goal
 
 abbrev pub invariant-loop-k : goal.invariant-loop-k
 invariant-loop-k l = Finding l.rows l.positions l.places l.peg l.n l.k l.from l.best
-
-abbrev pub decreases-loop-k : goal.decreases-loop-k
-decreases-loop-k l = l.n - l.k

@@ -5,6 +5,3 @@ use Rattle.peg_search.proofs.passes.next_bin.Given as goal
 
 abbrev pub invariant-loop-k : goal.invariant-loop-k
 invariant-loop-k l = Lowering l.rows l.first l.n l.k l.found
-
-abbrev pub decreases-loop-k : goal.decreases-loop-k
-decreases-loop-k l = l.n - l.k

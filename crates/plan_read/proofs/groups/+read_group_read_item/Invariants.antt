@@ -11,8 +11,8 @@ decreases-read_group l = 2 * (length l.text.now - l.at) + 1
 abbrev pub decreases-read_item : goal.decreases-read_item
 decreases-read_item l = 2 * (length l.text.now - l.at)
 
-abbrev pub invariant-read_group-loop-sum : goal.invariant-read_group-loop-sum
-invariant-read_group-loop-sum l = Reached l.text l.depth l.sum l.at l.count l.room l.initial.entries l.entries l.next l.standing
+abbrev pub invariant-read_group-loop-s : goal.invariant-read_group-loop-s
+invariant-read_group-loop-s l = Reached l.text l.path.depth l.path.sum l.at l.count l.room l.initial.entries l.entries l.next l.standing
 
-abbrev pub decreases-read_group-loop-sum : goal.decreases-read_group-loop-sum
-decreases-read_group-loop-sum l = length l.text - l.next
+abbrev pub decreases-read_group-loop-s : goal.decreases-read_group-loop-s
+decreases-read_group-loop-s l = length l.text - l.next

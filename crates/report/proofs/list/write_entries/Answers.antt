@@ -11,12 +11,12 @@ loop-k-init c = writing_none _ _ _ _ _
 pub overflow_cast-x-in-loop-k : goal.overflow_cast-x-in-loop-k
 overflow_cast-x-in-loop-k c = omega (arith, c.shared_slice_known-in-loop-k-1.given (c.args.at + c.loop-k.k))
 
-pub put_two-requires : goal.put_two-requires
-put_two-requires c = search writing_room
+pub put-requires : goal.put-requires
+put-requires c = search writing_room
 
 pub loop-k-preserved : goal.loop-k-preserved
 loop-k-preserved c =
-    writing_more c.requires c.loop-k.invariant (omega arith) (λ i. get_or c.args.w.now (c.args.at + c.loop-k.k) 0) c.put_two.ensures
+    writing_more c.requires c.loop-k.invariant (omega arith) (λ i. get_or c.args.w.now (c.args.at + c.loop-k.k) 0) c.put.ensures.appended
 
 pub returns : goal.returns
 returns c = search writing_all

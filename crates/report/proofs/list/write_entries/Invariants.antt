@@ -5,6 +5,3 @@ use Rattle.report.proofs.list.write_entries.Given as goal
 
 abbrev pub invariant-loop-k : goal.invariant-loop-k
 invariant-loop-k l = Writing l.w l.at l.r l.listed l.initial.list l.k l.list
-
-abbrev pub decreases-loop-k : goal.decreases-loop-k
-decreases-loop-k l = l.r - l.k

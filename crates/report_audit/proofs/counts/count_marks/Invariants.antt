@@ -5,6 +5,3 @@ use Rattle.report_audit.proofs.counts.count_marks.Given as goal
 
 abbrev pub invariant-loop-i : goal.invariant-loop-i
 invariant-loop-i l = Counting l.initial.w l.firsts l.n l.heads l.counts l.m l.i l.w
-
-abbrev pub decreases-loop-i : goal.decreases-loop-i
-decreases-loop-i l = l.n - l.i

@@ -1,13 +1,13 @@
 -- `runs_alike` meets its contract. Assumes nothing.
-use Rattle.report_audit.proofs.CountLaws.{alike_own, alike_ends, alike_runs}
-use borrow.Author.Rules.{rules}
+use Rattle.std.proofs.Common.{arith}
+use Rattle.std.proofs.lemmas.Grind.{common_steps}
+use Rattle.report_audit.specs.Counts.{alike}
 use Rattle.report_audit.proofs.counts.runs_alike.Goals as goal
 
-pub returns-then-first-i : goal.returns-then-first-i
-returns-then-first-i c = search (alike_own, rules)
+pub returns-then-run-ne-EQUAL_ENDS : goal.returns-then-run-ne-EQUAL_ENDS
+unfolding alike
+returns-then-run-ne-EQUAL_ENDS c = grind (arith, common_steps)
 
-pub returns-then-run-eq-EQUAL_ENDS : goal.returns-then-run-eq-EQUAL_ENDS
-returns-then-run-eq-EQUAL_ENDS c = search (alike_ends, rules)
-
-pub returns : goal.returns
-returns c = search (alike_runs, rules)
+pub returns-else-run-ne-EQUAL_ENDS : goal.returns-else-run-ne-EQUAL_ENDS
+unfolding alike
+returns-else-run-ne-EQUAL_ENDS c = grind (arith, common_steps)

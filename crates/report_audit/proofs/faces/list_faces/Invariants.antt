@@ -5,6 +5,3 @@ use Rattle.report_audit.proofs.faces.list_faces.Given as goal
 
 abbrev pub invariant-loop-k : goal.invariant-loop-k
 invariant-loop-k l = Listing l.rows l.initial.w l.at l.k l.w
-
-abbrev pub decreases-loop-k : goal.decreases-loop-k
-decreases-loop-k l = l.m - l.k

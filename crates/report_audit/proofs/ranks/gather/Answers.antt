@@ -17,7 +17,7 @@ overflow_sub-w c = omega (arith, count_low c.requires c.loop-i.invariant c.loop-
 
 pub loop-i-preserved : goal.loop-i-preserved
 loop-i-preserved c =
-    gathering_more c.requires c.loop-i.invariant c.loop-i-test.true c.count_at-count.ensures refl refl c.at_most_one-r.ensures
+    gathering_more c.requires c.loop-i.invariant c.loop-i-test.true c.count_at-count.ensures refl refl c.min.ensures
 
 pub returns : goal.returns
 returns c = search (gathering_all, rules)

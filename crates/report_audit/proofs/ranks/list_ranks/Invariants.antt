@@ -5,6 +5,3 @@ use Rattle.report_audit.proofs.ranks.list_ranks.Given as goal
 
 abbrev pub invariant-loop-k : goal.invariant-loop-k
 invariant-loop-k l = Listing l.initial.w l.at l.m l.k l.w
-
-abbrev pub decreases-loop-k : goal.decreases-loop-k
-decreases-loop-k l = l.m - l.k

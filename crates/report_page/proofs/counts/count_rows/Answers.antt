@@ -11,7 +11,7 @@ loop-k-init c = search counting_none
 pub count_row-counts-requires : goal.count_row-counts-requires
 count_row-counts-requires c =
     counting_ready c.requires c.loop-k.invariant
-    (omega (arith, c.loop-k-test.true, c.row_count-m.ensures)) c.diagonal-span.ensures
+    (omega (arith, c.loop-k-test.true, c.row_count-m.ensures))
 
 pub overflow_add-base : goal.overflow_add-base
 overflow_add-base c =
@@ -37,7 +37,7 @@ pub loop-k-preserved : goal.loop-k-preserved
 loop-k-preserved c =
     counting_more c.requires c.loop-k.invariant
     (omega (arith, c.loop-k-test.true, c.row_count-m.ensures))
-    c.count_row-counts.ensures c.vertices.ensures c.indices.ensures
+    (rw c.new-reference.ensures at c.count_row-counts.ensures) c.vertices.ensures c.indices.ensures
 
 pub returns : goal.returns
 returns c =

@@ -4,7 +4,4 @@ use Rattle.report_page.proofs.CountLaws.{Counting}
 use Rattle.report_page.proofs.counts.count_rows.Given as goal
 
 abbrev pub invariant-loop-k : goal.invariant-loop-k
-invariant-loop-k l = Counting l.rows l.positions l.indices l.reference l.base l.i l.k l.counts
-
-abbrev pub decreases-loop-k : goal.decreases-loop-k
-decreases-loop-k l = l.m - l.k
+invariant-loop-k l = Counting l.rows l.positions l.indices l.fn.reference l.base l.i l.k l.counts

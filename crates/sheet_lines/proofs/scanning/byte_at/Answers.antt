@@ -1,13 +1,12 @@
 -- `byte_at` meets its contract. Assumes nothing.
-use Rattle.sheet_lines.proofs.PieceLaws.{byte_end, byte_other, byte_there, no_piece}
-use borrow.Author.Rules.{rules}
+use Rattle.sheet_lines.proofs.PieceLaws.{byte_end, byte_other, byte_there}
 use Rattle.sheet_lines.proofs.scanning.byte_at.Goals as goal
 
-pub returns-then-line-at : goal.returns-then-line-at
-returns-then-line-at c = search (rules, no_piece, byte_end)
+pub returns-in_err-c : goal.returns-in_err-c
+returns-in_err-c c = rw c.from_residual.ensures (byte_end _ _ _ c.in_err-c.ensures.lookup.3)
 
-pub returns-then-line-at-2 : goal.returns-then-line-at-2
-returns-then-line-at-2 c = search (rules, no_piece, byte_other)
+pub returns-then-c-p : goal.returns-then-c-p
+returns-then-c-p c = byte_other _ _ _ _ c.in_ok-c.ensures.lookup.3 c.if-c-p.true
 
 pub returns : goal.returns
-returns c = search (rules, byte_there)
+returns c = byte_there _ _ _ _ c.in_ok-c.ensures.lookup.3 c.if-c-p.false

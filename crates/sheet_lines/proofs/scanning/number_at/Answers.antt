@@ -5,22 +5,22 @@ use Rattle.sheet_lines.proofs.PieceLaws.{number_as, number_none, piece_long, pie
 use borrow.Author.Rules.{rules}
 use Rattle.sheet_lines.proofs.scanning.number_at.Goals as goal
 
-pub returns-then-p-eq35 : goal.returns-then-p-eq35
+pub returns-in-35 : goal.returns-in-35
 unfolding read_number
-returns-then-p-eq35 c = search (rules, number_as Number, piece_number)
+returns-in-35 c = search (rules, number_as Number, piece_number)
 
-pub returns-then-p-eq36 : goal.returns-then-p-eq36
+pub returns-in-36 : goal.returns-in-36
 unfolding read_number
-returns-then-p-eq36 c = search (rules, number_as (Bits 16), piece_long)
+returns-in-36 c = search (rules, number_as (Bits 16), piece_long)
 
-pub returns-then-p-eq42 : goal.returns-then-p-eq42
+pub returns-in-42 : goal.returns-in-42
 unfolding read_number
-returns-then-p-eq42 c = search (rules, number_as (Bits 8), piece_short)
+returns-in-42 c = search (rules, number_as (Bits 8), piece_short)
 
-pub returns-then-p-eq37 : goal.returns-then-p-eq37
+pub returns-in-37 : goal.returns-in-37
 unfolding read_number
-returns-then-p-eq37 c = search (rules, number_as Offset, piece_offset)
+returns-in-37 c = search (rules, number_as Offset, piece_offset)
 
-pub returns : goal.returns
+pub returns-in_default : goal.returns-in_default
 unfolding read_number
-returns c = search (rules, number_none)
+returns-in_default c = search (rules, number_none)

@@ -1,23 +1,16 @@
 -- `scan` meets its contract. Assumes nothing.
-use Prim.Native.Nat.{◌-◌}
-use Rattle.sheet_lines.proofs.ScanLaws.{scanning_all, scanning_more, scanning_none, scanning_other, scanning_place, scanning_room}
+use Rattle.sheet_lines.proofs.ScanLaws.{scanning_all, scanning_more, scanning_none, scanning_other}
 use borrow.Author.Rules.{rules}
 use Rattle.sheet_lines.proofs.scanning.scan.Goals as goal
 
-pub loop-i-init : goal.loop-i-init
-loop-i-init c = search (rules, scanning_none)
+pub loop-p-init : goal.loop-p-init
+loop-p-init c = search (rules, scanning_none)
 
-pub piece_at-t-requires : goal.piece_at-t-requires
-piece_at-t-requires c = search (rules, scanning_place)
+pub returns-in_default : goal.returns-in_default
+returns-in_default c = scanning_other _ _ _ _ _ _ _ c.loop-p.invariant c.loop-p-test.true c.in_default.ensures
 
-pub returns-then-not-t : goal.returns-then-not-t
-returns-then-not-t c = search (rules, scanning_other)
-
-pub bounds-numbers-count : goal.bounds-numbers-count
-bounds-numbers-count c = search (rules, scanning_room)
-
-pub loop-i-preserved : goal.loop-i-preserved
-loop-i-preserved c = search (rules, scanning_more)
+pub loop-p-preserved : goal.loop-p-preserved
+loop-p-preserved c = scanning_more _ _ _ _ _ _ _ c.loop-p.invariant c.loop-p-test.true _ _ c.in-Some.ensures c.numbers_of-count.ensures
 
 pub returns : goal.returns
 returns c = search (rules, scanning_all)

@@ -1,6 +1,6 @@
 -- `count_row` meets its contract. Assumes nothing.
 use Rattle.stitch_count.proofs.RowCountLaws.{counting_none, counting_stopped, counting_all, next_ready, counting_more}
-use Prim.Native.Nat.{◌-◌}
+use native.Mathlib.Omega.{arith}
 use Rattle.stitch_count.proofs.count.count_row.Goals as goal
 
 pub loop-k-init : goal.loop-k-init
@@ -17,3 +17,7 @@ loop-k-preserved c = search counting_more
 
 pub returns : goal.returns
 returns c = search counting_all
+
+pub returns-else-too_many : goal.returns-else-too_many
+returns-else-too_many c =
+    counting_all c.requires (counting_more c.requires c.loop-k.invariant c.loop-k-test.true c.count_triangle-r.ensures (omega arith)) (omega arith)

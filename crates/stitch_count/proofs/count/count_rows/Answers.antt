@@ -14,8 +14,8 @@ overflow_add-end c =
     let l = end_low p c.loop-k.invariant c.row_count-m.ensures refl c.loop-k-test.true refl refl in
     omega (arith, l, c.indices.ensures, p.all, p.few)
 
-pub count_row-r-requires : goal.count_row-r-requires
-count_row-r-requires c =
+pub count_row-t-requires : goal.count_row-t-requires
+count_row-t-requires c =
     row_ready c.requires c.loop-k.invariant c.row_count-m.ensures refl c.loop-k-test.true c.vertices-vertices.ensures (omega (arith, c.indices.ensures))
 
 pub overflow_add-base : goal.overflow_add-base
@@ -26,7 +26,7 @@ overflow_add-base c =
 
 pub loop-k-preserved : goal.loop-k-preserved
 loop-k-preserved c =
-    rows_more c.requires c.loop-k.invariant c.row_count-m.ensures refl c.loop-k-test.true c.vertices-vertices.ensures (omega (arith, c.indices.ensures)) c.count_row-r.ensures (omega arith)
+    rows_more c.requires c.loop-k.invariant c.row_count-m.ensures refl c.loop-k-test.true c.vertices-vertices.ensures (omega (arith, c.indices.ensures)) c.count_row-t.ensures (omega arith)
 
 pub returns : goal.returns
 returns c = search rows_all

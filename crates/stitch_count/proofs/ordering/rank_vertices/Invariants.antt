@@ -5,6 +5,3 @@ use Rattle.stitch_count.proofs.ordering.rank_vertices.Given as goal
 
 abbrev pub invariant-loop-j : goal.invariant-loop-j
 invariant-loop-j l = Ranking l.list l.count l.order l.initial.w l.j l.w
-
-abbrev pub decreases-loop-j : goal.decreases-loop-j
-decreases-loop-j l = l.count - l.j

@@ -7,6 +7,3 @@ use Rattle.stitch_faces.proofs.faces.start_of.Given as goal
 
 abbrev pub invariant-loop-j : goal.invariant-loop-j
 invariant-loop-j l = (l.j ≤ l.k) × Place (indices_before (rows_of l.rows) l.j) l.end l.at
-
-abbrev pub decreases-loop-j : goal.decreases-loop-j
-decreases-loop-j l = l.k - l.j

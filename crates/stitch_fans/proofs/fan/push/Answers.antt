@@ -5,16 +5,16 @@ use lib.ListN.{length-set}
 use Rattle.stitch_fans.proofs.fan.push.Goals as goal
 
 pub bounds-out-o : goal.bounds-out-o
-bounds-out-o c = omega (arith, triangle_room c.requires c.if-f.true)
+bounds-out-o c = omega (arith, triangle_room c.requires c.in-Some.is)
 
-pub bounds-out-o-then-f : goal.bounds-out-o-then-f
-bounds-out-o-then-f c = simp length-set (omega (arith, triangle_room c.requires c.if-f.true))
+pub bounds-out-o-in-Some : goal.bounds-out-o-in-Some
+bounds-out-o-in-Some c = simp length-set (omega (arith, triangle_room c.requires c.in-Some.is))
 
-pub bounds-out-o-then-f-2 : goal.bounds-out-o-then-f-2
-bounds-out-o-then-f-2 c = simp length-set (omega (arith, triangle_room c.requires c.if-f.true))
+pub bounds-out-o-in-Some-2 : goal.bounds-out-o-in-Some-2
+bounds-out-o-in-Some-2 c = simp length-set (omega (arith, triangle_room c.requires c.in-Some.is))
 
-pub returns-then-f : goal.returns-then-f
-returns-then-f c = search pushed_next
+pub returns-in-Some : goal.returns-in-Some
+returns-in-Some c = search pushed_next
 
-pub returns : goal.returns
-returns c = search pushed_first
+pub returns-in-None : goal.returns-in-None
+returns-in-None c = search pushed_first

@@ -5,6 +5,3 @@ use Rattle.stitch_fans.proofs.fan.push_edge.Given as goal
 
 abbrev pub invariant-loop-j : goal.invariant-loop-j
 invariant-loop-j l = Pushing l.a l.w l.at l.count l.e l.next l.initial.g l.initial.out l.j l.out l.g
-
-abbrev pub decreases-loop-j : goal.decreases-loop-j
-decreases-loop-j l = l.count - l.j

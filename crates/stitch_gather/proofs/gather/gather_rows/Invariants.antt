@@ -5,6 +5,3 @@ use Rattle.stitch_gather.proofs.gather.gather_rows.Given as goal
 
 abbrev pub invariant-loop-k : goal.invariant-loop-k
 invariant-loop-k l = GatheringRows l.rows l.indices l.v l.at l.flags l.initial.w l.found l.base l.i l.k l.w
-
-abbrev pub decreases-loop-k : goal.decreases-loop-k
-decreases-loop-k l = l.m - l.k

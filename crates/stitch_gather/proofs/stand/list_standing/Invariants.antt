@@ -5,6 +5,3 @@ use Rattle.stitch_gather.proofs.stand.list_standing.Given as goal
 
 abbrev pub invariant-loop-j : goal.invariant-loop-j
 invariant-loop-j l = Listing l.v l.at l.ts l.n l.initial.w l.j l.w
-
-abbrev pub decreases-loop-j : goal.decreases-loop-j
-decreases-loop-j l = l.n - l.j

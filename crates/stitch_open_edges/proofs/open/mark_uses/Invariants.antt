@@ -5,6 +5,3 @@ use Rattle.stitch_open_edges.proofs.open.mark_uses.Given as goal
 
 abbrev pub invariant-loop-i : goal.invariant-loop-i
 invariant-loop-i l = Marking l.initial.w l.at l.n l.i l.w
-
-abbrev pub decreases-loop-i : goal.decreases-loop-i
-decreases-loop-i l = l.n - l.i

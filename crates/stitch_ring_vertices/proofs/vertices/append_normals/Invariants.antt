@@ -5,6 +5,3 @@ use Rattle.stitch_ring_vertices.proofs.vertices.append_normals.Given as goal
 
 abbrev pub invariant-loop-j : goal.invariant-loop-j
 invariant-loop-j l = NormalsAdded l.normals l.a l.b l.c l.w l.at l.ts l.kept l.o l.j l.initial.out l.out
-
-abbrev pub decreases-loop-j : goal.decreases-loop-j
-decreases-loop-j l = l.kept - l.j

@@ -5,6 +5,3 @@ use Rattle.stitch_tree.proofs.boxes.bound_leaves.Given as goal
 
 abbrev pub invariant-loop-i : goal.invariant-loop-i
 invariant-loop-i l = LeavesBounding l.positions l.order l.n l.boxes l.leaves l.initial.w l.i l.w
-
-abbrev pub decreases-loop-i : goal.decreases-loop-i
-decreases-loop-i l = l.leaves - l.i

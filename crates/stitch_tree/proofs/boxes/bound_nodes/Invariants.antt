@@ -4,6 +4,3 @@ use Rattle.stitch_tree.proofs.boxes.bound_nodes.Given as goal
 
 abbrev pub invariant-loop-k : goal.invariant-loop-k
 invariant-loop-k l = NodesBounding l.boxes l.leaves l.initial.w l.k l.w
-
-abbrev pub decreases-loop-k : goal.decreases-loop-k
-decreases-loop-k l = l.k

@@ -5,6 +5,3 @@ use Rattle.stitch_tree.proofs.order.part.Given as goal
 
 abbrev pub invariant-loop-j : goal.invariant-loop-j
 invariant-loop-j l = Parting l.from l.to l.initial.w l.cut l.j l.w
-
-abbrev pub decreases-loop-j : goal.decreases-loop-j
-decreases-loop-j l = l.to - l.j

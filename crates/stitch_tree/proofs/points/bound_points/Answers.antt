@@ -10,9 +10,6 @@ loop-j-init c = search bounding_none
 pub point_at-requires : goal.point_at-requires
 point_at-requires c = search point_held
 
-pub overflow_add-j : goal.overflow_add-j
-overflow_add-j c = omega (arith, c.loop-j-test.true, c.requires.room)
-
 pub loop-j-preserved : goal.loop-j-preserved
 loop-j-preserved c = search bounding_more
 

@@ -5,6 +5,3 @@ use Rattle.stitch_tree.proofs.points.bound_points.Given as goal
 
 abbrev pub invariant-loop-j : goal.invariant-loop-j
 invariant-loop-j l = Bounding l.positions l.from l.j l.w l.b
-
-abbrev pub decreases-loop-j : goal.decreases-loop-j
-decreases-loop-j l = l.to - l.j

@@ -1,6 +1,5 @@
 -- `raised` meets its contract. Assumes nothing.
-use Rattle.stitch_triangle.proofs.NodeLaws.{raising_start, raising_more, raising_done}
-use Prim.Native.Nat.{◌-◌}
+use Rattle.stitch_triangle.proofs.NodeLaws.{raising_start, raising_more, raising_done, raising_end}
 use Rattle.stitch_triangle.proofs.search.raised.Goals as goal
 
 pub loop-h-init : goal.loop-h-init
@@ -13,4 +12,4 @@ pub loop-h-preserved : goal.loop-h-preserved
 loop-h-preserved c = search raising_more
 
 pub returns : goal.returns
-returns c = search raising_done
+returns c = search raising_end

@@ -39,15 +39,6 @@ overflow_add-base c =
     let l = base_low p c.loop-k.invariant c.row_count-m.ensures refl c.loop-k-test.true refl refl in
     omega (arith, l, c.vertices-vertices.ensures, p.body.stands.few)
 
-pub overflow_add-k : goal.overflow_add-k
-overflow_add-k c =
-    let p = c.requires in
-    omega (arith, c.loop-k-test.true, c.row_count-m.ensures, p.body.rows.few)
-
-pub loop-k-smaller : goal.loop-k-smaller
-loop-k-smaller c =
-    omega (arith, c.loop-k-test.true)
-
 pub loop-k-preserved : goal.loop-k-preserved
 loop-k-preserved c =
     writing_more c.requires c.loop-k.invariant c.row_count-m.ensures refl c.loop-k-test.true c.vertices-vertices.ensures (omega (arith, c.indices.ensures)) c.write_row-r.ensures refl refl refl refl refl refl c.put_counts.ensures

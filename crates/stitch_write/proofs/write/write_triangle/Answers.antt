@@ -3,8 +3,8 @@ use native.Mathlib.Omega.{arith}
 use Rattle.stitch_write.proofs.TriangleWriteLaws.{kept_many, positions_ready, normals_ready, fan_ready, triangle_written}
 use Rattle.stitch_write.proofs.write.write_triangle.Goals as goal
 
-pub overflow_mul-vo : goal.overflow_mul-vo
-overflow_mul-vo c =
+pub overflow_mul-before : goal.overflow_mul-before
+overflow_mul-before c =
     omega (arith, c.requires.room_positions, c.well_formed.1.1.1.1.1.1.1.1.1.0)
 
 pub append_positions-requires : goal.append_positions-requires
@@ -12,8 +12,8 @@ append_positions-requires c =
     let p = c.requires in
     positions_ready p c.find_splits-r.ensures (omega arith)
 
-pub overflow_mul-vo-2 : goal.overflow_mul-vo-2
-overflow_mul-vo-2 c =
+pub overflow_mul-before-2 : goal.overflow_mul-before-2
+overflow_mul-before-2 c =
     omega (arith, c.requires.room_normals, c.well_formed.1.1.1.1.1.1.1.1.1.1.0)
 
 pub append_normals-requires : goal.append_normals-requires

@@ -1,5 +1,4 @@
 -- `any_not_finite` meets its contract. Assumes nothing.
-use Prim.Native.Nat.{◌-◌}
 use Rattle.stl_read.proofs.CornerLaws.{looked_none, looked_more, looked_all}
 use Rattle.stl_read.proofs.corners.any_not_finite.Goals as goal
 

@@ -1,5 +1,4 @@
 -- `put_corners` meets its contract. Assumes nothing.
-use Prim.Native.Nat.{◌-◌}
 use Rattle.stl_read.proofs.CornerLaws.{putting_none, putting_more, putting_all}
 use Rattle.stl_read.proofs.corners.put_corners.Goals as goal
 

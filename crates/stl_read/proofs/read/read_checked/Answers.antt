@@ -12,8 +12,8 @@ no_room-requires c = search (rules, few_read)
 pub returns-then-no_room : goal.returns-then-no_room
 returns-then-no_room c = search (rules, short_left)
 
-pub put_mesh-vertices-requires : goal.put_mesh-vertices-requires
-put_mesh-vertices-requires c = search (rules, mesh_ready)
+pub put_mesh-requires : goal.put_mesh-requires
+put_mesh-requires c = search (rules, mesh_ready)
 
 pub returns : goal.returns
 returns c = search (rules, mesh_left_lem)

@@ -1,5 +1,4 @@
 -- `put_numbers` meets its contract. Assumes nothing.
-use Prim.Native.Nat.{◌-◌}
 use Rattle.stl_read.proofs.SliceLaws.{numbered_none, numbered_more, numbered_all}
 use Rattle.stl_read.proofs.slices.put_numbers.Goals as goal
 

@@ -1,5 +1,4 @@
 -- `put_facets` meets its contract. Assumes nothing.
-use Prim.Native.Nat.{◌-◌}
 use Rattle.stl_write.proofs.FileLaws.{all_put, none_put, one_put, still_room}
 use borrow.Author.Rules.{rules}
 use Rattle.stl_write.proofs.file.put_facets.Goals as goal

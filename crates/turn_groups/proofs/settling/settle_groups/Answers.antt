@@ -1,5 +1,4 @@
 -- `settle_groups` meets its contract: after k rows the definition's walks go on at row k. Assumes nothing.
-use Prim.Native.Nat.{◌-◌}
 use Rattle.turn_groups.proofs.RootLaws.{walking_none, walking_root, walking_more, walking_all}
 use Rattle.turn_groups.proofs.settling.settle_groups.Goals as goal
 

@@ -1,10 +1,6 @@
 -- `settle_groups` meets its contract: after k rows the definition's walks go on at row k. Assumes nothing.
-use Prim.Native.Nat.{◌-◌}
 use Rattle.turn_groups.proofs.RootLaws.{Walking}
 use Rattle.turn_groups.proofs.settling.settle_groups.Given as goal
 
 abbrev pub invariant-loop-k : goal.invariant-loop-k
-invariant-loop-k l = Walking l.rows l.positions l.indices l.n l.m l.k l.initial.w l.w l.against
-
-abbrev pub decreases-loop-k : goal.decreases-loop-k
-decreases-loop-k l = l.m - l.k
+invariant-loop-k l = Walking l.rows l.positions l.indices l.regions.uses l.regions.rows l.k l.initial.w l.w l.against

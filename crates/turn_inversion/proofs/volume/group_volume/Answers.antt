@@ -1,5 +1,4 @@
 -- `group_volume` meets its contract: after k rows of the queue their volumes are added. Assumes nothing.
-use Prim.Native.Nat.{◌-◌}
 use native.Mathlib.Omega.{arith}
 use Rattle.turn_inversion.proofs.VolumeLaws.{queue_row, queue_here, queue_long, summing_none, summing_more, summing_all}
 use Rattle.turn_inversion.proofs.volume.group_volume.Goals as goal
@@ -30,4 +29,4 @@ loop-k-preserved c =
 pub returns : goal.returns
 returns c =
     let s = c.args in
-    summing_all c.loop-k.invariant (queue_long s.n s.m s.t s.w.now c.loop-k-test.false)
+    summing_all c.loop-k.invariant (queue_long s.regions.uses s.regions.rows s.t s.w.now c.loop-k-test.false)

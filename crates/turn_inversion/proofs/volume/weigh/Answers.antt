@@ -1,5 +1,4 @@
 -- `weigh` meets its contract: after k rows of the queue their weights are added. Assumes nothing.
-use Prim.Native.Nat.{◌-◌}
 use native.Mathlib.Omega.{arith}
 use Rattle.turn_inversion.proofs.VolumeLaws.{queue_row, queue_here, queue_long, weighing_none, weighing_more, weighing_all}
 use Rattle.turn_inversion.proofs.volume.weigh.Goals as goal
@@ -30,4 +29,4 @@ loop-k-preserved c =
 pub returns : goal.returns
 returns c =
     let s = c.args in
-    weighing_all c.loop-k.invariant (queue_long s.n s.m s.t s.w.now c.loop-k-test.false)
+    weighing_all c.loop-k.invariant (queue_long s.regions.uses s.regions.rows s.t s.w.now c.loop-k-test.false)

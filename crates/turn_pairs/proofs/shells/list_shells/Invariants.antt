@@ -5,6 +5,3 @@ use Rattle.turn_pairs.proofs.shells.list_shells.Given as goal
 
 abbrev pub invariant-loop-k : goal.invariant-loop-k
 invariant-loop-k l = Listing l.rows l.initial.w l.at l.k l.w
-
-abbrev pub decreases-loop-k : goal.decreases-loop-k
-decreases-loop-k l = l.m - l.k

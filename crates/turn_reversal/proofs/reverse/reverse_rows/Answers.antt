@@ -1,8 +1,7 @@
 -- `reverse_rows` meets its contract: after row k the rows before it are as their colours say. Assumes nothing.
 use mathlib.Core.Path.{refl}
-use Prim.Native.Nat.{◌-◌}
 use native.Mathlib.Omega.{arith}
-use Rattle.turn_reversal.proofs.ReverseRows.{reversing_none, reversing_more, reversing_all, row_stretches, normals_end, indices_end}
+use Rattle.turn_reversal.proofs.ReverseRows.{reversing_none, reversing_more, reversing_all, row_whole, normals_end, indices_end}
 use Rattle.turn_reversal.proofs.reverse.reverse_rows.Goals as goal
 
 pub loop-k-init : goal.loop-k-init
@@ -18,10 +17,20 @@ overflow_add-iend c =
     let p = c.requires in
     omega (arith, indices_end p c.loop-k.invariant (omega (arith, c.loop-k-test.true, c.row_count-n.ensures)), c.indices.ensures)
 
+pub slice_bounds-reverse_row-end : goal.slice_bounds-reverse_row-end
+slice_bounds-reverse_row-end c =
+    let p = c.requires in
+    omega (arith, normals_end p c.loop-k.invariant (omega (arith, c.loop-k-test.true, c.row_count-n.ensures)), c.loop-k.invariant.long_normals, c.vertices.ensures)
+
+pub slice_bounds-reverse_row-end-in-loop-k : goal.slice_bounds-reverse_row-end-in-loop-k
+slice_bounds-reverse_row-end-in-loop-k c =
+    let p = c.requires in
+    omega (arith, indices_end p c.loop-k.invariant (omega (arith, c.loop-k-test.true, c.row_count-n.ensures)), c.loop-k.invariant.long_indices, c.indices.ensures)
+
 pub reverse_row-turned-requires : goal.reverse_row-turned-requires
 reverse_row-turned-requires c =
     let p = c.requires in
-    row_stretches p c.loop-k.invariant (omega (arith, c.loop-k-test.true, c.row_count-n.ensures)) (omega (arith, c.vertices.ensures)) (omega (arith, c.indices.ensures))
+    row_whole p c.loop-k.invariant (omega (arith, c.loop-k-test.true, c.row_count-n.ensures)) (omega (arith, c.indices.ensures))
 
 pub overflow_add-turned : goal.overflow_add-turned
 overflow_add-turned c =

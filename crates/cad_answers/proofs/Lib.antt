@@ -1,3 +1,0 @@
--- The laws that the proofs of this crate cite, by subject.
-pub mod PatchLaws
-pub mod AssembleLaws

@@ -1,5 +1,0 @@
--- `read_input` is safe and ends: the measure is the number of turns that are left. Assumes nothing.
-use Rattle.plan.proofs.read_input.Given as goal
-
-abbrev pub decreases-loop-turns : goal.decreases-loop-turns
-decreases-loop-turns g l = l.turns

@@ -1,6 +1,0 @@
--- `start_of` meets its contract. Assumes nothing.
-use Rattle.stitch_ring_vertices.proofs.VertexLaws.{start_last}
-use Rattle.stitch_ring_vertices.proofs.vertices.start_of.Goals as goal
-
-pub returns : goal.returns
-returns c = search start_last

@@ -1,0 +1,2 @@
+-- Theorems over the definitions of this crate.
+pub mod Filled
