@@ -52,7 +52,8 @@ fn put_bits(out: &mut [u8], k: usize, n: u64) -> usize
     put_byte(out, next, 10)
 }
 
-// The line that is printed for a reply, or for a line that is no step's, written at the start of out and cut off where it ends; answers how many bytes were written.
+// The line that is printed for a reply, or for a line that is no step's, written at the start of out and cut off where it ends.
+// Answers how many bytes were written.
 #[tactic(auto, unfolding(crate::specs::Lines::printed))]
 pub fn print(r: Option<Reply>, out: &mut [u8]) -> usize
     ensures { Wrote out.old 0 (printed r) out.new result }

@@ -59,7 +59,8 @@ fn in_room(room: usize, n: usize) -> Result<usize, TooLong> {
     Ok(n)
 }
 
-// Reads the input to its end; answers how long the text is. The loop counts its turns, to a number that no run uses up, since nothing says that the input ends.
+// Reads the input to its end; answers how long the text is. The loop has a number of turns that no run
+// uses up, since nothing says that the input ends.
 fn read_input<R: Read>(input: &mut R, text: &mut [u8]) -> Result<usize, TooLong> {
     let mut n: usize = 0;
     for _ in 0..u64::MAX {

@@ -1,4 +1,4 @@
-// One step of reading a plan: a line that offends, a bracket, a bin, the end of the text; and whether a line opens a group.
+// One step of reading a plan: a line that offends, a bracket, a bin, the end of the text; and the path into the group that a line opens.
 
 ghost use Rattle.std.specs.Prelude.{◌≡◌, ◌≤◌};
 ghost use Rattle.plan_lines.specs.Given.{InWords, Small};
