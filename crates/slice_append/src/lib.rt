@@ -12,7 +12,9 @@ pub fn put<T: Copy>(out: &mut [T], o: usize, items: &[T])
     ensures appended { Appended o items.now out.old out.new }
     ensures stored { out.new ≡ sets out.old o items.now }
 {
-    out[o..o + items.len()].copy_from_slice(items);
+    for k in 0..items.len() {
+        out[o + k] = items[k];
+    }
 }
 
 // The indices of `from` from `start` up to `end`, each with `base` added, are written to `out` from place o on.

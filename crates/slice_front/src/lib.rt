@@ -14,6 +14,10 @@ pub fn front<T>(s: &[T], n: usize) -> &[T]
 pub fn copy<T: Copy>(from: &[T], to: &mut [T])
     ensures { to.new ≡ take (length to.old) from.now ++ drop (length from.now) to.old }
 {
-    let n = from.len().min(to.len());
-    to[..n].copy_from_slice(&from[..n]);
+    for i in 0..from.len() {
+        if to.len() <= i {
+            return;
+        }
+        to[i] = from[i];
+    }
 }
