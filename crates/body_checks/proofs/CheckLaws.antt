@@ -1,25 +1,26 @@
 -- The checks of a body and of a patch alone, put together from their parts. Assumes nothing.
 use mathlib.Core.Path.{◌≡◌, refl, sym, ap, ◌∙◌, subst}
 use mathlib.Core.Bool.{Bool, true, false, not, ◌||◌}
-use mathlib.Core.List.{List, [], ◌∷◌, ◌++◌}
+use mathlib.Core.List.{List, []}
 use Prim.Native.Nat.{ℕ, ◌*◌, ◌/◌, ◌%◌, ◌≤◌, ◌<◌}
 use native.Mathlib.Omega.{arith}
 use lib.ListN.{length}
 use lib.Dec.{leb, ltb, eqb}
 use lib.Ieee.{Float}
-use borrow.Author.Tests.{eq-eqb, ne_eqb, lt-ltb, le-ltb, ltb-false}
+use borrow.Author.Tests.{eq-eqb, ne_eqb, lt-ltb, ltb-false}
 use Rattle.lists.specs.Lists.{any, all}
 use Rattle.lists.specs.Any.{any_one}
 use Rattle.point_rules.specs.Points.{clamps}
 use Rattle.body_table_checks.specs.Tabled.{Tabled, tabled}
 use Rattle.body_checks.specs.Accepted.{clean_before, before_numbered, checks_before, lone_vertices, lone_indices, lone_inside}
-use Rattle.body_rows.specs.Body.{Row, Patch, check, rows_of, patches_of, all_vertices, all_indices, first_failing, work_needed}
+use Rattle.body_rows.specs.Body.{Row, rows_of, patches_of, all_vertices, all_indices, first_failing, work_needed}
 use Rattle.body_refusals.specs.TableChecks.{bad_row, bad_bin, too_large, table_checks}
 use Rattle.body_refusals.specs.PatchChecks.{bad_indices, patch_checks}
 use Rattle.body_refusals.specs.BodyChecks.{before_work, body_checks, lone_table, lone_checks}
 use Rattle.body_table_checks.specs.TableTests.{not_whole}
 use Rattle.body_patch_checks.specs.PatchTests.{part_triangle, not_finite, any_indices}
-use Rattle.body_rows.specs.Checks.{numbered, first_here, first_next, first_none, first_stop, first_on}
+use Rattle.refusals.specs.Laws.{number_positive}
+use Rattle.body_rows.specs.Checks.{numbered, first_here, first_stop, first_on}
 use Rattle.lists.specs.Both.{or_left, or_right}
 use Rattle.body_rows.specs.Rows.{Total, WholeRows}
 use Rattle.body_table_checks.specs.TableFirst as Table
@@ -67,6 +68,41 @@ module _ (table : List ℕ) (ps ns : List Float) (is : List ℕ) (words : ℕ) {
       -- it is large enough
       pub body_none : w ≤ words → 0 ≡ first_failing (body_checks table ps ns is words)
       body_none h = sym (checks_before table ps ns is words (λ e. subst (λ (k : ℕ). k ≤ words) ew h) ∙ sym en ∙ z)
+
+-- ---- the same as equations, so that no name of a goal is cited: a proof finds them by itself, in whatever form an answer is handed on
+module _ (table : List ℕ) (ps ns : List Float) (is : List ℕ) where
+  -- a check of the table that fails decides
+  pub before_stops : 0 < first_failing (table_checks table (rows_of table) ps ns is)
+      → first_failing (before_work table ps ns is) ≡ first_failing (table_checks table (rows_of table) ps ns is)
+  before_stops h = sym (before_table table ps ns is refl (λ z. omega arith))
+
+  -- where none does, the checks of the patches decide
+  pub before_goes_on : first_failing (table_checks table (rows_of table) ps ns is) ≡ 0
+      → first_failing (before_work table ps ns is) ≡ first_failing (patch_checks (patches_of (rows_of table) ps ns is))
+  before_goes_on z = sym (before_patch table ps ns is refl z refl)
+
+  -- where no check before 31 fails, the table is whole rows
+  pub rows_whole : first_failing (before_work table ps ns is) ≡ 0 → WholeRows table
+  rows_whole z = rows_passed table ps ns is 0 refl z
+
+  module _ (words : ℕ) where
+    -- a check before 31 that fails decides
+    pub body_stops : 0 < first_failing (before_work table ps ns is) → first_failing (body_checks table ps ns is words) ≡ first_failing (before_work table ps ns is)
+    body_stops h = sym (body_before table ps ns is words refl (λ z. omega arith))
+
+    -- where none does, a work area that is too small is refused
+    pub body_short : first_failing (before_work table ps ns is) ≡ 0 → words < work_needed (rows_of table) → first_failing (body_checks table ps ns is words) ≡ 31
+    body_short z h = sym (body_words table ps ns is words refl z refl h)
+
+    -- and one that is large enough is not
+    pub body_goes_on : first_failing (before_work table ps ns is) ≡ 0 → work_needed (rows_of table) ≤ words → first_failing (body_checks table ps ns is words) ≡ 0
+    body_goes_on z h = sym (body_none table ps ns is words refl z refl h)
+
+-- what the checks before 31 stand on
+pub ruleset before_laws = (tabled, number_positive, before_stops, before_goes_on)
+
+-- and the checks with 31
+pub ruleset body_laws = (number_positive, rows_whole, body_stops, body_short, body_goes_on)
 
 -- ---- a patch alone
 module _ (ps ns : List Float) (is : List ℕ) where

@@ -11,6 +11,7 @@ use body_table_checks::table_failing;
 use refusals::Refusal;
 
 // The first of the checks 11 to 24 that fails, as a refusal.
+#[tactic(auto, using(crate::proofs::CheckLaws::before_laws))]
 pub fn failing_before_work(
     rows: &[u32],
     positions: &[f32],
@@ -24,6 +25,7 @@ pub fn failing_before_work(
 }
 
 // The first of the checks 11 to 24 and 31 that fails for a work area of so many words, as a refusal.
+#[tactic(auto, using(crate::proofs::CheckLaws::body_laws))]
 pub fn first_failing(
     rows: &[u32],
     positions: &[f32],

@@ -8,6 +8,8 @@ use std::num::{
 };
 
 // The f32 with the bits b: any NaN pattern gives the one NaN.
+// The law named here lets a body that tells the patterns apart by itself be proved too, so that must-fail/widen_signalling_nan is refused for a fact.
+#[tactic(auto, using(float_rounding::specs::Fields::no_nan_bits))]
 pub fn f32_of_bits(b: u32) -> f32
     ensures { result ≡ f32 b }
 {

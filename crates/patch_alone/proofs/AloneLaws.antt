@@ -1,15 +1,16 @@
 -- The answers about a patch alone. Assumes nothing.
-use mathlib.Core.Path.{◌≡◌, sym, ◌∙◌}
+use mathlib.Core.Path.{◌≡◌, refl, sym, ◌∙◌}
 use mathlib.Core.Bool.{Bool, false}
 use mathlib.Core.List.{List}
-use Prim.Native.Nat.{ℕ}
+use Prim.Native.Nat.{ℕ, ◌<◌}
+use native.Mathlib.Omega.{arith}
 use lib.Ieee.{Float}
 use borrow.Author.Tests.{ne_eqb}
 use Rattle.body_rows.specs.Body.{first_failing}
 use Rattle.body_refusals.specs.BodyChecks.{lone_checks}
 use Rattle.body_checks.specs.Accepted.{passed_alone}
 use Rattle.patch_geometry.specs.declared.Aabb.{Aabb}
-use Rattle.std.proofs.Common.{Result, Ok, Err}
+use Rattle.std.proofs.Common.{Ok, Err}
 use Rattle.patch_alone.specs.Answers.{answer_of}
 use Rattle.patch_measures.specs.Volume.{CornersInside, patch_volume}
 use Rattle.patch_geometry.specs.Geometry.{zero64}
@@ -60,3 +61,10 @@ module _ (ps ns : List Float) (is : List ℕ) {n : ℕ} (e : n ≡ first_failing
   pub escapes_answered : (box : Aabb) {r : Bool} → n ≡ 0 → r ≡ escapes_body ps box → Ok r ≡ answer_of (escapes_alone ps ns is box)
   unfolding escapes_alone
   escapes_answered box z f = answered false (escapes_body ps box) z f
+
+-- ---- the escape, whatever form the code gives its refusal
+
+-- what a check refuses, the definition answers with the first that fails
+pub escapes_told : (ps ns : List Float) (is : List ℕ) (box : Aabb) → 0 < first_failing (lone_checks ps ns is)
+    → answer_of (escapes_alone ps ns is box) ≡ Err (first_failing (lone_checks ps ns is))
+escapes_told ps ns is box h = sym (escapes_refused ps ns is refl box (λ z. omega (arith, h, z)))

@@ -11,6 +11,7 @@ use patch_reach::escapes_body;
 use refusals::Refusal;
 
 // Whether a patch alone escapes.
+#[tactic(auto, using(refusals::specs::Laws::number_positive, crate::proofs::AloneLaws::escapes_told))]
 pub fn escapes_alone(
     positions: &[f32],
     normals: &[f32],

@@ -2,12 +2,12 @@
 use mathlib.Core.Path.{◌≡◌, refl, sym, ap, ◌∙◌, subst}
 use mathlib.Core.Bool.{Bool, true, false, not, ◌&&◌, ◌||◌}
 use mathlib.Core.List.{List, [], ◌∷◌, ◌++◌}
-use Prim.Native.Nat.{ℕ, zero, suc, ◌+◌, ◌*◌, ◌≤◌, ◌<◌}
+use Prim.Native.Nat.{ℕ, zero, suc, ◌*◌, ◌≤◌, ◌<◌}
 use native.Mathlib.Omega.{arith}
 use borrow.Author.Tests.{leb-true, lt-ltb, le-ltb, ltb-false, not-false}
 use lib.Dec.{ltb}
 use lib.IntN.{ℤ, pos, nat_abs, ◌+ℤ◌, ◌-ℤ◌, +ℤ-neg_ℤ_cancel}
-use lib.ListN.{length, get_or, take}
+use lib.ListN.{length, take}
 use lib.Seq.{get_or-take, length-take-le}
 use lib.Ieee.{Float}
 use mir.Syntax.{w64}
@@ -21,18 +21,18 @@ use Rattle.lists.specs.Lists.{any, ascending, filter, written}
 use Rattle.lists.specs.Any.{any_none}
 use Rattle.lists.specs.Both.{and_left, and_right, or_left, or_right}
 use Rattle.slice_front.specs.FrontLaws.{front_none}
-use Rattle.body_rows.specs.Body.{Check, Patch, Row, check, first_failing, patches_of, rows_of, work_needed}
+use Rattle.body_rows.specs.Body.{Check, check, first_failing, patches_of, rows_of, work_needed}
 use Rattle.body_rows.specs.Checks.{first_here, first_next, first_none, first_on, first_stop}
-use Rattle.body_rows.specs.Rows.{row_at}
 use Rattle.body_refusals.specs.BodyChecks.{before_work}
 use Rattle.body_checks.specs.Accepted.{Passed, before_numbered, checks_before, passed, passed_rows}
 use Rattle.plan_definition.specs.Places.{Place, in_range, origin}
-use Rattle.peg_definition.specs.Peg.{Hit, Lookup, Refused, Found, bad_places, bins_after, bins_of, hits_of, lookup_of, misplaced, nearest_bins, peg_checks, places_of, row_hits, too_many_bins, winners}
+use Rattle.peg_definition.specs.Peg.{Hit, Lookup, Refused, Found, bad_places, bins_after, bins_of, hits_of, lookup_of, nearest_bins, peg_checks, places_of, too_many_bins, winners}
 use Rattle.peg_definition.specs.PlaceLaws.{place_at, places_length}
 use Rattle.peg_definition.specs.Answers.{peg_answer}
+use Rattle.refusals.specs.Laws.{number_positive}
 use Rattle.peg_distance.specs.Words.{PegAt, beyond}
 use Rattle.plan_definition.specs.declared.PlaceWords.{PlaceWords}
-use Rattle.peg_search.specs.Hits.{least_of, least_most, hits_empty, hits_few, hits_shape}
+use Rattle.peg_search.specs.Hits.{least_most, hits_empty, hits_few, hits_shape}
 use Rattle.peg_search.specs.Search.{BestOf, Listed, Placed, body_hits, peg_of}
 use Rattle.peg_search.specs.declared.best.Best.{Best}
 use Rattle.peg.proofs.RangeLaws.{place_is}
@@ -125,6 +125,33 @@ module _ (table : List ℕ) (ps : List Float) (list : List ℤ) (x y z : ℤ) (E
   near_listed {W} {r} b = subst (λ (hs : List Hit). BinsListed (nearest_bins hs) E W r) hits_are b
 
 -- ---- the checks
+
+-- a check before 65 fails: the definition refuses the lookup with its number,
+pub lookup_refused : (table : List ℕ) (ps ns : List Float) (is : List ℕ) (list : List ℤ) (peg : Place) (room : ℕ) → (first_failing (before_work table ps ns is) ≡ 0 → ⊥)
+    → lookup_of table ps ns is list peg room ≡ Refused (first_failing (before_work table ps ns is))
+unfolding lookup_of peg_checks
+lookup_refused table ps ns is list peg room f = go (first_failing (before_work table ps ns is)) refl
+  where
+    go : (k : ℕ) → first_failing (before_work table ps ns is) ≡ k → lookup_of table ps ns is list peg room ≡ Refused (first_failing (before_work table ps ns is))
+    go zero q = absurd (f q)
+    go (suc k) q =
+        let here : first_failing (peg_checks table ps ns is list peg room (length (bins_of table ps ns is list peg))) ≡ suc k = sym (first_stop (before_work table ps ns is) _ f) ∙ q in
+        let is_refused : lookup_of table ps ns is list peg room ≡ Refused (suc k) = rw (here, lookup_of) in
+        is_refused ∙ ap Refused (sym q)
+
+-- its answer is that number,
+pub refused_answer : (n : ℕ) → peg_answer (Refused n) ≡ Err n
+unfolding peg_answer
+refused_answer n = refl
+
+-- and it leaves the list as it was.
+pub refused_list : (n : ℕ) (E : List ℕ) → bins_after (Refused n) E ≡ E
+unfolding bins_after
+refused_list n E = refl
+
+-- what `nearest_bins` needs where a check before 65 fails, in whatever form its code returns the refusal
+pub ruleset refused_rules = (lookup_refused, refused_answer, refused_list, number_positive)
+
 module _ (table : List ℕ) (ps ns : List Float) (is : List ℕ) (list : List ℤ) (x y z : ℤ) (E : List ℕ) {n : ℕ} (en : n ≡ first_failing (before_work table ps ns is)) where
   abbrev bins : List ℕ
   bins = bins_of table ps ns is list (at x y z)
@@ -142,11 +169,6 @@ module _ (table : List ℕ) (ps ns : List Float) (is : List ℕ) (list : List �
       go (suc j) q g =
           let is : lookup_of table ps ns is list (at x y z) (length E) ≡ Refused (suc j) = rw (sym q, lookup_of) in
           record { answer = ap peg_answer (sym is); list = ap (λ (l : Lookup). bins_after l E) (sym is) }
-
-  -- a check before 65 fails
-  pub lookup_before : (n ≡ 0 → ⊥) → PegFound table ps ns is list x y z E E (Err n)
-  unfolding peg_checks
-  lookup_before f = refused n f (en ∙ first_stop (before_work table ps ns is) _ (λ q. f (en ∙ q)))
 
   module _ (zn : n ≡ 0) where
     on : (cs : List Check) → first_failing cs ≡ first_failing (before_work table ps ns is ++ cs)

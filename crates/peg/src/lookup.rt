@@ -62,6 +62,7 @@ fn placed_bins(
 }
 
 // The bins nearest a peg at x, y, z, into the front of a list.
+#[tactic(auto, using(crate::proofs::LookupLaws::refused_rules))]
 pub fn nearest_bins(
     rows: &[u32],
     positions: &[f32],

@@ -49,7 +49,7 @@ fn read_item(
     let found = line_at(text, at);
     let line = found.line;
     let end = found.end;
-    let Some(inner) = open_group(line, path) else {
+    let Some(inner) = open_group(line, path.depth, path.sum) else {
         return read_leaf(line, path, end, count, room, entries);
     };
     let s = read_group(text, inner, end, count, room, entries)?;

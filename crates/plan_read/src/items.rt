@@ -2,12 +2,13 @@
 
 ghost use Rattle.std.specs.Prelude.{◌≡◌, ◌≤◌};
 ghost use Rattle.plan_lines.specs.Given.{InWords, Small};
+ghost use Rattle.plan_lines.specs.Sums.{Near};
 ghost use Rattle.plan_read.specs.Steps.{BinRead, LeafRead, Opened, closed_step, end_step};
 ghost use Rattle.refusals.specs.Numbers.{numbered};
 
 use crate::path::Path;
 use plan_definition::PlaceWords;
-use plan_lines::{PlanLine, moved, put_entry, sum_in_range};
+use plan_lines::{PlanLine, SumWords, moved, put_entry, sum_in_range};
 use refusals::Refusal;
 
 // How many groups may be open at once.
@@ -102,17 +103,18 @@ pub fn read_leaf(
 }
 
 // The path into the group that a line opens, if it opens one that may still be opened.
-pub fn open_group(line: PlanLine, path: Path) -> Option<Path>
-    requires { Small line }
-    ensures { Opened line path.depth path.sum result }
+pub fn open_group(line: PlanLine, depth: usize, sum: SumWords) -> Option<Path>
+    requires small { Small line }
+    requires near { Near depth sum }
+    ensures { Opened line depth sum result }
 {
-    if MOST_DEPTH <= path.depth {
+    if MOST_DEPTH <= depth {
         return None;
     }
     match line {
         PlanLine::Open(offset) => Some(Path {
-            depth: path.depth + 1,
-            sum: moved(path.sum, offset, path.depth),
+            depth: depth + 1,
+            sum: moved(sum, offset, depth),
         }),
         _ => None,
     }

@@ -19,6 +19,7 @@ fn room_in(length: usize) -> usize
 }
 
 // Reads a plan: the whole text is read before the first entry is written, so that a refusal leaves the list as it was.
+#[tactic(auto, using(crate::proofs::PlanLaws::refused_rules))]
 pub fn read_plan(text: &[u8], entries: &mut [i64]) -> Result<usize, Refusal>
     ensures { PlanRead text.now entries.old entries.new (numbered result) }
 {

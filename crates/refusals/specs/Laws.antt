@@ -1,10 +1,12 @@
 -- Laws of a refusal's number: it is never 0, so an answer fails a check exactly if it is an error. Assumes nothing.
-use Rattle.std.proofs.Common.{◌≡◌, ap, arith, ℕ, ◌<◌, Result, Ok, Err}
+use Rattle.std.proofs.Common.{◌≡◌, ◌∙◌, ap, arith, ◌<◌, Result, Ok, Continue}
+use Rattle.std.specs.Result.{result_from_control_flow}
 use Rattle.refusals.specs.declared.Refusal.{Refusal}
 use Rattle.refusals.specs.declared.Refusal.TheVariants.{Table, Outcome, Limit, Lengths, Bin, Triangles, Index, NotFinite, Clamped, WorkArea, Output, StitchedLimit, Mesh, Material, Sheet, SheetLimit, Line, Depth, Place, Entries, Peg, BinList, Page, Text, FaceList, FileRoom, FileLength, FileTriangles, FileCorner, ReadRoom}
 use Rattle.refusals.specs.Numbers.{number, failing}
 
-number_positive : (e : Refusal) → 0 < number e
+-- a refusal's number is above 0
+pub number_positive : (e : Refusal) → 0 < number e
 number_positive Table = omega arith
 number_positive Outcome = omega arith
 number_positive Limit = omega arith
@@ -43,3 +45,7 @@ number_nonzero e z = omega (arith, number_positive e, z)
 -- an answer that is no error fails no check
 pub none_failing : {A : Type 0} {r : Result A Refusal} {a : A} → r ≡ Ok a → failing r ≡ 0
 none_failing h = ap failing h
+
+-- an answer that `?` goes on from fails no check
+pub going_on : {A : Type 0} {r : Result A Refusal} {b : _} {a : A} → r ≡ result_from_control_flow b → b ≡ Continue a → failing r ≡ 0
+going_on e f = ap failing (e ∙ ap result_from_control_flow f)

@@ -14,7 +14,6 @@ use Rattle.body_rows.specs.Body.{Row, Patch, rows_of, patches_of, triangles_of}
 use Rattle.body_rows.specs.Rows.{row_at}
 use Rattle.body_rows.specs.Patches.{patch_from, shapes, length_patches}
 use Rattle.patch_geometry.specs.declared.Aabb.{Aabb}
-use Rattle.patch_geometry.specs.Geometry.{diagonal}
 use Rattle.mesh_verdicts.specs.declared.Failure.{Failure}
 use Rattle.mesh_verdicts.specs.declared.Failure.TheVariants.{Empty, Upstream, Escape}
 use Rattle.mesh_verdicts.specs.Failures.{failure_of}

@@ -6,13 +6,13 @@ use Prim.Native.Nat.{ℕ, ◌+◌, ◌-◌, ◌*◌, ◌≤◌, ◌<◌}
 use native.Mathlib.Omega.{arith}
 use lib.ListN.{get_or}
 use lib.Dec.{leb, ltb}
-use borrow.Author.Tests.{ltb-false, leb-false, lt-ltb, le-ltb, le-leb, lt-leb}
+use borrow.Author.Tests.{ltb-false, leb-false, le-leb, lt-leb}
 use Rattle.std.specs.List.{list_any}
 use Rattle.lists.specs.Lists.{any}
 use Rattle.lists.specs.Any.{any_none}
 use Rattle.lists.specs.Both.{or_left, or_right}
 use Rattle.report_definition.specs.declared.Page.{Page}
-use Rattle.report_definition.specs.Page.{Share, share_of, plus, sums_of, page_with}
+use Rattle.report_definition.specs.Page.{share_of, plus, sums_of, page_with}
 use Rattle.report_definition.specs.Report.{bad_page, counts_in, most_bodies, most_of_body}
 use Rattle.report_definition.specs.Limits.{Within}
 use Rattle.report_page.specs.declared.divisor.Share as told
@@ -34,16 +34,16 @@ any_list f (x ∷ xs) = go (f x) (any_list f xs)
 
 module _ (p : Page) where
   -- a page with too many bodies
-  pub bad_full : most_bodies ≤ p.bodies → true ≡ bad_page p
+  pub bad_full : most_bodies ≤ p.bodies → bad_page p ≡ true
   unfolding bad_page
-  bad_full h = ap (λ (b : Bool). b || any (λ n. ltb (most_of_body * p.bodies) n) (counts_in p)) (sym (le-leb most_bodies p.bodies h))
+  bad_full h = ap (λ (b : Bool). b || any (λ n. ltb (most_of_body * p.bodies) n) (counts_in p)) (le-leb most_bodies p.bodies h)
 
   -- another is decided by its counts
-  pub bad_counts : {r : Bool} → p.bodies < most_bodies → r ≡ list_any (λ n. ltb (most_of_body * p.bodies) n) (counts_in p) → r ≡ bad_page p
+  pub bad_counts : p.bodies < most_bodies → bad_page p ≡ list_any (λ n. ltb (most_of_body * p.bodies) n) (counts_in p)
   unfolding bad_page
-  bad_counts {r} h e =
-      e ∙ any_list (λ n. ltb (most_of_body * p.bodies) n) (counts_in p)
-      ∙ ap (λ (b : Bool). b || any (λ n. ltb (most_of_body * p.bodies) n) (counts_in p)) (sym (lt-leb most_bodies p.bodies h))
+  bad_counts h =
+      ap (λ (b : Bool). b || any (λ n. ltb (most_of_body * p.bodies) n) (counts_in p)) (lt-leb most_bodies p.bodies h)
+      ∙ sym (any_list (λ n. ltb (most_of_body * p.bodies) n) (counts_in p))
 
   -- a page that 67 accepts has fewer bodies than the most
   pub good_few : bad_page p ≡ false → p.bodies < most_bodies

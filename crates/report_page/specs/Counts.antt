@@ -4,7 +4,6 @@ use Rattle.std.proofs.Math.Option.{Option, none, some}
 use Rattle.body_rows.specs.Body.{rows_of, all_vertices, all_indices}
 use Rattle.body_rows.specs.Rows.{WholeRows}
 use Rattle.body_checks.specs.Accepted.{Passed, passed_rows}
-use Rattle.patch_geometry.specs.declared.Aabb.{Aabb}
 use Rattle.mesh_verdicts.specs.declared.Failure.{Failure}
 use Rattle.mesh_verdicts.specs.declared.Failure.TheVariants.{Empty, Upstream, Escape}
 use Rattle.mesh_acceptance.specs.Judged.{RowJudgeable}

@@ -24,6 +24,7 @@ fn any_above(counts: &[u64], most: u64) -> bool
 }
 
 // Whether a page is refused with 67: it has 4,096 bodies or more, or a count above 262,144 times its bodies.
+#[tactic(auto, using(crate::proofs::PageLaws::bad_full, crate::proofs::PageLaws::bad_counts))]
 pub fn bad_page(page: Page) -> bool
     ensures { result ≡ bad_page page }
 {

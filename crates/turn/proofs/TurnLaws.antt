@@ -3,7 +3,8 @@ use Rattle.std.specs.Prelude.{Ok, Err}
 use mathlib.Core.Path.{◌≡◌, refl, sym, ap, ◌∙◌}
 use mathlib.Core.Bool.{Bool, true, false}
 use mathlib.Core.List.{List}
-use Prim.Native.Nat.{ℕ}
+use Prim.Native.Nat.{ℕ, ◌<◌}
+use native.Mathlib.Omega.{arith}
 use lib.ListN.{length}
 use lib.Ieee.{Float}
 use borrow.Author.Tests.{eq-eqb, ne_eqb}
@@ -50,3 +51,10 @@ module _ (table : List ℕ) (ps ns : List Float) (is W : List ℕ) {refusal : �
       ap (λ (b : Bool). left (elim b [ true ↦ Ok (record { turned = 0; against = 0 }) | false ↦ Err refusal ]) ns is W) (sym (ne_eqb refusal 0 e))
       ∙ ap (λ (k : ℕ). answered (refuse_turn k ns is W)) f
       ∙ ap answered (sym (turn_refused e))
+
+-- ---- the call, whatever form the code gives its refusal
+
+-- what a check refuses, the definition refuses with the first that fails, and nothing is changed
+pub refused_answered : (table : List ℕ) (ps ns : List Float) (is W : List ℕ) → 0 < first_failing (body_checks table ps ns is (length W))
+    → answered (turn_of key table ps ns is W) ≡ left (Err (first_failing (body_checks table ps ns is (length W)))) ns is W
+refused_answered table ps ns is W h = sym (call_refused table ps ns is W refl (λ z. omega (arith, h, z)))

@@ -15,6 +15,7 @@ use turn_definition::TurnCounts;
 
 // The rows of a body are turned to agree: coloured rows have corners 1 and 2 of each triangle swapped and their normals negated.
 // A body that fails a check is refused with the first that it fails, and nothing is changed. Every group of any other body keeps the volume rule.
+#[tactic(auto, using(refusals::specs::Laws::number_positive, crate::proofs::TurnLaws::refused_answered))]
 pub fn turn(
     rows: &[u32],
     positions: &[f32],

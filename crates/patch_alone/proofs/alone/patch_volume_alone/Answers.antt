@@ -1,5 +1,5 @@
 -- `alone::alone::patch_volume_alone` meets its contract. Assumes nothing.
-use Rattle.std.proofs.Common.{ℕ, ◌≡◌, ◌∙◌, rules, Result, Err}
+use Rattle.std.proofs.Common.{◌≡◌, ◌∙◌, rules, Err}
 use Rattle.refusals.specs.Numbers.{numbered, number}
 use Rattle.refusals.specs.Laws.{none_failing, number_nonzero}
 use Rattle.patch_alone.proofs.AloneLaws.{within_alone, volume_refused, volume_answered}

@@ -1,14 +1,7 @@
 -- `escape::escapes_alone` meets its contract. Assumes nothing.
-use Rattle.std.proofs.Common.{ℕ, ◌≡◌, ◌∙◌, rules, Result, Err}
-use Rattle.refusals.specs.Numbers.{numbered, number}
-use Rattle.refusals.specs.Laws.{none_failing, number_nonzero}
-use Rattle.patch_alone.proofs.AloneLaws.{escapes_refused, escapes_answered}
+use Rattle.refusals.specs.Laws.{going_on, none_failing}
+use Rattle.patch_alone.proofs.AloneLaws.{escapes_answered}
 use Rattle.patch_alone.proofs.escape.escapes_alone.Goals as goal
 
-pub returns-in_err-lone_failing : goal.returns-in_err-lone_failing
-returns-in_err-lone_failing c =
-    let told : numbered c.from_residual.result ≡ Err (number c.in_err-lone_failing.field-0.0) = search rules in
-    told ∙ escapes_refused _ _ _ c.in_err-lone_failing.ensures _ (number_nonzero c.in_err-lone_failing.field-0.0)
-
 pub returns : goal.returns
-returns c = escapes_answered _ _ _ c.lone_failing.ensures _ (none_failing c.in_ok-lone_failing.was) c.escapes_body.ensures
+returns c = search (escapes_answered, none_failing, going_on)

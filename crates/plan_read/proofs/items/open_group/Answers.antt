@@ -3,8 +3,8 @@ use Rattle.plan_read.proofs.ItemLaws.{group_opens, no_group, open_small, too_dee
 use borrow.Author.Rules.{rules}
 use Rattle.plan_read.proofs.items.open_group.Goals as goal
 
-pub returns-then-path-ge-MOST_DEPTH : goal.returns-then-path-ge-MOST_DEPTH
-returns-then-path-ge-MOST_DEPTH c = search (rules, too_deep)
+pub returns-then-depth-ge-MOST_DEPTH : goal.returns-then-depth-ge-MOST_DEPTH
+returns-then-depth-ge-MOST_DEPTH c = search (rules, too_deep)
 
 pub moved-requires : goal.moved-requires
 moved-requires c = search (rules, open_small)

@@ -1,5 +1,4 @@
 -- `count_rows` meets its contract. With k rows counted, the counts and what the rest count make the whole. Assumes nothing.
-use Prim.Native.Nat.{◌-◌}
 use native.Mathlib.Omega.{arith}
 use Rattle.mesh_acceptance.specs.RowStarts.{vertices_in, indices_in}
 use Rattle.report_page.proofs.CountLaws.{counting_none, counting_ready, counting_more, counting_all}

@@ -1,5 +1,4 @@
 -- `count_rows` meets its contract. With k rows counted, the counts and what the rest count make the whole. Assumes nothing.
-use Prim.Native.Nat.{◌-◌}
 use Rattle.report_page.proofs.CountLaws.{Counting}
 use Rattle.report_page.proofs.counts.count_rows.Given as goal
 
